@@ -1,0 +1,9 @@
+use Rattle.loc_laws_rays.proofs.Along.{parity_along}
+use Rattle.loc_laws_rays.proofs.Covering.{cover_law}
+use Rattle.loc_laws_rays.proofs.cover_law.Goals as goal
+
+pub returns-clause-parity : goal.returns-clause-parity
+returns-clause-parity c = parity_along
+
+pub returns-clause-covers : goal.returns-clause-covers
+returns-clause-covers c = cover_law

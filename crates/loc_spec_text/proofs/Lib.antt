@@ -1,0 +1,10 @@
+pub mod Examples
+pub mod ReadingExamples
+pub mod RingTextExamples
+pub mod PointExamples
+pub mod ReaderLaws
+pub mod LineLaws
+pub mod NumberLaws
+pub mod PieceLaws
+pub mod CutLaws
+pub mod FaultLaws

@@ -1,0 +1,137 @@
+-- Where the pieces of a text are cut: what a reader of tokens knows of the pieces behind its place.
+use Rattle.std.proofs.Common.{◌≡◌, ℕ, List, [], ◌∷◌, ◌++◌, Bool, true, false, ◌||◌, ◌&&◌, not, map, refl, sym, ◌∙◌, ap, ap₂, one-add, take_while}
+use Rattle.std.specs.Prelude.{if◌then◌else◌}
+use Rattle.std.specs.List.{onto_first, list_all}
+use Rattle.loc_spec_text.specs.Bytes.{is_white, is_blank, drop_while}
+use Rattle.loc_spec_text.specs.Geometry.{runs, pieces, piece_of, is_mark, is_break, ends_piece, open_mark, close_mark, comma}
+
+-- neither of the two holds
+abbrev pub not_either : Bool → Bool → Bool
+not_either w m = not (w || m)
+
+-- a part of a piece: bytes that are no white space and no mark
+abbrev pub is_plain : ℕ → Bool
+is_plain b = not (is_break b)
+
+-- a part of a piece: no break in it
+abbrev pub is_run : List ℕ → Bool
+is_run text = list_all is_plain text
+
+and-first : (a b : Bool) → (a && b) ≡ true → a ≡ true
+and-first true b h = refl
+and-first false b h = absurd (cc)
+
+and-second : (a b : Bool) → (a && b) ≡ true → b ≡ true
+and-second true b h = h
+and-second false b h = absurd (cc)
+
+runs-white_step : (b : ℕ) (text : List ℕ) → is_white b ≡ true → runs (b ∷ text) ≡ runs text
+runs-white_step b text h = rw h refl
+
+-- white space in front is skipped
+pub runs-white : (white text : List ℕ) → is_blank white ≡ true → runs (white ++ text) ≡ runs text
+runs-white [] text h = refl
+runs-white (b ∷ white) text h = runs-white_step b (white ++ text) (and-first (is_white b) (is_blank white) h) ∙ runs-white white text (and-second (is_white b) (is_blank white) h)
+
+-- white space in front makes no piece
+pub pieces-white : (white text : List ℕ) → is_blank white ≡ true → pieces (white ++ text) ≡ pieces text
+pieces-white white text h = ap (map piece_of) (runs-white white text h)
+
+-- the marks
+pub pieces-open : (text : List ℕ) → pieces (40 ∷ text) ≡ open_mark ∷ pieces text
+pieces-open text = refl
+
+-- a closing mark is a piece
+pub pieces-close : (text : List ℕ) → pieces (41 ∷ text) ≡ close_mark ∷ pieces text
+pieces-close text = refl
+
+-- a comma is a piece
+pub pieces-comma : (text : List ℕ) → pieces (44 ∷ text) ≡ comma ∷ pieces text
+pieces-comma text = refl
+
+plain-parts : (w m : Bool) → not_either w m ≡ true → (w ≡ false) × (m ≡ false)
+plain-parts true m h = absurd (cc)
+plain-parts false true h = absurd (cc)
+plain-parts false false h = (refl, refl)
+
+-- a run of other bytes in front, up to white space, a mark or the end, is one piece
+runs-last : (b : ℕ) (rest : List ℕ) → is_plain b ≡ true → ends_piece rest ≡ true → runs (b ∷ rest) ≡ (b ∷ []) ∷ runs rest
+runs-last b rest h e = let p = plain-parts (is_white b) (is_mark b) h in rw (p.0, p.1, e) refl
+
+ends-plain : (c : ℕ) (text : List ℕ) → is_plain c ≡ true → ends_piece (c ∷ text) ≡ false
+ends-plain c text h = let p = plain-parts (is_white c) (is_mark c) h in rw (p.0, p.1) refl
+
+runs-more : (b c : ℕ) (text : List ℕ) → is_plain b ≡ true → is_plain c ≡ true → runs (b ∷ c ∷ text) ≡ onto_first b (runs (c ∷ text))
+runs-more b c text h k = let p = plain-parts (is_white b) (is_mark b) h in
+    step (is_white b) (is_mark b) (ends_piece (c ∷ text)) p.0 p.1 (ends-plain c text k) (runs (c ∷ text))
+  where
+    step : (w m e : Bool) → w ≡ false → m ≡ false → e ≡ false → (more : List (List ℕ))
+        → (if w then more else if m || e then (b ∷ []) ∷ more else onto_first b more) ≡ onto_first b more
+    step true m e hw hm he more = absurd (cc)
+    step false true e hw hm he more = absurd (cc)
+    step false false true hw hm he more = absurd (cc)
+    step false false false hw hm he more = refl
+
+-- bytes without a break, up to a break or the end, are one run
+pub runs-run : (b : ℕ) (run rest : List ℕ) → is_run (b ∷ run) ≡ true → ends_piece rest ≡ true → runs ((b ∷ run) ++ rest) ≡ (b ∷ run) ∷ runs rest
+runs-run b [] rest h e = runs-last b rest (and-first (is_plain b) true h) e
+runs-run b (c ∷ run) rest h e = let tail = and-second (is_plain b) (is_run (c ∷ run)) h in
+    runs-more b c (run ++ rest) (and-first (is_plain b) (is_run (c ∷ run)) h) (and-first (is_plain c) (is_run run) tail) ∙ ap (onto_first b) (runs-run c run rest tail e)
+
+-- they are one piece
+pub pieces-run : (b : ℕ) (run rest : List ℕ) → is_run (b ∷ run) ≡ true → ends_piece rest ≡ true → pieces ((b ∷ run) ++ rest) ≡ piece_of (b ∷ run) ∷ pieces rest
+pieces-run b run rest h e = ap (map piece_of) (runs-run b run rest h e)
+
+-- the same for a text as it stands: white space is skipped, and then a mark or the longest run is the first piece
+pub drop_while-yes : {X : Type 0} (p : X → Bool) (x : X) (xs : List X) → p x ≡ true → drop_while p (x ∷ xs) ≡ drop_while p xs
+drop_while-yes p x xs h = rw h (rw one-add refl)
+
+-- where the first does not pass, nothing is dropped
+pub drop_while-no : {X : Type 0} (p : X → Bool) (x : X) (xs : List X) → p x ≡ false → drop_while p (x ∷ xs) ≡ x ∷ xs
+drop_while-no p x xs h = rw h refl
+
+take_while-yes : {X : Type 0} (p : X → Bool) (x : X) (xs : List X) → p x ≡ true → take_while p (x ∷ xs) ≡ x ∷ take_while p xs
+take_while-yes p x xs h = rw h (rw one-add refl)
+
+take_while-no : {X : Type 0} (p : X → Bool) (x : X) (xs : List X) → p x ≡ false → take_while p (x ∷ xs) ≡ []
+take_while-no p x xs h = rw h refl
+
+skip_step : (b : ℕ) (text : List ℕ) (t : Bool) → is_white b ≡ t → runs text ≡ runs (drop_while is_white text) → runs (b ∷ text) ≡ runs (drop_while is_white (b ∷ text))
+skip_step b text true h ih = runs-white_step b text h ∙ ih ∙ ap runs (sym (drop_while-yes is_white b text h))
+skip_step b text false h ih = ap runs (sym (drop_while-no is_white b text h))
+
+runs-skip : (text : List ℕ) → runs text ≡ runs (drop_while is_white text)
+runs-skip [] = refl
+runs-skip (b ∷ text) = skip_step b text (is_white b) refl (runs-skip text)
+
+-- the white space at the front can be dropped
+pub pieces-skip : (text : List ℕ) → pieces text ≡ pieces (drop_while is_white text)
+pieces-skip text = ap (map piece_of) (runs-skip text)
+
+not_plain-ends : (c : ℕ) (text : List ℕ) → is_plain c ≡ false → ends_piece (c ∷ text) ≡ true
+not_plain-ends c text h = go (is_white c) (is_mark c) h
+  where
+    go : (w m : Bool) → not_either w m ≡ false → (w || m) ≡ true
+    go true m h = refl
+    go false true h = refl
+    go false false h = absurd (cc)
+
+runs-first : (b : ℕ) (c : ℕ) (text : List ℕ) (t : Bool) → is_plain b ≡ true → is_plain c ≡ t
+    → (is_plain c ≡ true → runs (c ∷ text) ≡ take_while is_plain (c ∷ text) ∷ runs (drop_while is_plain (c ∷ text)))
+    → runs (b ∷ c ∷ text) ≡ (b ∷ take_while is_plain (c ∷ text)) ∷ runs (drop_while is_plain (c ∷ text))
+runs-first b c text true h k ih = runs-more b c text h k ∙ ap (onto_first b) (ih k)
+runs-first b c text false h k ih = runs-last b (c ∷ text) h (not_plain-ends c text k)
+    ∙ ap₂ (λ x y. (b ∷ x) ∷ runs y) (sym (take_while-no is_plain c text k)) (sym (drop_while-no is_plain c text k))
+
+runs-longest : (b : ℕ) (text : List ℕ) → is_plain b ≡ true → runs (b ∷ text) ≡ (b ∷ take_while is_plain text) ∷ runs (drop_while is_plain text)
+runs-longest b [] h = runs-last b [] h refl
+runs-longest b (c ∷ text) h = runs-first b c text (is_plain c) h refl
+    (λ k. runs-longest c text k ∙ ap₂ (λ x y. x ∷ runs y) (sym (take_while-yes is_plain c text k)) (sym (drop_while-yes is_plain c text k)))
+
+-- the first piece behind white space is the longest run
+pub pieces-longest : (b : ℕ) (text : List ℕ) → is_plain b ≡ true → pieces (b ∷ text) ≡ piece_of (b ∷ take_while is_plain text) ∷ pieces (drop_while is_plain text)
+pieces-longest b text h = ap (map piece_of) (runs-longest b text h)
+
+-- and a mark is one by itself
+pub pieces-mark : (b : ℕ) (text : List ℕ) → is_white b ≡ false → is_mark b ≡ true → pieces (b ∷ text) ≡ piece_of (b ∷ []) ∷ pieces text
+pieces-mark b text h k = rw (h, k) refl

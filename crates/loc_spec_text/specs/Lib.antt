@@ -1,0 +1,8 @@
+pub mod Bytes
+pub mod Number
+pub mod Geometry
+pub mod Reader
+pub mod Reading
+pub mod RingText
+pub mod Points
+pub mod Tokens
