@@ -1,0 +1,3 @@
+mod Examples
+pub mod Layers
+pub mod LineLemmas

@@ -1,0 +1,25 @@
+// The lines of a text.
+
+ghost use Rattle.std.specs.Prelude.{◌≡◌, ◌∷◌, ◌<◌, [], ◌==◌, length, position, MatchOption, IfSome};
+ghost use Rattle.loc_spec_text.specs.Bytes.{lines};
+
+// Where the first LF stands.
+fn feed_place(text: &[u8]) -> Option<usize>
+    ensures { result ≡ position (λ b. b == 10) text.now }
+{
+    text.iter().position(|b| *b == b'\n')
+}
+
+/// The first line of a text, without its LF, and what follows it. Nothing where the text is empty, and so has no line.
+pub fn next_line(text: &[u8]) -> Option<(&[u8], &[u8])>
+    ensures found { MatchOption result (text.now ≡ []) (λ l. lines text.now ≡ l.0.now ∷ lines l.1.now) }
+    ensures shorter { IfSome result (λ l. length l.1.now < length text.now) }
+{
+    if text.is_empty() {
+        return None;
+    }
+    match feed_place(text) {
+        Some(i) => Some((&text[..i], &text[i + 1..])),
+        None => Some((text, &[])),
+    }
+}

@@ -1,0 +1,4 @@
+pub mod Layers
+pub mod Orders
+pub mod Pairs
+pub mod SortedSet

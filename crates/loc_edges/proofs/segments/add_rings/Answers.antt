@@ -1,0 +1,13 @@
+use Rattle.std.proofs.Common.{◌≡◌, ◌+◌, List, [], ◌∷◌, ◌++◌, take, sym, ◌∙◌, ap}
+use Rattle.std.proofs.lemmas.List.{take_more, flat_map_more}
+use Rattle.std.proofs.lemmas.Option.{get_or_from_slice_get, slice_get_within}
+use Rattle.loc_spec_plane.specs.Rings.{Ring, ring_segments, segments}
+use Rattle.loc_edges.proofs.segments.add_rings.Goals as goal
+
+pub loop-n-preserved : goal.loop-n-preserved
+loop-n-preserved c =
+    let rings : List Ring = c.args.rings.now in
+    let ring : Ring = c.ring.result.now in
+    let one_more : take (c.loop-n.n + 1) rings ≡ take c.loop-n.n rings ++ ring ∷ [] =
+    take_more rings c.loop-n.n ring (slice_get_within rings c.loop-n.n ring c.ring.ensures.value) ∙ ap (λ (r : Ring). take c.loop-n.n rings ++ r ∷ []) (get_or_from_slice_get rings c.loop-n.n ring ring c.ring.ensures.value) in
+    c.in_ok-add_ring.ensures ∙ (ap (λ es. es ++ ring_segments ring) c.loop-n.invariant ∙ (flat_map_more ring_segments c.args.edges.now.items (take c.loop-n.n rings) ring ∙ ap (λ rs. c.args.edges.now.items ++ segments rs) (sym one_more)))

@@ -1,0 +1,10 @@
+use Rattle.std.proofs.Common.{◌∙◌}
+use Rattle.std.proofs.lemmas.List.Filters.{dedup_is}
+use Rattle.loc_spec_plane.specs.Points.{same_edge}
+use Rattle.loc_laws_order.proofs.Tests.{same_edge_decides}
+use Rattle.loc_edges.proofs.SortedSet.{sorted_set-dedup}
+use Rattle.loc_edges.proofs.Orders.{edges_by_before}
+use Rattle.loc_edges.proofs.sorted.sorted_edges.Goals as goal
+
+pub returns : goal.returns
+returns c = dedup_is same_edge _ _ c.dedup.ensures.filtered ∙ sorted_set-dedup edges_by_before same_edge same_edge_decides _ _ c.sort_unstable.ensures.permutation c.sort_unstable.ensures.sorted

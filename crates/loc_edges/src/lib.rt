@@ -1,0 +1,138 @@
+//! The tables of a layer: its corners and its edges, in order and each once, and the first pair of edges that conflicts.
+#![tactic(auto)]
+
+mod conflicts;
+mod segments;
+mod sorted;
+mod tables;
+
+pub use conflicts::{Conflict, first_conflict};
+pub use tables::{corners, corners_between, edges};
+
+#[cfg(test)]
+mod tests {
+    use super::*;
+    use loc_geom::{Edge, Meeting, Point};
+    use loc_rings::{Feature, Rings};
+    use std::alloc::Global;
+    use std::process::Abort;
+    use std::test::Fail;
+
+    const SQUARE: [(i64, i64); 5] = [(0, 0), (4, 0), (4, 4), (0, 4), (0, 0)];
+
+    const BESIDE: [(i64, i64); 5] = [(4, 0), (6, 0), (6, 2), (4, 2), (4, 0)];
+
+    const BOW_TIE: [(i64, i64); 5] = [(0, 0), (4, 4), (4, 0), (0, 4), (0, 0)];
+
+    const BACK: [(i64, i64); 4] = [(4, -1), (0, 0), (0, 0), (4, -1)];
+
+    // Features without ids, each of one ring given by its coordinates.
+    fn features_of(alloc: Global, rows: &[&[(i64, i64)]]) -> Result<Vec<Feature>, Fail> {
+        let mut features = Vec::new(alloc);
+        for row in rows {
+            let mut ring = Vec::new(alloc);
+            for (x, y) in row.iter().copied() {
+                ring.push(Point::new(x, y).ok_or("off the grid")?)?;
+            }
+            if ring.len() < 4 || ring[0] != ring[ring.len() - 1] {
+                return Err(Fail::new("no ring"));
+            }
+            let mut rings = Rings::new(alloc);
+            rings.add(ring)?;
+            features.push(Feature::new(Vec::new(alloc), rings))?;
+        }
+        Ok(features)
+    }
+
+    fn pair_of(p: Point) -> (i64, i64) {
+        (p.x(), p.y())
+    }
+
+    // The corners by their coordinates, and the edges by the numbers of their ends.
+    fn expect(
+        rt: &impl Abort,
+        alloc: Global,
+        features: &[Feature],
+        points: &[(i64, i64)],
+        ends: &[(usize, usize)],
+    ) -> Result<Vec<Edge>, Fail> {
+        let found = corners(alloc, features)?;
+        assert_eq!(rt; found.len(), points.len());
+        for (p, want) in found.iter().copied().zip(points.iter().copied()) {
+            assert_eq!(rt; pair_of(p), want);
+        }
+        let table = edges(alloc, features)?;
+        assert_eq!(rt; table.len(), ends.len());
+        for (edge, (lo, hi)) in table.iter().zip(ends.iter().copied()) {
+            assert_eq!(rt; Some(pair_of(edge.lo())), points.get(lo).copied());
+            assert_eq!(rt; Some(pair_of(edge.hi())), points.get(hi).copied());
+        }
+        Ok(table)
+    }
+
+    // The conflicts that are shown one after another, where the first edge of each is then taken out.
+    fn expect_conflicts(rt: &impl Abort, mut table: Vec<Edge>, wanted: &[(usize, usize, Meeting)]) {
+        for (first, second, meeting) in wanted.iter().copied() {
+            assert_eq!(rt;
+                first_conflict(&table),
+                Some(Conflict {
+                    first,
+                    second,
+                    meeting
+                })
+            );
+            if first < table.len() {
+                table.remove(first);
+            }
+        }
+        assert_eq!(rt; first_conflict(&table), None);
+    }
+
+    #[test]
+    fn tables_by_hand(rt: HostRuntime) -> Result<(), Fail> {
+        let alloc = rt.alloc();
+        let square = [(0, 0), (0, 4), (4, 0), (4, 4)];
+        let sides = [(0, 1), (0, 2), (1, 3), (2, 3)];
+
+        let none = expect(&rt, alloc, &[], &[], &[])?;
+        expect_conflicts(&rt, none, &[]);
+
+        let twice = features_of(alloc, &[&SQUARE, &SQUARE])?;
+        let table = expect(&rt, alloc, &twice, &square, &sides)?;
+        expect_conflicts(&rt, table, &[]);
+
+        let back = features_of(alloc, &[&BACK])?;
+        let table = expect(&rt, alloc, &back, &[(0, 0), (4, -1)], &[(0, 1)])?;
+        expect_conflicts(&rt, table, &[]);
+
+        let bow_tie = features_of(alloc, &[&BOW_TIE])?;
+        let table = expect(
+            &rt,
+            alloc,
+            &bow_tie,
+            &square,
+            &[(0, 1), (0, 3), (1, 2), (2, 3)],
+        )?;
+        expect_conflicts(&rt, table, &[(1, 2, Meeting::Cross)]);
+
+        let touching = features_of(alloc, &[&BESIDE, &SQUARE])?;
+        let points = [(0, 0), (0, 4), (4, 0), (4, 2), (4, 4), (6, 0), (6, 2)];
+        let ends = [
+            (0, 1),
+            (0, 2),
+            (1, 4),
+            (2, 3),
+            (2, 4),
+            (2, 5),
+            (3, 6),
+            (5, 6),
+        ];
+        let table = expect(&rt, alloc, &touching, &points, &ends)?;
+        expect_conflicts(
+            &rt,
+            table,
+            &[(3, 4, Meeting::Touch), (3, 5, Meeting::Touch)],
+        );
+        Ok(())
+    }
+}

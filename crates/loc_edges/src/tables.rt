@@ -1,0 +1,49 @@
+// The corners and the edges of a layer.
+
+ghost use Rattle.std.specs.Prelude.{◌≡◌, List, IsTrue, IfOk};
+ghost use Rattle.loc_spec_plane.specs.Points.{before, edge_before};
+ghost use Rattle.loc_spec_plane.specs.Lists.{is_rising, sorted_set};
+ghost use Rattle.loc_spec_plane.specs.Rings.{Rings};
+ghost use Rattle.loc_spec_plane.specs.Tables.{layer_corners, pieces_of, whole};
+ghost use Rattle.loc_edges.specs.Layers.{layer_of, ends_of};
+
+use crate::segments::layer_segments;
+use crate::sorted::{sorted_edges, sorted_points};
+use loc_geom::{Edge, Point};
+use loc_rings::Feature;
+use std::alloc::{AllocError, Global};
+
+// The ends of the edges.
+fn ends(alloc: Global, edges: &[Edge]) -> Result<Vec<Point>, AllocError>
+    ensures { IfOk result (λ points. points.items ≡ ends_of edges.now) }
+{
+    let mut points = Vec::new(alloc);
+    for edge in edges {
+        points.push(edge.lo())?;
+        points.push(edge.hi())?;
+    }
+    Ok(points)
+}
+
+/// The edges of a layer: the segments of its features in order, each once.
+pub fn edges(alloc: Global, features: &[Feature]) -> Result<Vec<Edge>, AllocError>
+    ensures value { IfOk result (λ edges. edges.items ≡ pieces_of whole (layer_of features.now)) }
+    ensures rise { IfOk result (λ edges. IsTrue (is_rising edge_before edges.items)) }
+{
+    Ok(sorted_edges(layer_segments(alloc, features)?))
+}
+
+/// The corners between edges: their ends in order, each once. Those of the edges of a layer are the corners of the layer.
+pub fn corners_between(alloc: Global, edges: &[Edge]) -> Result<Vec<Point>, AllocError>
+    ensures value { IfOk result (λ corners. corners.items ≡ sorted_set before (ends_of edges.now)) }
+    ensures of_layer { IfOk result (λ corners. (layer : List Rings) → edges.now ≡ pieces_of whole layer → corners.items ≡ layer_corners layer) }
+{
+    Ok(sorted_points(ends(alloc, edges)?))
+}
+
+/// The corners of a layer: the ends of the segments of its features in order, each once.
+pub fn corners(alloc: Global, features: &[Feature]) -> Result<Vec<Point>, AllocError>
+    ensures { IfOk result (λ corners. corners.items ≡ layer_corners (layer_of features.now)) }
+{
+    corners_between(alloc, &edges(alloc, features)?)
+}

@@ -1,0 +1,17 @@
+// Answers of the predicates.
+
+/// Where a point stands against the line through an edge.
+#[derive(Clone, Copy, PartialEq, Eq, Hash, Debug, Drop)]
+pub enum Side {
+    Below,
+    On,
+    Above,
+}
+
+/// How two edges meet. They conflict where they touch or cross.
+#[derive(Clone, Copy, PartialEq, Eq, Hash, Debug, Drop)]
+pub enum Meeting {
+    Apart,
+    Touch,
+    Cross,
+}

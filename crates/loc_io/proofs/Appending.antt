@@ -1,0 +1,24 @@
+-- Pieces that are written one after the other.
+use Rattle.std.proofs.Common.{◌≡◌, ℕ, List, ◌++◌, take, drop, Option, Some, None, sym, ◌∙◌, ap, append_assoc, take-append-drop}
+use Rattle.std.specs.Io.KnownBytes.{Appends}
+
+-- two pieces that were appended one after the other
+pub Appends-more : (a b c : Option (List ℕ)) (front more : List ℕ) → Appends a b front → Appends b c more → Appends a c (front ++ more)
+Appends-more None b c front more p q = tt
+Appends-more (Some x) None c front more p q = absurd p
+Appends-more (Some x) (Some y) None front more p q = absurd q
+Appends-more (Some x) (Some y) (Some z) front more p q = q ∙ ap (λ (l : List ℕ). l ++ more) p ∙ append_assoc x front more
+
+-- a loop over a piece: what was written, and what is left
+pub record Wrote (old new : Option (List ℕ)) (piece rest : List ℕ) : Type 0 where
+  pub front : List ℕ
+  pub split : piece ≡ front ++ rest
+  pub bytes : Appends old new front
+
+-- n bytes more are written
+pub wrote-more : (a b c : Option (List ℕ)) (piece rest : List ℕ) (n : ℕ) → Wrote a b piece rest → Appends b c (take n rest) → Wrote a c piece (drop n rest)
+wrote-more a b c piece rest n so_far more = record {
+  front = so_far.front ++ take n rest;
+  split = so_far.split ∙ ap (λ (l : List ℕ). so_far.front ++ l) (sym (take-append-drop n rest)) ∙ sym (append_assoc so_far.front (take n rest) (drop n rest));
+  bytes = Appends-more a b c so_far.front (take n rest) so_far.bytes more;
+}

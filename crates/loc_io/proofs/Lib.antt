@@ -1,0 +1,4 @@
+mod Appending
+mod Growing
+mod Lookup
+mod Reading

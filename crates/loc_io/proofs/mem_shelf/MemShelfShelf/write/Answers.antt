@@ -1,0 +1,22 @@
+use Rattle.std.proofs.Common.{◌≡◌, Some, string_bytes, ap, ◌∙◌, rules, option_map}
+use Rattle.std.specs.Vec.{with_items}
+use Rattle.std.proofs.lemmas.List.{with_items_is}
+use Rattle.loc_io.specs.Files.{Grows}
+use Rattle.loc_io.proofs.Growing.{told_grows, told_keeps}
+use Rattle.loc_io.proofs.mem_shelf.MemShelfShelf.write.Goals as goal
+
+pub returns-then-append : goal.returns-then-append
+returns-then-append c =
+    let made : option_map string_bytes c.args.self.now.making ≡ Some (string_bytes c.in-Some.name) = search rules in
+    let grows : Grows (string_bytes c.in-Some.name) c.args.piece.now c.args.self.now.files.items c.append.new.files = search rules in
+    let items : (with_items c.args.self.now.files c.append.new.files).items ≡ c.append.new.files = with_items_is c.args.self.now.files c.append.new.files (search rules) in
+    record {
+      reading = search rules;
+      bound = search rules;
+      made = search rules;
+      file = λ name is. let named : string_bytes c.in-Some.name ≡ name = cc (made, is) in
+          rw (← named, items) (told_grows _ _ _ _ grows);
+      others = λ q not. rw items (told_keeps _ _ _ _ grows q (λ e. not (made ∙ ap Some e)));
+      refused = tt;
+      cause = search rules;
+    }

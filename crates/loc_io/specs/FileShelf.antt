@@ -1,0 +1,17 @@
+-- What the real files mean as a shelf.
+use Rattle.std.specs.Prelude.{None, is_some}
+use Rattle.loc_io.specs.Meaning.{Meaning, untold}
+use Rattle.loc_io.specs.declared.file_shelf.FileShelf.{FileShelf}
+
+-- nothing is told of what the files hold
+abbrev pub file_meaning : {R File Dir : Type 0} → FileShelf R File Dir → Meaning
+file_meaning s = record {
+  told = λ _. untold;
+  is_open = is_some s.reading;
+  rest = None;
+  is_making = is_some s.writing;
+  made = None;
+  entries = s.trace.entries;
+  read_faults = s.read_faults.number;
+  write_faults = s.write_faults.number;
+}

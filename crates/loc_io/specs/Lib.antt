@@ -1,0 +1,11 @@
+pub mod Causes
+pub mod Entries
+pub mod FileShelf
+pub mod Files
+pub mod Meaning
+pub mod MemShelf
+pub mod Reading
+pub mod Sinks
+pub mod Whole
+pub mod Steady
+pub mod SteadyShelf

@@ -1,0 +1,95 @@
+//! The real files as a shelf, of whose content nothing is told.
+ghost use Rattle.std.specs.Prelude.{◌≡◌};
+ghost use Rattle.loc_io.specs.Meaning.{IsFresh, untold};
+
+use crate::failed::FaultCount;
+use crate::trace::Trace;
+use crate::{Failed, Shelf};
+use std::fs;
+use std::io::{Read, Write};
+use std::rt::Files;
+
+/// The files of the system, by their paths. A directory can be taken up, and fails at its first read.
+#[derive(Drop)]
+pub struct FileShelf<R: Files + Drop> {
+    rt: R,
+    reading: Option<R::File>,
+    writing: Option<R::File>,
+    read_faults: FaultCount,
+    write_faults: FaultCount,
+    trace: Trace,
+}
+
+impl<R: Files + Drop> FileShelf<R> {
+    ghost use Rattle.loc_io.specs.FileShelf.{file_meaning};
+
+    /// A shelf over the files of this runtime.
+    pub fn new(rt: R) -> FileShelf<R>
+        ensures files { (file_meaning result).told ≡ (λ _. untold) }
+        ensures fresh { IsFresh (file_meaning result) }
+    {
+        FileShelf {
+            rt,
+            reading: None,
+            writing: None,
+            read_faults: FaultCount::new(),
+            write_faults: FaultCount::new(),
+            trace: Trace::new(),
+        }
+    }
+}
+
+impl<R: Files + Drop> Shelf for FileShelf<R> {
+    ghost use Rattle.loc_io.specs.FileShelf.{file_meaning};
+
+    ghost meaning = { file_meaning };
+
+    fn take_up(&mut self, name: &str) -> Result<(), Failed> {
+        self.trace.note(&[], name.as_bytes());
+        match fs::open(&self.rt, name) {
+            Ok(file) => {
+                self.reading = Some(file);
+                Ok(())
+            }
+            Err(_) => Err(self.read_faults.count_one()),
+        }
+    }
+
+    fn read(&mut self, into: &mut [u8]) -> Result<usize, Failed> {
+        if let Some(file) = &mut self.reading {
+            if let Ok(n) = file.read(into) {
+                self.trace.note(&[n as u64], &[]);
+                return Ok(n);
+            }
+        }
+        Err(self.read_faults.count_one())
+    }
+
+    fn create(&mut self, name: &str) -> Result<(), Failed> {
+        match fs::create(&self.rt, name) {
+            Ok(file) => {
+                self.writing = Some(file);
+                Ok(())
+            }
+            Err(_) => Err(self.write_faults.count_one()),
+        }
+    }
+
+    // One call of the file. A write that takes no byte is a failure.
+    fn write(&mut self, piece: &[u8]) -> Result<usize, Failed> {
+        if let Some(file) = &mut self.writing {
+            if let Ok(n) = file.write(piece) {
+                if n > 0 {
+                    return Ok(n);
+                }
+            }
+        }
+        Err(self.write_faults.count_one())
+    }
+
+    // The file is closed where it is dropped. Nothing was held back from it.
+    fn finish(&mut self) -> Result<(), Failed> {
+        self.writing = None;
+        Ok(())
+    }
+}

@@ -1,0 +1,28 @@
+//! A sink over which no call fails.
+ghost use Rattle.std.specs.Prelude.{◌≡◌, None};
+
+use crate::{Failed, Sink};
+
+/// Swallows its bytes and tells none. No write on it fails.
+#[derive(Drop)]
+pub struct SteadySink;
+
+impl SteadySink {
+    /// A sink that tells nothing and has no faults.
+    pub fn new() -> SteadySink
+        ensures bytes { ⟦<SteadySink as Sink>⟧.written result ≡ None }
+        ensures faults { ⟦<SteadySink as Sink>⟧.faults result ≡ 0 }
+    {
+        SteadySink
+    }
+}
+
+impl Sink for SteadySink {
+    ghost written = { λ _. None };
+
+    ghost faults = { λ _. 0 };
+
+    fn write(&mut self, piece: &[u8]) -> Result<usize, Failed> {
+        Ok(piece.len())
+    }
+}

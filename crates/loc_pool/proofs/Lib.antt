@@ -1,0 +1,7 @@
+pub mod Cells
+pub mod Maps
+pub mod Memory
+pub mod Same
+pub mod Sharing
+pub mod Steps
+pub mod Values

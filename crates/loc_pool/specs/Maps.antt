@@ -1,0 +1,33 @@
+-- A map from links to values: the pairs in the order in which they came, of which the first counts.
+use Rattle.std.specs.Prelude.{Bool, false, cond, ◌||◌, List, [], ◌∷◌}
+use Rattle.loc_pool.specs.declared.Link.{Link}
+use Rattle.loc_pool.specs.Same.{same}
+
+-- a map from links
+abbrev pub Map : Type 0 → Type 0
+Map A = List (Link × A)
+
+-- whether a link has a value
+unfoldable pub has : {A : Type 0} → Map A → Link → Bool
+has [] l = false
+has (c ∷ cs) l = same c.0 l || has cs l
+
+-- the value of a link, or x where it has none
+unfoldable pub value_or : {A : Type 0} → A → Map A → Link → A
+value_or x [] l = x
+value_or x (c ∷ cs) l = cond (same c.0 l) c.1 (value_or x cs l)
+
+-- the map with the value of one link exchanged
+unfoldable pub put : {A : Type 0} → Map A → Link → A → Map A
+put [] l x = []
+put (c ∷ cs) l x = cond (same c.0 l) ((c.0, x) ∷ cs) (c ∷ put cs l x)
+
+-- the map without one link
+unfoldable pub without : {A : Type 0} → Map A → Link → Map A
+without [] l = []
+without (c ∷ cs) l = cond (same c.0 l) cs (c ∷ without cs l)
+
+-- the links in the order in which they came
+unfoldable pub links : {A : Type 0} → Map A → List Link
+links [] = []
+links (c ∷ cs) = c.0 ∷ links cs

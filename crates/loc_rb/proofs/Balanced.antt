@@ -1,0 +1,133 @@
+-- Red-black trees by their parts.
+use Rattle.std.proofs.Common.{◌≡◌, ℕ, List, [], ◌∷◌, ◌++◌, refl, sym, ap, ◌∙◌, subst, ◌+◌}
+use Rattle.loc_pool.specs.declared.Link.{Link}
+use Rattle.loc_pool.specs.declared.Turn.{Turn}
+use Rattle.loc_pool.specs.declared.Turn.TheVariants.{Left, Right}
+use Rattle.loc_pool.specs.declared.Colour.{Colour}
+use Rattle.loc_pool.specs.declared.Colour.TheVariants.{Red, Black}
+use Rattle.loc_rb.specs.Trees.{Tree, leaf, node, items, Frame, node_at, under, plug, SameButLinks}
+use Rattle.loc_rb.specs.Nodes.{Nodes}
+use Rattle.loc_rb.specs.Balance.{IsBlackTop, MayHang, black, HasBlackHeight, MayBe, Takes}
+use Rattle.loc_rb.specs.Places.{Spot, Holds}
+use Rattle.loc_rb.specs.Steps.{IsRedTop}
+
+pub balanced-parts : (turn : Turn) (l : Link) (t : Tree) (x : ℕ) (c : Colour) (o : Tree) (h : ℕ) → HasBlackHeight (node_at turn l t x c o) h → MayHang c t × MayHang c o × ((k : ℕ) × (h ≡ black c + k) × HasBlackHeight t k × HasBlackHeight o k)
+balanced-parts Left l t x c o h p = p
+balanced-parts Right l t x c o h p = (p.1, p.0, (p.2.0, p.2.1, p.2.3, p.2.2))
+
+pub balanced-join : (turn : Turn) (l : Link) (t : Tree) (x : ℕ) (c : Colour) (o : Tree) (k : ℕ) → MayHang c t → MayHang c o → HasBlackHeight t k → HasBlackHeight o k → HasBlackHeight (node_at turn l t x c o) (black c + k)
+balanced-join Left l t x c o k a b p q = (a, b, (k, refl, p, q))
+balanced-join Right l t x c o k a b p q = (b, a, (k, refl, q, p))
+
+pub may-hang : (d : Colour) (turn : Turn) (l : Link) (t : Tree) (x : ℕ) (c : Colour) (o : Tree) → MayBe d c → MayHang d (node_at turn l t x c o)
+may-hang Black turn l t x c o m = tt
+may-hang Red Left l t x Black o m = tt
+may-hang Red Right l t x Black o m = tt
+may-hang Red turn l t x Red o m = cc
+
+pub may-be : (d : Colour) (turn : Turn) (l : Link) (t : Tree) (x : ℕ) (c : Colour) (o : Tree) → MayHang d (node_at turn l t x c o) → MayBe d c
+may-be Black turn l t x c o m = tt
+may-be Red Left l t x Black o m = refl
+may-be Red Right l t x Black o m = refl
+may-be Red Left l t x Red o m = absurd m
+may-be Red Right l t x Red o m = absurd m
+
+pub may-be-black : (d : Colour) → MayBe d Black
+may-be-black Red = refl
+may-be-black Black = tt
+
+pub may-be-red : (d : Colour) → MayBe d Red → d ≡ Black
+may-be-red Red m = let q : Red ≡ Black = m in cc
+may-be-red Black m = refl
+
+pub black-hangs : (d : Colour) (t : Tree) → IsBlackTop t → MayHang d t
+black-hangs Red t b = b
+black-hangs Black t b = tt
+
+pub red-top-node_at : (turn : Turn) (l : Link) (t : Tree) (x : ℕ) (o : Tree) → IsRedTop l (node_at turn l t x Red o)
+red-top-node_at Left l t x o = refl
+red-top-node_at Right l t x o = refl
+
+pub black-top-node_at : (turn : Turn) (l : Link) (t : Tree) (x : ℕ) (o : Tree) → IsBlackTop (node_at turn l t x Black o)
+black-top-node_at Left l t x o = tt
+black-top-node_at Right l t x o = tt
+
+-- a tree with a red top, seen from a side
+pub record RedShape (turn : Turn) (l : Link) (t : Tree) : Type 0 where
+  pub near : Tree
+  pub x : ℕ
+  pub far : Tree
+  pub is : t ≡ node_at turn l near x Red far
+
+pub red-shape : (turn : Turn) (l : Link) (t : Tree) → IsRedTop l t → RedShape turn l t
+red-shape turn l leaf r = absurd r
+red-shape Left l (node m a x Red b) r = record { near = a; x = x; far = b; is = λ i. node (r i) a x Red b }
+red-shape Right l (node m a x Red b) r = record { near = b; x = x; far = a; is = λ i. node (r i) a x Red b }
+red-shape turn l (node m a x Black b) r = absurd r
+
+-- what hangs at the end of a path
+pub takes-plug : (c : Colour) (h : ℕ) (C : List Frame) (d : Colour) (k : ℕ) (t : Tree) → Takes c h C d k → MayHang d t → HasBlackHeight t k → MayHang c (plug C t) × HasBlackHeight (plug C t) h
+takes-plug c h [] d k t p m r = (subst (λ (z : Colour). MayHang z t) (sym p.0) m, subst (λ (z : ℕ). HasBlackHeight t z) (sym p.1) r)
+takes-plug c h (fr ∷ C) d k t p m r =
+    let q = takes-plug fr.colour p.2.0 C d k t p.2.3 m r in (
+      may-hang c fr.turn fr.link (plug C t) fr.item fr.colour fr.other p.0,
+      subst (λ (z : ℕ). HasBlackHeight (under fr (plug C t)) z) (sym p.2.1) (balanced-join fr.turn fr.link (plug C t) fr.item fr.colour fr.other p.2.0 q.0 p.1 q.1 p.2.2),
+    )
+
+-- a balanced tree, cut at the end of a path: what is asked there of the tree that hangs there
+pub record TakenBy (c : Colour) (h : ℕ) (C : List Frame) (t : Tree) : Type 0 where
+  pub d : Colour
+  pub k : ℕ
+  pub takes : Takes c h C d k
+  pub may : MayHang d t
+  pub sub : HasBlackHeight t k
+
+pub taken-by : (c : Colour) (h : ℕ) (C : List Frame) (t : Tree) → MayHang c (plug C t) → HasBlackHeight (plug C t) h → TakenBy c h C t
+taken-by c h [] t m r = record { d = c; k = h; takes = (refl, refl); may = m; sub = r }
+taken-by c h (fr ∷ C) t m r =
+    let p = balanced-parts fr.turn fr.link (plug C t) fr.item fr.colour fr.other h r in
+    let q = taken-by fr.colour p.2.0 C t p.0 p.2.2 in
+    record { d = q.d; k = q.k; takes = (may-be c fr.turn fr.link (plug C t) fr.item fr.colour fr.other m, p.1, (p.2.0, p.2.1, p.2.3, q.takes)); may = q.may; sub = q.sub }
+
+-- without its last frame
+pub record Shorter (c : Colour) (h : ℕ) (C : List Frame) (fr : Frame) (d : Colour) (k : ℕ) : Type 0 where
+  pub e : Colour
+  pub takes : Takes c h C e (black fr.colour + k)
+  pub may : MayBe e fr.colour
+  pub may_other : MayHang fr.colour fr.other
+  pub sub_other : HasBlackHeight fr.other k
+  pub same : d ≡ fr.colour
+
+pub takes-shorter : (c : Colour) (h : ℕ) (C : List Frame) (fr : Frame) (d : Colour) (k : ℕ) → Takes c h (C ++ fr ∷ []) d k → Shorter c h C fr d k
+takes-shorter c h [] fr d k p = record {
+  e = c;
+  takes = (refl, p.2.1 ∙ ap (λ (z : ℕ). black fr.colour + z) p.2.3.1);
+  may = p.0;
+  may_other = p.1;
+  sub_other = subst (λ (z : ℕ). HasBlackHeight fr.other z) p.2.3.1 p.2.2;
+  same = sym p.2.3.0;
+}
+takes-shorter c h (gr ∷ C) fr d k p =
+    let q = takes-shorter gr.colour p.2.0 C fr d k p.2.3 in
+    record { e = q.e; takes = (p.0, p.1, (p.2.0, p.2.1, p.2.2, q.takes)); may = q.may; may_other = q.may_other; sub_other = q.sub_other; same = q.same }
+
+-- with one more frame
+pub takes-longer : (c : Colour) (h : ℕ) (C : List Frame) (fr : Frame) (e : Colour) (k : ℕ) → Takes c h C e (black fr.colour + k) → MayBe e fr.colour → MayHang fr.colour fr.other → HasBlackHeight fr.other k → Takes c h (C ++ fr ∷ []) fr.colour k
+takes-longer c h [] fr e k p m o r = (subst (λ (z : Colour). MayBe z fr.colour) (sym p.0) m, o, (k, p.1, r, (refl, refl)))
+takes-longer c h (gr ∷ C) fr e k p m o r = (p.0, p.1, (p.2.0, p.2.1, p.2.2, takes-longer gr.colour p.2.0 C fr e k p.2.3 m o r))
+
+pub takes-SameButLinks : (c : Colour) (h : ℕ) (C D : List Frame) (d : Colour) (k : ℕ) → SameButLinks C D → Takes c h C d k → Takes c h D d k
+takes-SameButLinks c h [] [] d k s p = p
+takes-SameButLinks c h [] (gr ∷ D) d k s p = absurd s
+takes-SameButLinks c h (fr ∷ C) [] d k s p = absurd s
+takes-SameButLinks c h (fr ∷ C) (gr ∷ D) d k s p =
+    let q = takes-SameButLinks fr.colour p.2.0 C D d k s.4 p.2.3 in
+    let r = subst (λ (z : Colour). MayBe c z × MayHang z fr.other × (h ≡ black z + p.2.0) × Takes z p.2.0 D d k) (sym s.2) (p.0, p.1, p.2.1, q) in
+    let w = subst (λ (z : Tree). MayHang gr.colour z × HasBlackHeight z p.2.0) (sym s.3) (r.1, p.2.2) in
+    (r.0, w.0, (p.2.0, r.2, w.1, r.3))
+
+-- the whole is red-black again
+pub holds-of : (n : Nodes) (es : List (Link × Turn)) (C : List Frame) (t : Tree) (h : ℕ) (d : Colour) (k : ℕ) (L : List ℕ) → Spot n es C t → Takes Red h C d k → MayHang d t → HasBlackHeight t k → items (plug C t) ≡ L → Holds n L
+holds-of n es C t h d k L sp p m r e =
+    let q = takes-plug Red h C d k t p m r in
+    record { tree = plug C t; fits = sp.fits; apart = sp.apart; root = sp.root; balanced = (q.0, (h, q.1)); list = e }

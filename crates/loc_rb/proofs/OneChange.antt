@@ -1,0 +1,340 @@
+-- What one change does to a tree that hangs at the newest root.
+use Rattle.std.proofs.Common.{◌≡◌, ℕ, zero, suc, List, [], ◌∷◌, ◌++◌, refl, sym, ap, ◌∙◌, subst, Option, Some, None, ◌+◌, ◌≤◌, ◌<◌, cond, true, false, arith, ◌⊎◌, inl, inr, Bool, length}
+use Rattle.std.specs.Prelude.{◌≢◌}
+use Rattle.std.specs.List.{AllByRecursion}
+use Rattle.loc_pool.specs.declared.Link.{Link}
+use Rattle.loc_pool.specs.declared.Turn.{Turn}
+use Rattle.loc_pool.specs.declared.Turn.TheVariants.{Left, Right}
+use Rattle.loc_pool.specs.declared.Colour.{Colour}
+use Rattle.loc_pool.specs.Same.{same}
+use Rattle.loc_pool.proofs.Same.{same-refl, same-eq}
+use Rattle.loc_rb.specs.Trees.{Row, Reading, Tree, leaf, node, top, Fits, Frame, node_at, under, plug, entries, links_of, next, Carried, SameButLinks, count, IsApart, child_of, Once, Leads}
+use Rattle.loc_rb.specs.Nodes.{Nodes, live, IsLive, IsLiveOrNone, HasRow, CanChange, Changes, Roots, StandFor, StandsFor}
+use Rattle.loc_rb.specs.Places.{Spot}
+use Rattle.loc_rb.specs.Steps.{Replaced, CanTransplant}
+use Rattle.loc_rb.proofs.Trees.{Avoids-nil, rename, change-tree, stays, fits-end, inner, top-node_at, node-row, count-node_at, count-plug, spine, sides, at-clear, twice, apart-all, split-last, plug-snoc}
+
+cond-some : (b : Bool) (o : Option Row) (x : Row) → cond b o None ≡ Some x → (o ≡ Some x) × (b ≡ true)
+cond-some true o x e = (e, refl)
+cond-some false o x e = cc
+
+pub live-rows : (n : Nodes) (l : Link) (x : Row) → live n l ≡ Some x → (n.rows l ≡ Some x) × (n.current l ≡ true)
+live-rows n l x e = cond-some (n.current l) (n.rows l) x e
+
+pub is-live : (n : Nodes) (l : Link) (x : Row) → n.rows l ≡ Some x → n.current l ≡ true → live n l ≡ Some x
+is-live n l x e c = ap (λ b. cond b (n.rows l) None) c ∙ e
+
+pub has-row : (n : Nodes) (l : Link) → IsLive n l → HasRow n l
+has-row n l h = (h.0, (live-rows n l h.0 h.1).0)
+
+pub some-link : (l m : Link) → Some l ≡ Some m → l ≡ m
+some-link l m e = cc
+
+-- how often a link stands in a list
+unfoldable pub occurs : Link → List Link → ℕ
+occurs l [] = 0
+occurs l (k ∷ ks) = cond (same k l) 1 0 + occurs l ks
+
+pub spine-occurs : (l : Link) (C : List Frame) → spine l C ≡ occurs l (links_of (entries C))
+unfolding spine occurs
+spine-occurs l [] = refl
+spine-occurs l (fr ∷ C) = ap (λ z. cond (same fr.link l) 1 0 + z) (spine-occurs l C)
+
+pub not-same : (l m : Link) → l ≢ m → same l m ≡ false
+not-same l m d = (elim (same l m) as (λ b. same l m ≡ b → b ≡ false) [ true ↦ λ e. absurd (d (same-eq l m e)) | false ↦ λ e. refl ]) refl
+
+pub occurs-not : (l : Link) (ks : List Link) → AllByRecursion (λ k. l ≢ k) ks → occurs l ks ≡ 0
+unfolding occurs
+occurs-not l [] h = refl
+occurs-not l (k ∷ ks) h = let e : ◌≡◌ {A = ℕ} (cond (same k l) 1 0) 0 = ap (λ b. cond b 1 0) (not-same k l (λ q. h.0 (sym q))) in let r = occurs-not l ks h.1 in omega (arith, e, r)
+
+pub once-occurs : (l : Link) (ks : List Link) → Once ks → occurs l ks ≤ 1
+unfolding occurs
+once-occurs l [] o = omega arith
+once-occurs l (k ∷ ks) o = (elim (same k l) as (λ b. same k l ≡ b → cond b 1 0 + occurs l ks ≤ 1) [
+  | true ↦ λ e. let z = occurs-not l ks (subst (λ (m : Link). AllByRecursion (λ i. m ≢ i) ks) (same-eq k l e) o.0) in omega (arith, z)
+  | false ↦ λ e. let r = once-occurs l ks o.1 in omega (arith, r)
+]) refl
+
+occurs-all : (ks : List Link) → AllByRecursion (λ m. 1 ≤ occurs m ks) ks
+unfolding occurs
+occurs-all [] = tt
+occurs-all (k ∷ ks) = (
+  let e : cond (same k k) 1 0 + occurs k ks ≡ 1 + occurs k ks = ap (λ b. cond b 1 0 + occurs k ks) (same-refl k) in omega (arith, e),
+  apart-all (λ m. 1 ≤ occurs m ks) (λ m. 1 ≤ cond (same k m) 1 0 + occurs m ks) (λ m h. omega (arith, h)) ks (occurs-all ks),
+)
+
+pub occurs-once : (ks : List Link) → ((l : Link) → occurs l ks ≤ 1) → Once ks
+unfolding occurs
+occurs-once [] h = tt
+occurs-once (k ∷ ks) h = (
+  apart-all (λ m. 1 ≤ occurs m ks) (λ m. k ≢ m) (λ m o. twice k m (occurs m ks) (h m) o) ks (occurs-all ks),
+  occurs-once ks (λ l. let z : cond (same k l) 1 0 + occurs l ks ≤ 1 = h l in omega (arith, z)),
+)
+
+-- a link with a row is none of the new ones
+not-one : (n : Nodes) (l k k' : Link) (x : Row) → n.rows l ≡ Some x → StandsFor n k k' → l ≢ k → l ≢ k'
+not-one n l k k' x e s d = λ q. (elim s as (λ _. ⊥) [
+  | inl i ↦ d (q ∙ i)
+  | inr i ↦ let r : None ≡ Some x = sym i ∙ ap n.rows (sym q) ∙ e in cc
+])
+
+pub not-new : (n : Nodes) (l : Link) (x : Row) → n.rows l ≡ Some x → (ks ks' : List Link) → StandFor n ks ks' → AllByRecursion (λ k. l ≢ k) ks → AllByRecursion (λ k. l ≢ k) ks'
+not-new n l x e [] [] s a = tt
+not-new n l x e [] (k' ∷ ks') s a = absurd s
+not-new n l x e (k ∷ ks) [] s a = absurd s
+not-new n l x e (k ∷ ks) (k' ∷ ks') s a = (not-one n l k k' x e s.0 a.0, not-new n l x e ks ks' s.1 a.1)
+
+-- nor does it stand more often among them
+fewer-one : (n : Nodes) (l k k' : Link) (x : Row) → n.rows l ≡ Some x → StandsFor n k k' → cond (same k' l) 1 0 ≤ cond (same k l) 1 0
+fewer-one n l k k' x e s = elim s as (λ _. cond (same k' l) 1 0 ≤ cond (same k l) 1 0) [
+  | inl i ↦ let q : ◌≡◌ {A = ℕ} (cond (same k' l) 1 0) (cond (same k l) 1 0) = ap (λ m. cond (same m l) 1 0) i in omega (arith, q)
+  | inr i ↦ let q : ◌≡◌ {A = ℕ} (cond (same k' l) 1 0) 0 = ap (λ b. cond b 1 0) (not-same k' l (λ z. let r : None ≡ Some x = sym i ∙ ap n.rows z ∙ e in cc)) in omega (arith, q)
+]
+
+fewer : (n : Nodes) (l : Link) (x : Row) → n.rows l ≡ Some x → (ks ks' : List Link) → StandFor n ks ks' → occurs l ks' ≤ occurs l ks
+unfolding occurs
+fewer n l x e [] [] s = omega arith
+fewer n l x e [] (k' ∷ ks') s = absurd s
+fewer n l x e (k ∷ ks) [] s = absurd s
+fewer n l x e (k ∷ ks) (k' ∷ ks') s = let p = fewer-one n l k k' x e s.0 in let q = fewer n l x e ks ks' s.1 in omega (arith, p, q)
+
+pub none-or : (i : ℕ) → (i ≡ 0) ⊎ (1 ≤ i)
+none-or zero = inl refl
+none-or (suc i) = inr (omega arith)
+
+pub either-one : (i j : ℕ) → 1 ≤ i + j → (1 ≤ i) ⊎ (1 ≤ j)
+either-one zero j h = inr (omega (arith, h))
+either-one (suc i) j h = inl (omega arith)
+
+-- links that stood apart from the path and `at` stand apart from those that stand for them
+pub apart-new : (n m : Nodes) (es es' : List (Link × Turn)) (at r : Link) (turn : Turn) (to : Option Link) (R : Link → ℕ) → Changes n m es es' at r turn to
+    → ((l : Link) → 1 ≤ R l → IsLive n l) → ((l : Link) → occurs l (at ∷ links_of es) + R l ≤ 1) → (l : Link) → occurs l (r ∷ links_of es') + R l ≤ 1
+apart-new n m es es' at r turn to R d live_R apart l = elim (none-or (R l)) as (λ _. occurs l (r ∷ links_of es') + R l ≤ 1) [
+  | inl z ↦ let o = once-occurs l (r ∷ links_of es') d.once in omega (arith, o, z)
+  | inr z ↦ let h = has-row n l (live_R l z) in let q = fewer n l h.0 h.1 (at ∷ links_of es) (r ∷ links_of es') d.stand_for in let a = apart l in omega (arith, q, a)
+]
+
+in-row-node : (f : Reading) (l k : Link) (s t : Tree) → (y : Row) × (f k ≡ Some y) → (1 ≤ count l s → (y : Row) × (f l ≡ Some y)) → (1 ≤ count l t → (y : Row) × (f l ≡ Some y)) → 1 ≤ cond (same k l) 1 0 + (count l s + count l t) → (y : Row) × (f l ≡ Some y)
+in-row-node f l k s t here left right = (elim (same k l) as (λ b. same k l ≡ b → 1 ≤ cond b 1 0 + (count l s + count l t) → (y : Row) × (f l ≡ Some y)) [
+  | true ↦ λ e _. subst (λ (m : Link). (y : Row) × (f m ≡ Some y)) (same-eq k l e) here
+  | false ↦ λ e h. elim (either-one (count l s) (count l t) (omega (arith, h))) as (λ _. (y : Row) × (f l ≡ Some y)) [ inl z ↦ left z | inr z ↦ right z ]
+]) refl
+
+-- a link that stands in a tree has a row
+pub in-row : (f : Reading) (l : Link) (t : Tree) → Fits f t → 1 ≤ count l t → (y : Row) × (f l ≡ Some y)
+unfolding count
+in-row f l leaf p h = let z : 1 ≤ 0 = h in absurd (let q : ⊥ = omega (arith, z) in q)
+in-row f l (node k a x c b) p h = in-row-node f l k a b (_, p.0) (in-row f l a p.1) (in-row f l b p.2) h
+
+pub others-live : (n m : Nodes) (es es' : List (Link × Turn)) (at r : Link) (turn : Turn) (to : Option Link) → Changes n m es es' at r turn to
+    → (l : Link) → AllByRecursion (λ k. l ≢ k) (at ∷ links_of es) → (y : Row) → live n l ≡ Some y → live m l ≡ Some y
+others-live n m es es' at r turn to d l a y e =
+    let p = live-rows n l y e in
+    is-live m l y (d.others l (not-new n l y p.0 (at ∷ links_of es) (r ∷ links_of es') d.stand_for a) y p.0) (d.current l a p.1)
+
+pub SameButLinks-rename : (f g : Reading) (C : List Frame) (es : List (Link × Turn)) (r : Link) → Carried f g (entries C) es r → SameButLinks C (rename C es)
+SameButLinks-rename f g [] [] r k = tt
+SameButLinks-rename f g [] (e ∷ es) r k = absurd k
+SameButLinks-rename f g (fr ∷ C) [] r k = absurd k
+SameButLinks-rename f g (fr ∷ C) (e ∷ es) r k = (refl, refl, refl, refl, SameButLinks-rename f g C es r k.2)
+
+pub SameButLinks-refl : (C : List Frame) → SameButLinks C C
+SameButLinks-refl [] = tt
+SameButLinks-refl (fr ∷ C) = (refl, refl, refl, refl, SameButLinks-refl C)
+
+pub SameButLinks-trans : (C D E : List Frame) → SameButLinks C D → SameButLinks D E → SameButLinks C E
+SameButLinks-trans [] [] [] p q = tt
+SameButLinks-trans [] [] (gr ∷ E) p q = absurd q
+SameButLinks-trans [] (gr ∷ D) E p q = absurd p
+SameButLinks-trans (fr ∷ C) [] E p q = absurd p
+SameButLinks-trans (fr ∷ C) (gr ∷ D) [] p q = absurd q
+SameButLinks-trans (fr ∷ C) (gr ∷ D) (hr ∷ E) p q = (q.0 ∙ p.0, q.1 ∙ p.1, q.2 ∙ p.2, q.3 ∙ p.3, SameButLinks-trans C D E p.4 q.4)
+
+pub SameButLinks-snoc : (C D : List Frame) (fr gr : Frame) → SameButLinks C D → SameButLinks (fr ∷ []) (gr ∷ []) → SameButLinks (C ++ fr ∷ []) (D ++ gr ∷ [])
+SameButLinks-snoc [] [] fr gr p q = q
+SameButLinks-snoc [] (hr ∷ D) fr gr p q = absurd p
+SameButLinks-snoc (hr ∷ C) [] fr gr p q = absurd p
+SameButLinks-snoc (hr ∷ C) (kr ∷ D) fr gr p q = (p.0, p.1, p.2, p.3, SameButLinks-snoc C D fr gr p.4 q)
+
+pub sides-SameButLinks : (l : Link) (C D : List Frame) → SameButLinks C D → sides l D ≡ sides l C
+unfolding sides
+sides-SameButLinks l [] [] p = refl
+sides-SameButLinks l [] (gr ∷ D) p = absurd p
+sides-SameButLinks l (fr ∷ C) [] p = absurd p
+sides-SameButLinks l (fr ∷ C) (gr ∷ D) p = let a : count l gr.other ≡ count l fr.other = ap (count l) p.3 in let b = sides-SameButLinks l C D p.4 in omega (arith, a, b)
+
+-- how often a link stands in a whole tree, by its parts
+pub count-at : (l : Link) (C : List Frame) (turn : Turn) (at : Link) (t : Tree) (x : ℕ) (c : Colour) (other : Tree)
+    → count l (plug C (node_at turn at t x c other)) ≡ occurs l (at ∷ links_of (entries C)) + (sides l C + (count l t + count l other))
+unfolding occurs
+count-at l C turn at t x c other =
+    let p = count-plug l C (node_at turn at t x c other) in let q = count-node_at l turn at t x c other in let r = spine-occurs l C in omega (arith, p, q, r)
+
+pub top-plug : (C : List Frame) (t : Tree) (at : Link) → top t ≡ Some at → top (plug C t) ≡ Some (next (entries C) at)
+top-plug [] t at e = e
+top-plug (fr ∷ C) t at e = top-node_at fr.turn fr.link (plug C t) fr.item fr.colour fr.other
+
+child-replaced-by : (n m : Nodes) (es' : List (Link × Turn)) (at r : Link) (turn : Turn) (C : List Frame) (x : ℕ) (c : Colour) (other s v : Tree)
+    → Changes n m (entries C) es' at r turn (top v) → Spot n (entries C) C (node_at turn at s x c other) → Fits (live n) v → IsApart (plug C (node_at turn at v x c other))
+    → Replaced m es' C (node_at turn r v x c other)
+child-replaced-by n m es' at r turn C x c other s v d sp q apart =
+    let es = entries C in let D = rename C es' in
+    let T = node_at turn at s x c other in
+    let clear = at-clear C turn at v x c other apart in
+    let on = change-tree (live n) (live m) C es' at r turn x c other s v d.here d.above (others-live n m es es' at r turn (top v) d) sp.fits clear.0 clear.1 clear.2 q in
+    let R : Link → ℕ = λ l. sides l C + (count l v + count l other) in
+    let alike = SameButLinks-rename (live n) (live m) C es' r d.above in
+    let live_R : (l : Link) → 1 ≤ R l → IsLive n l = λ l h.
+    elim (none-or (count l v)) as (λ _. IsLive n l) [
+      | inl z ↦ let k = count-at l C turn at s x c other in in-row (live n) l (plug C T) sp.fits (let h' : 1 ≤ sides l C + (count l v + count l other) = h in omega (arith, z, k, h'))
+      | inr z ↦ in-row (live n) l v q z
+    ] in
+    let A = apart-new n m es es' at r turn (top v) R d live_R (λ l. let k = count-at l C turn at v x c other in let a = apart l in omega (arith, k, a)) in (
+      D,
+      alike,
+      record {
+        path = on.2;
+        fits = on.0;
+        apart = λ l. let k = count-at l D turn r v x c other in let a : occurs l (r ∷ links_of es') + (sides l C + (count l v + count l other)) ≤ 1 = A l in let i = sides-SameButLinks l C D alike in
+            let j : occurs l (r ∷ links_of (entries D)) ≡ occurs l (r ∷ links_of es') = ap (λ (z : List (Link × Turn)). occurs l (r ∷ links_of z)) on.2 in omega (arith, k, a, i, j);
+        root = d.from_root (sp.root ∙ top-plug C T at (top-node_at turn at s x c other)) ∙ sym on.1;
+      },
+    )
+
+-- what one change does: v hangs in the place of s
+pub child-replaced : (n m : Nodes) (es es' : List (Link × Turn)) (at r : Link) (turn : Turn) (to : Option Link) (C : List Frame) (x : ℕ) (c : Colour) (other s v : Tree)
+    → Changes n m es es' at r turn to → Spot n es C (node_at turn at s x c other) → to ≡ top v → Fits (live n) v → IsApart (plug C (node_at turn at v x c other))
+    → Replaced m es' C (node_at turn r v x c other)
+child-replaced n m es es' at r turn to C x c other s v d sp e q apart =
+    child-replaced-by n m es' at r turn C x c other s v
+    (subst (λ (z : List (Link × Turn) × Option Link). Changes n m z.0 es' at r turn z.1) (λ i. (sym sp.path i, e i)) d)
+    (record { path = refl; fits = sp.fits; apart = sp.apart; root = sp.root }) q apart
+
+pub node-child : (f : Reading) (turn : Turn) (l : Link) (t : Tree) (x : ℕ) (c : Colour) (other : Tree) → Fits f (node_at turn l t x c other) → (y : Row) × (f l ≡ Some y) × (child_of turn y ≡ top t)
+node-child f Left l t x c other p = (_, p.0, refl)
+node-child f Right l t x c other p = (_, p.0, refl)
+
+leads-of : (f : Reading) (C : List Frame) (t : Tree) (at : Link) → Fits f (plug C t) → top t ≡ Some at → (y : Row) × (f at ≡ Some y) → Leads f (entries C) at
+leads-of f [] t at p e h = h
+leads-of f (fr ∷ C) t at p e h =
+    let k = node-child f fr.turn fr.link (plug C t) fr.item fr.colour fr.other p in
+    ((k.0, k.1, k.2 ∙ top-plug C t at e), leads-of f C t at (inner f fr.turn fr.link (plug C t) fr.item fr.colour fr.other p).0 e h)
+
+-- a node of the tree can be changed
+can-change-by : (n : Nodes) (C : List Frame) (turn : Turn) (at : Link) (s : Tree) (x : ℕ) (c : Colour) (other : Tree) (o : Option Link)
+    → Spot n (entries C) C (node_at turn at s x c other) → IsLiveOrNone n o → CanChange n (entries C) at o
+can-change-by n C turn at s x c other o sp t =
+    let T = node_at turn at s x c other in let e = top-node_at turn at s x c other in
+    record {
+      leads = leads-of (live n) C T at sp.fits e (node-row (live n) turn at s x c other (fits-end (live n) C T sp.fits));
+      once = occurs-once (at ∷ links_of (entries C)) (λ l. let k = count-at l C turn at s x c other in let a = sp.apart l in omega (arith, k, a));
+      from = inl (sp.root ∙ top-plug C T at e);
+      to = t;
+    }
+
+pub can-change : (n : Nodes) (es : List (Link × Turn)) (C : List Frame) (turn : Turn) (at : Link) (s : Tree) (x : ℕ) (c : Colour) (other : Tree) (o : Option Link)
+    → Spot n es C (node_at turn at s x c other) → IsLiveOrNone n o → CanChange n es at o
+can-change n es C turn at s x c other o sp t =
+    subst (λ (z : List (Link × Turn)). CanChange n z at o) sp.path (can-change-by n C turn at s x c other o (record { path = refl; fits = sp.fits; apart = sp.apart; root = sp.root }) t)
+
+pub top-live : (n : Nodes) (v : Tree) (o : Option Link) → Fits (live n) v → o ≡ top v → IsLiveOrNone n o
+top-live n leaf o p e = λ l q. let r : None ≡ Some l = sym e ∙ q in cc
+top-live n (node k a x c b) o p e = λ l q. subst (λ (z : Link). (y : Row) × (live n z ≡ Some y)) (some-link k l (sym e ∙ q)) (_, p.0)
+
+-- the frame of an entry
+abbrev pub frame_of : Link × Turn → ℕ → Colour → Tree → Frame
+frame_of e x c other = record { link = e.0; turn = e.1; item = x; colour = c; other = other }
+
+-- a path without its last entry
+pub record Popped (n : Nodes) (es : List (Link × Turn)) (e : Link × Turn) (C : List Frame) (t : Tree) : Type 0 where
+  pub front : List Frame
+  pub item : ℕ
+  pub colour : Colour
+  pub other : Tree
+  pub is : C ≡ front ++ frame_of e item colour other ∷ []
+  pub spot : Spot n es front (node_at e.1 e.0 t item colour other)
+
+pub popped : (n : Nodes) (ps es : List (Link × Turn)) (e : Link × Turn) (C : List Frame) (t : Tree) → Spot n ps C t → ps ≡ es ++ e ∷ [] → Popped n es e C t
+popped n ps es e C t sp q =
+    let k = split-last C es e (sp.path ∙ q) in let fr = k.frame in
+    let same_tree : plug C t ≡ plug k.front (under fr t) = ap (λ D. plug D t) k.is ∙ plug-snoc k.front fr t in
+    let F : Link × Turn → Type 0 = λ d. (C ≡ k.front ++ frame_of d fr.item fr.colour fr.other ∷ []) × Spot n es k.front (node_at d.1 d.0 t fr.item fr.colour fr.other) in
+    let there : F (fr.link, fr.turn) = (
+      k.is,
+      record {
+        path = k.remaining;
+        fits = subst (λ (z : Tree). Fits (live n) z) same_tree sp.fits;
+        apart = subst (λ (z : Tree). IsApart z) same_tree sp.apart;
+        root = sp.root ∙ ap top same_tree;
+      },
+    ) in
+    let r = subst F k.entry there in
+    record { front = k.front; item = fr.item; colour = fr.colour; other = fr.other; is = r.0; spot = r.1 }
+
+pub entries-snoc : (C : List Frame) (fr : Frame) → entries (C ++ fr ∷ []) ≡ entries C ++ (fr.link, fr.turn) ∷ []
+entries-snoc [] fr = refl
+entries-snoc (gr ∷ C) fr = ap (λ z. (gr.link, gr.turn) ∷ z) (entries-snoc C fr)
+
+-- a path with one more entry
+pub pushed : (n : Nodes) (es : List (Link × Turn)) (e : Link × Turn) (C : List Frame) (t : Tree) (x : ℕ) (c : Colour) (other : Tree) → Spot n es C (node_at e.1 e.0 t x c other) → Spot n (es ++ e ∷ []) (C ++ frame_of e x c other ∷ []) t
+pushed n es e C t x c other sp =
+    let fr = frame_of e x c other in let same_tree = plug-snoc C fr t in
+    record {
+      path = entries-snoc C fr ∙ ap (λ z. z ++ e ∷ []) sp.path;
+      fits = subst (λ (z : Tree). Fits (live n) z) (sym same_tree) sp.fits;
+      apart = subst (λ (z : Tree). IsApart z) (sym same_tree) sp.apart;
+      root = sp.root ∙ ap top (sym same_tree);
+    }
+
+pub pushed-replaced : (n : Nodes) (es : List (Link × Turn)) (l l' : Link) (turn : Turn) (C : List Frame) (t : Tree) (x : ℕ) (c : Colour) (other : Tree) → Replaced n es C (node_at turn l' t x c other) → Replaced n (es ++ (l', turn) ∷ []) (C ++ frame_of (l, turn) x c other ∷ []) t
+pushed-replaced n es l l' turn C t x c other m =
+    (m.0 ++ frame_of (l', turn) x c other ∷ [], SameButLinks-snoc C m.0 (frame_of (l, turn) x c other) (frame_of (l', turn) x c other) m.1 (refl, refl, refl, refl, tt), pushed n es (l', turn) m.0 t x c other m.2)
+
+pub length-SameButLinks : (C D : List Frame) → SameButLinks C D → length (entries D) ≡ length (entries C)
+length-SameButLinks [] [] p = refl
+length-SameButLinks [] (gr ∷ D) p = absurd p
+length-SameButLinks (fr ∷ C) [] p = absurd p
+length-SameButLinks (fr ∷ C) (gr ∷ D) p = let q = length-SameButLinks C D p.4 in omega (arith, q)
+
+-- a path has as many entries under its new links
+pub length-carried : (f g : Reading) (es es' : List (Link × Turn)) (r : Link) → Carried f g es es' r → length es' ≡ length es
+length-carried f g [] [] r k = refl
+length-carried f g [] (e' ∷ es') r k = absurd k
+length-carried f g (e ∷ es) [] r k = absurd k
+length-carried f g (e ∷ es) (e' ∷ es') r k = let q = length-carried f g es es' r k.2 in omega (arith, q)
+
+pub no-frames : (C : List Frame) → entries C ≡ [] → C ≡ []
+no-frames [] e = refl
+no-frames (fr ∷ C) e = cc
+
+-- the whole tree is exchanged
+pub root-put : (n m : Nodes) (C : List Frame) (s v : Tree) (o : Option Link) → CanTransplant n [] C s v o → Roots n m o → Replaced m [] C v
+root-put n m C s v o h d =
+    let e = no-frames C h.spot.path in
+    let l : (k : Link) → live n k ≡ live m k = λ k i. cond (sym (d.current k) i) (sym (d.rows k) i) None in
+    subst (λ (D : List Frame). Replaced m [] D v) (sym e) (
+      [],
+      tt,
+      record {
+        path = refl;
+        fits = stays (live n) (live m) [] (λ k _ y q. sym (l k) ∙ q) v (Avoids-nil v) h.fits;
+        apart = subst (λ (D : List Frame). IsApart (plug D v)) e h.apart;
+        root = d.root ∙ h.to;
+      },
+    )
+
+-- what hangs at the end of a path is exchanged
+pub transplanted : (n m : Nodes) (ps es es' : List (Link × Turn)) (at r : Link) (turn : Turn) (o : Option Link) (C : List Frame) (s v : Tree)
+    → ps ≡ es ++ (at, turn) ∷ [] → Changes n m es es' at r turn o → CanTransplant n ps C s v o → Replaced m (es' ++ (r, turn) ∷ []) C v
+transplanted n m ps es es' at r turn o C s v q d h =
+    let k = popped n ps es (at, turn) C s h.spot q in
+    let fr = frame_of (at, turn) k.item k.colour k.other in
+    let same_tree : plug C v ≡ plug k.front (under fr v) = ap (λ D. plug D v) k.is ∙ plug-snoc k.front fr v in
+    let mv = child-replaced n m es es' at r turn o k.front k.item k.colour k.other s v d k.spot h.to h.fits (subst (λ (z : Tree). IsApart z) same_tree h.apart) in
+    subst (λ (D : List Frame). Replaced m (es' ++ (r, turn) ∷ []) D v) (sym k.is) (pushed-replaced m es' at r turn k.front v k.item k.colour k.other mv)
+
+-- a path from which nothing was taken
+pub no-entries : (ps : List (Link × Turn)) → (0 < length ps → false ≡ true) → ps ≡ []
+no-entries [] h = refl
+no-entries (p ∷ ps) h = let e : false ≡ true = h (omega arith) in cc

@@ -1,0 +1,135 @@
+-- The next item takes the place of one that is taken out.
+use Rattle.std.proofs.Common.{◌≡◌, ℕ, List, [], ◌∷◌, ◌++◌, refl, sym, ap, ◌∙◌, subst, ◌+◌, ◌^◌, ◌≤◌, ◌<◌, ◌*◌, arith, Some, None, inl, inr, append_assoc, append-nil, length, length-append, take, Option}
+use Rattle.std.proofs.lemmas.List.{take_at}
+use Rattle.loc_rb.proofs.ReadCalls.{child-is, node-has-row}
+use Rattle.loc_pool.specs.declared.Link.{Link}
+use Rattle.loc_pool.specs.declared.Turn.{Turn}
+use Rattle.loc_pool.specs.declared.Turn.TheVariants.{Left, Right}
+use Rattle.loc_pool.specs.declared.Colour.{Colour}
+use Rattle.loc_pool.specs.declared.Colour.TheVariants.{Red}
+use Rattle.loc_rb.specs.Trees.{Row, Tree, leaf, node, top, items, Fits, Frame, plug, child_of, before, after, SameButLinks}
+use Rattle.loc_rb.specs.Nodes.{Nodes, live, HasRow}
+use Rattle.loc_rb.specs.Balance.{IsRedBlack, depth}
+use Rattle.loc_rb.specs.Places.{Spot, LeadsTo, LeadsToGap}
+use Rattle.loc_rb.specs.Steps.{NodeAt, LeftmostPath, ToSpliceOut, Replaced}
+use Rattle.loc_rb.proofs.Trees.{fits-end, plug-snoc, items-plug}
+use Rattle.loc_rb.proofs.OneChange.{pushed, frame_of, live-rows}
+use Rattle.loc_rb.proofs.Balanced.{taken-by, takes-plug, takes-SameButLinks, may-be, may-hang}
+use Rattle.loc_rb.proofs.ItemLists.{before-SameButLinks, after-SameButLinks}
+use Rattle.loc_rb.proofs.Descent.{at-most-42, bounded, pow_le, depth-plug, before-right, after-right}
+
+-- how many items a tree has, by a place in it
+leads-size : (n : Nodes) (es : List (Link × Turn)) (at : Link) (L : List ℕ) (x : ℕ) (H : List ℕ) → (p : LeadsTo n es at L x H) → length (items (plug p.frames (node at p.left x p.colour p.right))) ≡ length L + length H + 1
+leads-size n es at L x H p =
+    let T = node at p.left x p.colour p.right in
+    let a = ap length (items-plug p.frames T) in let b = length-append (before p.frames) (items T ++ after p.frames) in let c = length-append (items T) (after p.frames) in let d = length-append (items p.left) (x ∷ items p.right) in
+    let e = ap length p.low in let f = length-append (before p.frames) (items p.left) in let i = ap length p.high in let j = length-append (items p.right) (after p.frames) in omega (arith, a, b, c, d, e, f, i, j)
+
+-- how long the path to it is
+leads-deep : (n : Nodes) (es : List (Link × Turn)) (at : Link) (L : List ℕ) (x : ℕ) (H : List ℕ) → (p : LeadsTo n es at L x H) → length es + depth (node at p.left x p.colour p.right) ≤ depth (plug p.frames (node at p.left x p.colour p.right))
+leads-deep n es at L x H p = let m = depth-plug p.frames (node at p.left x p.colour p.right) in let q = ap length p.spot.path in omega (arith, m, q)
+
+pub leads-short : (n : Nodes) (es : List (Link × Turn)) (at : Link) (L : List ℕ) (x : ℕ) (H : List ℕ) → (p : LeadsTo n es at L x H) → length L + length H < 2 ^ 21 → length es + depth (node at p.left x p.colour p.right) ≤ 42
+leads-short n es at L x H p h =
+    let s = leads-size n es at L x H p in let d = leads-deep n es at L x H p in
+    let k = at-most-42 (plug p.frames (node at p.left x p.colour p.right)) p.balanced (omega (arith, s, h)) in omega (arith, k, d)
+
+-- the bound on paths for a place, and for a gap
+pub leads-bounded : (n : Nodes) (es : List (Link × Turn)) (at : Link) (L : List ℕ) (x : ℕ) (H : List ℕ) → LeadsTo n es at L x H → 2 ^ (length es + 1) ≤ (length L + length H + 2) * (length L + length H + 2)
+leads-bounded n es at L x H p =
+    let T = plug p.frames (node at p.left x p.colour p.right) in
+    let s = leads-size n es at L x H p in let d = leads-deep n es at L x H p in let e : length (items T) + 1 ≡ length L + length H + 2 = omega (arith, s) in
+    let w = pow_le (length es + 1) (depth T) (omega (arith, d)) in let b = subst (λ (i : ℕ). 2 ^ depth T ≤ i * i) e (bounded T p.balanced) in omega (arith, w, b)
+
+pub gap-bounded : (n : Nodes) (es : List (Link × Turn)) (L H : List ℕ) → LeadsToGap n es L H → 2 ^ length es ≤ (length L + length H + 1) * (length L + length H + 1)
+gap-bounded n es L H p =
+    let T = plug p.frames leaf in
+    let a = ap length (items-plug p.frames leaf) in let b = length-append (before p.frames) (after p.frames) in let l = ap length p.low in let h = ap length p.high in
+    let e : length (items T) + 1 ≡ length L + length H + 1 = omega (arith, a, b, l, h) in
+    let m = depth-plug p.frames leaf in let q = ap length p.spot.path in
+    let w = pow_le (length es) (depth T) (omega (arith, m, q)) in let c = subst (λ (i : ℕ). 2 ^ depth T ≤ i * i) e (bounded T p.balanced) in omega (arith, w, c)
+
+-- the path to the right child
+abbrev pub right_frames : List Frame → Link → ℕ → Colour → Tree → List Frame
+right_frames C at x c a = C ++ frame_of (at, Right) x c a ∷ []
+
+pub right-spot : (n : Nodes) (ps es : List (Link × Turn)) (C : List Frame) (at : Link) (a : Tree) (x : ℕ) (c : Colour) (b : Tree) → Spot n es C (node at a x c b) → ps ≡ es ++ (at, Right) ∷ [] → Spot n ps (right_frames C at x c a) b
+right-spot n ps es C at a x c b sp q = subst (λ (z : List (Link × Turn)). Spot n z (right_frames C at x c a) b) (sym q) (pushed n es (at, Right) C b x c a sp)
+
+-- where the search of the right child's first node begins
+pub right-start : (n : Nodes) (es ps : List (Link × Turn)) (at right : Link) (L : List ℕ) (x : ℕ) (H : List ℕ) (answer : Option Link) → (p : LeadsTo n es at L x H) → ((y : Row) → n.rows at ≡ Some y → answer ≡ child_of Right y) → answer ≡ Some right
+    → ps ≡ es ++ (at, Right) ∷ [] → Spot n ps (right_frames p.frames at x p.colour p.left) p.right × (top p.right ≡ Some right)
+right-start n es ps at right L x H answer p h e q =
+    let f = fits-end (live n) p.frames (node at p.left x p.colour p.right) p.spot.fits in
+    (right-spot n ps es p.frames at p.left x p.colour p.right p.spot q, sym (child-is n Right at p.right x p.colour p.left answer f h) ∙ e)
+
+pub leads-row : (n : Nodes) (es : List (Link × Turn)) (at : Link) (L : List ℕ) (x : ℕ) (H : List ℕ) → LeadsTo n es at L x H → HasRow n at
+leads-row n es at L x H p = node-has-row n Left at p.left x p.colour p.right (fits-end (live n) p.frames (node at p.left x p.colour p.right) p.spot.fits)
+
+-- a path that is cut to its old length is what it was
+pub cut-back : (es ps qs ts rs : List (Link × Turn)) (e : Link × Turn) (k : ℕ) → ps ≡ es ++ e ∷ [] → qs ≡ ps ++ rs → ts ≡ take k qs → k ≡ length es → ts ≡ es
+cut-back es ps qs ts rs e k p q t l = t ∙ ap (λ z. take k z) (q ∙ ap (λ z. z ++ rs) p ∙ append_assoc es (e ∷ []) rs) ∙ take_at es (e ∷ rs) k (sym l)
+
+-- the node whose item is to be exchanged, after that
+abbrev pub back-node : (n : Nodes) (es ts : List (Link × Turn)) (at : Link) (L : List ℕ) (x : ℕ) (H : List ℕ) → LeadsTo n es at L x H → ts ≡ es → NodeAt n ts at
+back-node n es ts at L x H p e = record {
+  frames = p.frames;
+  left = p.left;
+  item = x;
+  colour = p.colour;
+  right = p.right;
+  spot = subst (λ (z : List (Link × Turn)). Spot n z p.frames (node at p.left x p.colour p.right)) (sym e) p.spot;
+}
+
+pub right-short : (at : Link) (a : Tree) (x : ℕ) (c : Colour) (b : Tree) (i : ℕ) → i + depth (node at a x c b) ≤ 42 → (i + 1) + depth b ≤ 43
+right-short at a x c b i h = omega (arith, h)
+
+-- the node to which the path went down
+pub next-row : (n : Nodes) (ps : List (Link × Turn)) (C : List Frame) (t : Tree) (next : Link) (v : ℕ) (c : Colour) (w : Tree) → (d : LeftmostPath n ps C t next) → d.tree ≡ node next leaf v c w → (y : Row) × (n.rows next ≡ Some y) × (y.item ≡ v)
+next-row n ps C t next v c w d e = let f = subst (λ (z : Tree). Fits (live n) z) e (fits-end (live n) d.frames d.tree d.spot.fits) in (_, (live-rows n next _ f.0).0, refl)
+
+tail-of : (a b : ℕ) (xs ys : List ℕ) → a ∷ xs ≡ b ∷ ys → xs ≡ ys
+tail-of a b xs ys e = cc
+
+same-shape : (n : Nodes) (es : List (Link × Turn)) (at at' : Link) (L : List ℕ) (x y : ℕ) (H : List ℕ) (D : List Frame) → (p : LeadsTo n es at L x H) → SameButLinks p.frames D → IsRedBlack (plug D (node at' p.left y p.colour p.right))
+same-shape n es at at' L x y H D p s =
+    let t = taken-by Red p.balanced.1.0 p.frames (node at p.left x p.colour p.right) p.balanced.0 p.balanced.1.1 in
+    let q = takes-plug Red p.balanced.1.0 D t.d t.k (node at' p.left y p.colour p.right) (takes-SameButLinks Red p.balanced.1.0 p.frames D t.d t.k s t.takes)
+    (may-hang t.d Left at' p.left y p.colour p.right (may-be t.d Left at p.left x p.colour p.right t.may)) t.sub in
+    (q.0, (p.balanced.1.0, q.1))
+
+pub successor-put : (n m : Nodes) (es ps fs qs : List (Link × Turn)) (at at' next last : Link) (L : List ℕ) (x item : ℕ) (H : List ℕ) → (p : LeadsTo n es at L x H) → (mv : Replaced m fs p.frames (node at' p.left item p.colour p.right))
+    → (d : LeftmostPath n ps (right_frames p.frames at x p.colour p.left) p.right next) → (v : ℕ) (c : Colour) (w : Tree) → d.tree ≡ node next leaf v c w → item ≡ v
+    → (d' : LeftmostPath m qs (right_frames mv.0 at' item p.colour p.left) p.right last) → (v' : ℕ) (c' : Colour) (w' : Tree) → d'.tree ≡ node last leaf v' c' w' → ToSpliceOut m qs last (L ++ H)
+successor-put n m es ps fs qs at at' next last L x item H p mv d v c w e iv d' v' c' w' e' =
+    let D = mv.0 in let bf = before p.frames in let il = items p.left in
+    let remaining = items w ++ after d.frames in
+    let h1 : item ∷ remaining ≡ H = (λ i. iv i ∷ remaining) ∙ ap (λ t. items t ++ after d.frames) (sym e) ∙ d.high ∙ ap (λ z. items p.right ++ z) (after-right p.frames at x p.colour p.left) ∙ p.high in
+    let h2 : v' ∷ (items w' ++ after d'.frames) ≡ H = ap (λ t. items t ++ after d'.frames) (sym e') ∙ d'.high ∙ ap (λ z. items p.right ++ z) (after-right D at' item p.colour p.left ∙ after-SameButLinks p.frames D mv.1) ∙ p.high in
+    let tail : items w' ++ after d'.frames ≡ remaining = tail-of v' item (items w' ++ after d'.frames) remaining (h2 ∙ sym h1) in
+    let low : before d'.frames ≡ bf ++ (il ++ item ∷ []) = d'.low ∙ before-right D at' item p.colour p.left ∙ ap (λ z. z ++ (il ++ item ∷ [])) (before-SameButLinks p.frames D mv.1) in
+    let shape = same-shape n es at at' L x item H D p mv.1 in
+    let whole : plug d'.frames (node last leaf v' c' w') ≡ plug D (node at' p.left item p.colour p.right) = ap (plug d'.frames) (sym e') ∙ d'.same ∙ plug-snoc D (frame_of (at', Right) item p.colour p.left) p.right in
+    record {
+      low = before d'.frames ++ [];
+      item = v';
+      high = items w' ++ after d'.frames;
+      place = record { frames = d'.frames; left = leaf; colour = c'; right = w'; spot = subst (λ (t : Tree). Spot m qs d'.frames t) e' d'.spot; balanced = subst (λ (t : Tree). IsRedBlack t) (sym whole) shape; low = refl; high = refl };
+      spare = inl refl;
+      list = (λ i. append-nil (before d'.frames) i ++ tail i) ∙ ap (λ z. z ++ remaining) low ∙ append_assoc bf (il ++ item ∷ []) remaining ∙ ap (λ z. bf ++ z) (append_assoc il (item ∷ []) remaining) ∙ sym (append_assoc bf il (item ∷ remaining)) ∙ (λ i. p.low i ++ h1 i);
+    }
+
+no-child : (t : Tree) → top t ≡ None → t ≡ leaf
+no-child leaf e = refl
+no-child (node l a x c b) e = cc
+
+pub no-left : (n : Nodes) (es : List (Link × Turn)) (at : Link) (L : List ℕ) (x : ℕ) (H : List ℕ) → (p : LeadsTo n es at L x H) → top p.left ≡ None → ToSpliceOut n es at (L ++ H)
+no-left n es at L x H p e = record { low = L; item = x; high = H; place = p; spare = inl (no-child p.left e); list = refl }
+
+pub no-right : (n : Nodes) (es : List (Link × Turn)) (at : Link) (L : List ℕ) (x : ℕ) (H : List ℕ) → (p : LeadsTo n es at L x H) → top p.right ≡ None → ToSpliceOut n es at (L ++ H)
+no-right n es at L x H p e = record { low = L; item = x; high = H; place = p; spare = inr (no-child p.right e); list = refl }
+
+pub splice-short : (n : Nodes) (es : List (Link × Turn)) (at : Link) (K L H : List ℕ) → (q : ToSpliceOut n es at K) → K ≡ L ++ H → length L + length H < 2 ^ 21 → length es ≤ 42
+splice-short n es at K L H q e h =
+    let a = ap length (q.list ∙ e) in let b = length-append q.low q.high in let c = length-append L H in
+    let s = leads-short n es at q.low q.item q.high q.place (omega (arith, a, b, c, h)) in omega (arith, s)

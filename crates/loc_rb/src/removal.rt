@@ -1,0 +1,264 @@
+//! Removal: the successor takes the place of a node with two children, a node with one child at most is spliced out, and
+//! then the way up: a red sibling rises first, a black one with a red child rises and ends it, another becomes red.
+//! At most 3 + 1 + 3 + 6 changes.
+ghost use Rattle.std.specs.Prelude.{◌≡◌, ◌≤◌, ◌<◌, ◌+◌, ◌^◌, ℕ, List, [], ◌∷◌, ◌++◌, length, Some, IsTrue, not};
+ghost use Rattle.loc_pool.specs.declared.Link.{Link};
+ghost use Rattle.loc_pool.specs.declared.Turn.{Turn};
+ghost use Rattle.loc_pool.specs.declared.Colour.{Colour};
+ghost use Rattle.loc_pool.specs.declared.Colour.TheVariants.{Red, Black};
+ghost use Rattle.loc_rb.specs.Trees.{Row, Tree, Frame, Fits, top, leaf, node, node_at};
+ghost use Rattle.loc_rb.specs.Nodes.{live, IsLive, IsOld, KeepsItems, Within};
+ghost use Rattle.loc_rb.specs.Balance.{IsBlackTop, depth};
+ghost use Rattle.loc_rb.specs.Places.{Spot, Holds, LeadsTo};
+ghost use Rattle.loc_rb.specs.Steps.{NodeAt, Replaced, IsRedTop, LacksBlack, Uneven, Siblings, ToSpliceOut, LeftmostPath, remaining};
+
+use crate::links::{Links, Path, push};
+use crate::steps::{other_side, red_child, rotate, transplant};
+use loc_pool::{Colour, Link, Turn};
+
+/// Takes out the item of the node `at`, to which the path leads. Takes no memory: the room was taken before.
+pub fn remove<K: Links>(links: &mut K, path: Path, at: Link)
+    requires room { 640 ≤ (K.nodes links.old).spare }
+    requires place { (L : List ℕ) × (x : ℕ) × (H : List ℕ) × LeadsTo (K.nodes links.old) path.items at L x H × (length L + length H < 2 ^ 21) }
+    ensures tree { (L : List ℕ) (x : ℕ) (H : List ℕ) → LeadsTo (K.nodes links.old) path.items at L x H → Holds (K.nodes links.new) (L ++ H) }
+    ensures made { (K.nodes links.new).made ≤ (K.nodes links.old).made + 1 }
+    ensures changed { (K.nodes links.new).changed ≤ (K.nodes links.old).changed + 13 }
+    ensures kept { (K.nodes links.new).kept ≡ (K.nodes links.old).kept }
+    ensures items { KeepsItems (K.nodes links.old) (K.nodes links.new) }
+{
+    let mut path = path;
+    let last = put_successor(links, &mut path, at);
+    splice_out(links, &mut path, last);
+}
+
+/// Where `at` has two children, a new node with the next item takes its place. Answers the node that is to be spliced
+/// out, to which the path leads, and which has a child at most.
+fn put_successor<K: Links>(links: &mut K, path: &mut Path, at: Link) -> Link
+    requires room { 136 ≤ (K.nodes links.old).spare }
+    requires place { (L : List ℕ) × (x : ℕ) × (H : List ℕ) × LeadsTo (K.nodes links.old) path.old.items at L x H × (length L + length H < 2 ^ 21) }
+    ensures tree { (L : List ℕ) (x : ℕ) (H : List ℕ) → LeadsTo (K.nodes links.old) path.old.items at L x H → ToSpliceOut (K.nodes links.new) path.new.items result (L ++ H) }
+    ensures within { (k : ℕ) × (k ≤ 1) × Within k 3 (K.nodes links.old) (K.nodes links.new) }
+    ensures short { length path.new.items ≤ 42 }
+{
+    match links.child(at, Turn::Left) {
+        None => at,
+        Some(_) => match links.child(at, Turn::Right) {
+            None => at,
+            Some(right) => {
+                let depth = path.len();
+                push(path, at, Turn::Right);
+                let next = minimum(links, path, right);
+                let item = links.item(next);
+                path.truncate(depth);
+                let at = replace_node(links, path, at, item);
+                push(path, at, Turn::Right);
+                minimum(links, path, right)
+            }
+        },
+    }
+}
+
+/// Goes on to the first node of the tree of `start`, to which the path leads.
+fn minimum<K: Links>(links: &K, path: &mut Path, start: Link) -> Link
+    requires place { (C : List Frame) × (t : Tree) × Spot (K.nodes links.now) path.old.items C t × (top t ≡ Some start) × (length path.old.items + depth t ≤ 43) }
+    ensures tree { (C : List Frame) (t : Tree) → Spot (K.nodes links.now) path.old.items C t → top t ≡ Some start
+        → (d : LeftmostPath (K.nodes links.now) path.new.items C t result) × (a : ℕ) × (c : Colour) × (b : Tree) × (d.tree ≡ node result leaf a c b) }
+    ensures longer { (remaining : List (Link × Turn)) × (path.new.items ≡ path.old.items ++ remaining) }
+{
+    let mut at = start;
+    'down: while let Some(next) = links.child(at, Turn::Left) {
+        push(path, at, Turn::Left);
+        at = next;
+    }
+    at
+}
+
+/// A new node takes the place of `at`, with another item.
+fn replace_node<K: Links>(links: &mut K, path: &mut Path, at: Link, item: u32) -> Link
+    requires room { 136 ≤ (K.nodes links.old).spare }
+    requires short { length path.old.items ≤ 44 }
+    requires old { IsOld (K.nodes links.old) item }
+    requires place { NodeAt (K.nodes links.old) path.old.items at }
+    ensures tree { (p : NodeAt (K.nodes links.old) path.old.items at) → Replaced (K.nodes links.new) path.new.items p.frames (node result p.left item p.colour p.right) }
+    ensures within { Within 1 3 (K.nodes links.old) (K.nodes links.new) }
+    ensures length { length path.new.items ≡ length path.old.items }
+{
+    let left = links.child(at, Turn::Left);
+    let right = links.child(at, Turn::Right);
+    let colour = links.colour(at);
+    let bare = links.make(item, colour);
+    let mut none = Path::new();
+    let half = links.change(&mut none, bare, Turn::Left, left);
+    let mut none = Path::new();
+    let new = links.change(&mut none, half, Turn::Right, right);
+    transplant(links, path, Some(new));
+    new
+}
+
+/// Splices out `at`, which has a child at most.
+fn splice_out<K: Links>(links: &mut K, path: &mut Path, at: Link)
+    requires room { 450 ≤ (K.nodes links.old).spare }
+    requires short { length path.old.items ≤ 42 }
+    requires place { (L : List ℕ) × ToSpliceOut (K.nodes links.old) path.old.items at L }
+    ensures tree { (L : List ℕ) → ToSpliceOut (K.nodes links.old) path.old.items at L → Holds (K.nodes links.new) L }
+    ensures within { Within 0 10 (K.nodes links.old) (K.nodes links.new) }
+{
+    let child = only_child(links, at);
+    let colour = links.colour(at);
+    transplant(links, path, child);
+    match colour {
+        Colour::Red => (),
+        Colour::Black => match child {
+            Some(child) => links.set_colour(child, Colour::Black),
+            None => fix_removal(links, path),
+        },
+    }
+}
+
+/// The child of a node that has one at most.
+fn only_child<K: Links>(links: &K, at: Link) -> Option<Link>
+    requires { (a : Tree) × (x : ℕ) × (c : Colour) × (b : Tree) × Fits (live (K.nodes links.now)) (node at a x c b) }
+    ensures { (a : Tree) (x : ℕ) (c : Colour) (b : Tree) → Fits (live (K.nodes links.now)) (node at a x c b) → result ≡ top (remaining a b) }
+{
+    match links.child(at, Turn::Left) {
+        None => links.child(at, Turn::Right),
+        Some(left) => Some(left),
+    }
+}
+
+/// The tree at the end of the path lacks one black node on each way down.
+fn fix_removal<K: Links>(links: &mut K, path: &mut Path)
+    requires room { 405 ≤ (K.nodes links.old).spare }
+    requires short { length path.old.items ≤ 42 }
+    requires place { (L : List ℕ) × LacksBlack (K.nodes links.old) path.old.items L }
+    ensures tree { (L : List ℕ) → LacksBlack (K.nodes links.old) path.old.items L → Holds (K.nodes links.new) L }
+    ensures within { Within 0 9 (K.nodes links.old) (K.nodes links.new) }
+{
+    'up: while let Some((at, turn)) = path.pop() {
+        match red_child(links, at, other_side(turn)) {
+            Some(sibling) => {
+                let low = rotate_red_sibling(links, path, at, turn, sibling);
+                fix_black_sibling(links, path, low, turn);
+                return;
+            }
+            None => {
+                if fix_black_sibling(links, path, at, turn) {
+                    return;
+                }
+            }
+        }
+    }
+}
+
+/// The sibling is red: it rises over `at`, which becomes red and has a black sibling then.
+/// Answers the link of `at` from then on.
+fn rotate_red_sibling<K: Links>(
+    links: &mut K,
+    path: &mut Path,
+    at: Link,
+    turn: Turn,
+    sibling: Link,
+) -> Link
+    requires room { 135 ≤ (K.nodes links.old).spare }
+    requires short { length path.old.items ≤ 42 }
+    requires place { (L : List ℕ) × (u : Uneven (K.nodes links.old) path.old.items at turn L) × IsRedTop sibling u.other }
+    ensures tree { (L : List ℕ) (u : Uneven (K.nodes links.old) path.old.items at turn L) → IsRedTop sibling u.other
+        → (v : Uneven (K.nodes links.new) path.new.items result turn L) × IsBlackTop v.other × (v.colour ≡ Red) }
+    ensures within { Within 0 3 (K.nodes links.old) (K.nodes links.new) }
+    ensures length { length path.new.items ≡ length path.old.items + 1 }
+{
+    push(path, at, other_side(turn));
+    let (low, high) = rotate(links, path, sibling, Colour::Red, Colour::Black);
+    push(path, high, turn);
+    low
+}
+
+/// The child of `at` on that side lacks a black node, and its sibling is black.
+/// Answers whether the tree is red-black again: else the tree of `at` lacks a black node.
+fn fix_black_sibling<K: Links>(links: &mut K, path: &mut Path, at: Link, turn: Turn) -> bool
+    requires room { 270 ≤ (K.nodes links.old).spare }
+    requires short { length path.old.items ≤ 42 }
+    requires place { (L : List ℕ) × (u : Uneven (K.nodes links.old) path.old.items at turn L) × IsBlackTop u.other }
+    ensures tree { (L : List ℕ) (u : Uneven (K.nodes links.old) path.old.items at turn L) → IsBlackTop u.other
+        → (IsTrue result → Holds (K.nodes links.new) L) × (IsTrue (not result) → (u.colour ≡ Black) × LacksBlack (K.nodes links.new) path.new.items L) }
+    ensures within { Within 0 6 (K.nodes links.old) (K.nodes links.new) }
+    ensures still { IsTrue (not result) → Within 0 0 (K.nodes links.old) (K.nodes links.new) }
+    ensures length { IsTrue (not result) → length path.new.items ≡ length path.old.items }
+{
+    match links.child(at, other_side(turn)) {
+        None => true,
+        Some(sibling) => match red_child(links, sibling, other_side(turn)) {
+            Some(far) => {
+                rotate_sibling(links, path, at, turn, sibling, far);
+                true
+            }
+            None => match red_child(links, sibling, turn) {
+                Some(near) => {
+                    rotate_near_nephew(links, path, at, turn, sibling, near);
+                    true
+                }
+                None => recolour_sibling(links, at, sibling),
+            },
+        },
+    }
+}
+
+/// The sibling's far child is red: the sibling rises over `at`.
+fn rotate_sibling<K: Links>(
+    links: &mut K,
+    path: &mut Path,
+    at: Link,
+    turn: Turn,
+    sibling: Link,
+    far: Link,
+)
+    requires room { 135 ≤ (K.nodes links.old).spare }
+    requires short { length path.old.items ≤ 42 }
+    requires place { (L : List ℕ) × (s : Siblings (K.nodes links.old) path.old.items at turn sibling L) × IsRedTop far s.far }
+    ensures tree { (L : List ℕ) (s : Siblings (K.nodes links.old) path.old.items at turn sibling L) → IsRedTop far s.far → Holds (K.nodes links.new) L }
+    ensures within { Within 0 3 (K.nodes links.old) (K.nodes links.new) }
+{
+    let colour = links.colour(at);
+    push(path, at, other_side(turn));
+    rotate(links, path, sibling, Colour::Black, colour);
+    links.set_colour(far, Colour::Black);
+}
+
+/// The sibling's near child is red: it rises over the sibling and over `at`.
+fn rotate_near_nephew<K: Links>(
+    links: &mut K,
+    path: &mut Path,
+    at: Link,
+    turn: Turn,
+    sibling: Link,
+    near: Link,
+)
+    requires room { 270 ≤ (K.nodes links.old).spare }
+    requires short { length path.old.items ≤ 42 }
+    requires place { (L : List ℕ) × (s : Siblings (K.nodes links.old) path.old.items at turn sibling L) × IsRedTop near s.near }
+    ensures tree { (L : List ℕ) (s : Siblings (K.nodes links.old) path.old.items at turn sibling L) → IsRedTop near s.near → Holds (K.nodes links.new) L }
+    ensures within { Within 0 6 (K.nodes links.old) (K.nodes links.new) }
+{
+    let colour = links.colour(at);
+    push(path, at, other_side(turn));
+    push(path, sibling, turn);
+    let (_, middle) = rotate(links, path, near, Colour::Black, Colour::Red);
+    rotate(links, path, middle, Colour::Black, colour);
+}
+
+/// No child of the sibling is red: it becomes red. Answers whether `at` was red, and so has a black to give.
+fn recolour_sibling<K: Links>(links: &mut K, at: Link, sibling: Link) -> bool
+    requires { (es : List (Link × Turn)) × (turn : Turn) × (L : List ℕ) × (s : Siblings (K.nodes links.old) es at turn sibling L) × IsBlackTop s.near × IsBlackTop s.far }
+    ensures tree { (es : List (Link × Turn)) (turn : Turn) (L : List ℕ) (s : Siblings (K.nodes links.old) es at turn sibling L) → IsBlackTop s.near → IsBlackTop s.far
+        → (IsTrue result → Holds (K.nodes links.new) L) × (IsTrue (not result) → (s.colour ≡ Black) × LacksBlack (K.nodes links.new) es L) }
+    ensures within { Within 0 0 (K.nodes links.old) (K.nodes links.new) }
+{
+    links.set_colour(sibling, Colour::Red);
+    match links.colour(at) {
+        Colour::Red => {
+            links.set_colour(at, Colour::Black);
+            true
+        }
+        Colour::Black => false,
+    }
+}

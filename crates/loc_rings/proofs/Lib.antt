@@ -1,0 +1,3 @@
+pub mod Crossings
+pub mod Passes
+pub mod RingLists

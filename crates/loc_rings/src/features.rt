@@ -1,0 +1,50 @@
+// A feature: an id and its rings.
+
+ghost use Rattle.std.specs.Prelude.{◌≡◌, ◌≤◌, length, vec_len};
+
+use crate::rings::Rings;
+use std::marker::Model;
+
+/// An id of at most 200 bytes, and the rings that bound an area.
+#[derive(Drop)]
+pub struct Feature {
+    id: Vec<u8>,
+    rings: Rings,
+}
+
+impl Model for Feature {
+    ghost use Rattle.std.specs.Prelude.{◌≤◌, vec_len};
+    ghost use Rattle.loc_rings.specs.Values.{Feature as FeatureValue};
+
+    ghost Value = { FeatureValue };
+
+    ghost view = { λ f. record { id = f.id.items; rings = f.rings } };
+
+    ghost invariant = { λ f. vec_len f.id ≤ 200 };
+}
+
+impl Feature {
+    /// The feature with this id and these rings.
+    pub fn new(id: Vec<u8>, rings: Rings) -> Feature
+        requires { vec_len id ≤ 200 }
+        ensures id { result.id ≡ id.items }
+        ensures rings { result.rings ≡ rings }
+    {
+        Feature { id, rings }
+    }
+
+    /// The bytes of the id.
+    pub fn id(&self) -> &[u8]
+        ensures value { result.now ≡ self.now.id }
+        ensures short { length result.now ≤ 200 }
+    {
+        self.id.as_slice()
+    }
+
+    /// The rings.
+    pub fn rings(&self) -> &Rings
+        ensures { result.now ≡ self.now.rings }
+    {
+        &self.rings
+    }
+}

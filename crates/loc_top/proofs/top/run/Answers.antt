@@ -1,0 +1,24 @@
+use Rattle.std.proofs.Common.{Some, rules}
+use Rattle.loc_top.proofs.Handing.{hands_when}
+use Rattle.loc_top.proofs.Refusals.{refuses_texts, refused_only, no_count_rose, out_grows}
+use Rattle.loc_top.proofs.top.run.Goals as goal
+
+pub returns-in-Err-clause-refuses_texts : goal.returns-in-Err-clause-refuses_texts
+returns-in-Err-clause-refuses_texts g c = rw c.status.ensures (refuses_texts _ _ _ _ _ _ _ _ _ _ _ c.in-Err.fault (rw c.in-Err.is at c.ended.ensures) (search rules))
+
+pub returns-in-Err-clause-refused_only : goal.returns-in-Err-clause-refused_only
+returns-in-Err-clause-refused_only g c = rw c.status.ensures (refused_only _ _ _ _ _ _ _ _ _ _ _ c.in-Err.fault (rw c.in-Err.is at c.ended.ensures) (search rules))
+
+pub returns-in-Err-clause-no_count_rose : goal.returns-in-Err-clause-no_count_rose
+returns-in-Err-clause-no_count_rose g c = rw c.status.ensures (no_count_rose _ _ _ _ _ _ _ c.in-Err.fault (rw c.in-Err.is at c.ended.ensures))
+
+pub returns-in-Err-clause-out : goal.returns-in-Err-clause-out
+returns-in-Err-clause-out g c = rw c.status.ensures (out_grows _ _ _ _ _ _ _ c.in-Err.fault (rw c.in-Err.is at c.ended.ensures))
+
+pub returns-in-Err-clause-cause : goal.returns-in-Err-clause-cause
+returns-in-Err-clause-cause g c = record {
+  fault = Some c.in-Err.fault;
+  status_is = c.status.ensures;
+  note = search rules;
+  bytes = λ names is. hands_when _ names _ _ _ _ _ _ c.ended.result c.in-Err.fault c.ended.ensures c.in-Err.is is;
+}

@@ -1,0 +1,83 @@
+//! Why a run ends without its answers.
+
+ghost use Rattle.std.specs.Prelude.{◌≡◌, OnOk, OnErr};
+ghost use Rattle.std.specs.Io.KnownBytes.{Appends};
+ghost use Rattle.loc_io.specs.Causes.{HasCause};
+ghost use Rattle.loc_io.specs.Reading.{WroteFront};
+ghost use Rattle.loc_top.specs.Notes.{note_of, status_of};
+
+use crate::notes::{write_conflict_note, write_line_note};
+use loc_geom::{Edge, Meeting};
+use loc_io::{Sink, WriteFault, write_all};
+use loc_spec_text::TextFault;
+use std::alloc::AllocError;
+
+/// The cause of a status other than 0.
+#[derive(Clone, Copy, Debug, PartialEq, Eq, Drop)]
+pub enum RunFault {
+    Words,
+    LayerLong,
+    LayerText { row: u32, fault: TextFault },
+    Conflict { a: Edge, b: Edge, meeting: Meeting },
+    PointsLong,
+    ReadFault,
+    WriteFault,
+    NoMemory,
+}
+
+impl From<AllocError> for RunFault {
+    ghost use Rattle.std.specs.Prelude.{◌≡◌};
+    ghost use Rattle.loc_top.specs.declared.fault.RunFault.TheVariants.{NoMemory};
+
+    ghost from_gives = { λ _ e. e ≡ NoMemory };
+
+    fn from(_: AllocError) -> Self {
+        RunFault::NoMemory
+    }
+}
+
+impl From<loc_io::WriteFault> for RunFault {
+    ghost use Rattle.std.specs.Prelude.{◌≡◌};
+    ghost use Rattle.loc_top.specs.declared.fault.RunFault.TheVariants.{WriteFault};
+
+    ghost from_gives = { λ _ e. e ≡ WriteFault };
+
+    fn from(_: loc_io::WriteFault) -> Self {
+        RunFault::WriteFault
+    }
+}
+
+impl RunFault {
+    pub fn status(&self) -> u8
+        ensures { result ≡ status_of self.now }
+    {
+        match self {
+            RunFault::Words => 2,
+            RunFault::LayerLong
+            | RunFault::LayerText { .. }
+            | RunFault::Conflict { .. }
+            | RunFault::PointsLong => 1,
+            RunFault::ReadFault => 3,
+            RunFault::WriteFault => 4,
+            RunFault::NoMemory => 5,
+        }
+    }
+
+    /// Writes the line of the fault.
+    pub fn write_note<N: Sink>(&self, notes: &mut N) -> Result<(), WriteFault>
+        ensures ok { OnOk result (Appends (N.written notes.old) (N.written notes.new) (note_of self.now)) }
+        ensures err { OnErr result (WroteFront (N.written notes.old) (N.written notes.new) (note_of self.now)) }
+        ensures cause { HasCause (N.faults notes.old) (N.faults notes.new) result }
+    {
+        match self {
+            RunFault::Words => write_all(notes, b"usage: locate query LAYER POINTS --scale K\n"),
+            RunFault::LayerLong => write_all(notes, b"layer: too long\n"),
+            RunFault::LayerText { row, fault } => write_line_note(notes, *row, *fault),
+            RunFault::Conflict { a, b, meeting } => write_conflict_note(notes, *a, *b, *meeting),
+            RunFault::PointsLong => write_all(notes, b"points: too long\n"),
+            RunFault::ReadFault => write_all(notes, b"read failed\n"),
+            RunFault::WriteFault => write_all(notes, b"write failed\n"),
+            RunFault::NoMemory => write_all(notes, b"out of memory\n"),
+        }
+    }
+}

@@ -1,0 +1,16 @@
+//! The top call: what the words ask, from the bytes in to the bytes out.
+#![tactic(auto)]
+
+mod answers;
+mod fault;
+mod notes;
+mod plane;
+mod query;
+#[cfg(test)]
+mod tests;
+mod top;
+
+use fault::RunFault;
+pub use loc_geom::Steps;
+use plane::Plane;
+pub use top::run;

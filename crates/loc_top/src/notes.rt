@@ -1,0 +1,189 @@
+//! The lines on notes, written in parts: each function writes one part and then another. A write takes no memory.
+
+ghost use Rattle.std.specs.Prelude.{◌++◌, codes};
+ghost use Rattle.std.specs.Fmt.{decimal};
+ghost use Rattle.loc_spec_text.specs.Points.{ended, grid_text, position_text};
+ghost use Rattle.loc_top.specs.Notes.{conflict_text, edge_text, edges_text, line_text, meeting_text, text_fault_text};
+ghost use Rattle.loc_top.specs.Writing.{WritesText};
+
+use itoa::Buffer;
+use loc_geom::{Edge, Meeting, Point};
+use loc_io::{Sink, WriteFault, write_all};
+use loc_spec_text::TextFault;
+
+// A text as it is.
+fn write_text<N: Sink>(notes: &mut N, text: &[u8]) -> Result<(), WriteFault>
+    ensures { WritesText text.now (N.written notes.old) (N.written notes.new) (N.faults notes.old) (N.faults notes.new) result }
+{
+    write_all(notes, text)
+}
+
+// A number in decimal.
+fn write_number<N: Sink>(notes: &mut N, number: u32) -> Result<(), WriteFault>
+    ensures { WritesText (decimal number) (N.written notes.old) (N.written notes.new) (N.faults notes.old) (N.faults notes.new) result }
+{
+    let mut buffer = Buffer::new();
+    write_all(notes, buffer.format(number).as_bytes())
+}
+
+// The x of a point at scale 0.
+fn write_x<N: Sink>(notes: &mut N, p: Point) -> Result<(), WriteFault>
+    ensures { WritesText (grid_text 0 p.x) (N.written notes.old) (N.written notes.new) (N.faults notes.old) (N.faults notes.new) result }
+{
+    let mut buffer = Buffer::new();
+    write_all(notes, buffer.format(p.x()).as_bytes())
+}
+
+// The y of a point at scale 0.
+fn write_y<N: Sink>(notes: &mut N, p: Point) -> Result<(), WriteFault>
+    ensures { WritesText (grid_text 0 p.y) (N.written notes.old) (N.written notes.new) (N.faults notes.old) (N.faults notes.new) result }
+{
+    let mut buffer = Buffer::new();
+    write_all(notes, buffer.format(p.y()).as_bytes())
+}
+
+// A space, and the y of a point.
+fn write_behind_space<N: Sink>(notes: &mut N, p: Point) -> Result<(), WriteFault>
+    ensures { WritesText (codes " " ++ grid_text 0 p.y) (N.written notes.old) (N.written notes.new) (N.faults notes.old) (N.faults notes.new) result }
+{
+    write_text(notes, b" ")?;
+    write_y(notes, p)
+}
+
+// x, a space, y.
+fn write_point<N: Sink>(notes: &mut N, p: Point) -> Result<(), WriteFault>
+    ensures { WritesText (position_text 0 p) (N.written notes.old) (N.written notes.new) (N.faults notes.old) (N.faults notes.new) result }
+{
+    write_x(notes, p)?;
+    write_behind_space(notes, p)
+}
+
+// A point and a comma.
+fn write_first_end<N: Sink>(notes: &mut N, p: Point) -> Result<(), WriteFault>
+    ensures { WritesText (position_text 0 p ++ codes ", ") (N.written notes.old) (N.written notes.new) (N.faults notes.old) (N.faults notes.new) result }
+{
+    write_point(notes, p)?;
+    write_text(notes, b", ")
+}
+
+// The two ends of an edge.
+fn write_edge<N: Sink>(notes: &mut N, edge: Edge) -> Result<(), WriteFault>
+    ensures { WritesText (edge_text edge) (N.written notes.old) (N.written notes.new) (N.faults notes.old) (N.faults notes.new) result }
+{
+    write_first_end(notes, edge.lo())?;
+    write_point(notes, edge.hi())
+}
+
+// A word and a number.
+fn write_front<N: Sink>(notes: &mut N, word: &[u8], number: u32) -> Result<(), WriteFault>
+    ensures { WritesText (word.now ++ decimal number) (N.written notes.old) (N.written notes.new) (N.faults notes.old) (N.faults notes.new) result }
+{
+    write_text(notes, word)?;
+    write_number(notes, number)
+}
+
+// A number between two words.
+fn write_numbered<N: Sink>(
+    notes: &mut N,
+    before: &[u8],
+    number: u32,
+    after: &[u8],
+) -> Result<(), WriteFault>
+    ensures { WritesText (before.now ++ decimal number ++ after.now) (N.written notes.old) (N.written notes.new) (N.faults notes.old) (N.faults notes.new) result }
+{
+    write_front(notes, before, number)?;
+    write_text(notes, after)
+}
+
+// What is wrong with a geometry text.
+fn write_text_fault<N: Sink>(notes: &mut N, fault: TextFault) -> Result<(), WriteFault>
+    ensures { WritesText (text_fault_text fault) (N.written notes.old) (N.written notes.new) (N.faults notes.old) (N.faults notes.new) result }
+{
+    match fault {
+        TextFault::Syntax => write_text(notes, b"syntax"),
+        TextFault::Tag => write_text(notes, b"tag"),
+        TextFault::Dimension => write_text(notes, b"dimension"),
+        TextFault::OffGrid { number } => write_numbered(notes, b"number ", number, b" off grid"),
+        TextFault::Range { number } => write_numbered(notes, b"number ", number, b" out of range"),
+        TextFault::RingOpen { ring } => write_numbered(notes, b"ring ", ring, b" open"),
+        TextFault::RingShort { ring } => write_numbered(notes, b"ring ", ring, b" short"),
+        TextFault::NoMemory => write_text(notes, b"out of memory"),
+    }
+}
+
+// The line and its fault.
+fn write_line<N: Sink>(notes: &mut N, row: u32, fault: TextFault) -> Result<(), WriteFault>
+    ensures { WritesText (line_text row fault) (N.written notes.old) (N.written notes.new) (N.faults notes.old) (N.faults notes.new) result }
+{
+    write_numbered(notes, b"layer line ", row, b": ")?;
+    write_text_fault(notes, fault)
+}
+
+/// The line that names a line of the layer and its fault.
+pub fn write_line_note<N: Sink>(notes: &mut N, row: u32, fault: TextFault) -> Result<(), WriteFault>
+    ensures { WritesText (ended (line_text row fault)) (N.written notes.old) (N.written notes.new) (N.faults notes.old) (N.faults notes.new) result }
+{
+    write_line(notes, row, fault)?;
+    write_text(notes, b"\n")
+}
+
+// The first of two edges.
+fn write_first_edge<N: Sink>(notes: &mut N, a: Edge) -> Result<(), WriteFault>
+    ensures { WritesText (codes "layer: edges " ++ edge_text a) (N.written notes.old) (N.written notes.new) (N.faults notes.old) (N.faults notes.new) result }
+{
+    write_text(notes, b"layer: edges ")?;
+    write_edge(notes, a)
+}
+
+// The first of two edges and what joins them.
+fn write_joined<N: Sink>(notes: &mut N, a: Edge) -> Result<(), WriteFault>
+    ensures { WritesText (codes "layer: edges " ++ edge_text a ++ codes " and ") (N.written notes.old) (N.written notes.new) (N.faults notes.old) (N.faults notes.new) result }
+{
+    write_first_edge(notes, a)?;
+    write_text(notes, b" and ")
+}
+
+// Two edges.
+fn write_edges<N: Sink>(notes: &mut N, a: Edge, b: Edge) -> Result<(), WriteFault>
+    ensures { WritesText (edges_text a b) (N.written notes.old) (N.written notes.new) (N.faults notes.old) (N.faults notes.new) result }
+{
+    write_joined(notes, a)?;
+    write_edge(notes, b)
+}
+
+// How two edges conflict.
+fn write_meeting<N: Sink>(notes: &mut N, meeting: Meeting) -> Result<(), WriteFault>
+    ensures { WritesText (meeting_text meeting) (N.written notes.old) (N.written notes.new) (N.faults notes.old) (N.faults notes.new) result }
+{
+    match meeting {
+        Meeting::Apart => write_text(notes, b" apart"),
+        Meeting::Touch => write_text(notes, b" touch"),
+        Meeting::Cross => write_text(notes, b" cross"),
+    }
+}
+
+// Two edges, and how they conflict.
+fn write_conflict<N: Sink>(
+    notes: &mut N,
+    a: Edge,
+    b: Edge,
+    meeting: Meeting,
+) -> Result<(), WriteFault>
+    ensures { WritesText (conflict_text a b meeting) (N.written notes.old) (N.written notes.new) (N.faults notes.old) (N.faults notes.new) result }
+{
+    write_edges(notes, a, b)?;
+    write_meeting(notes, meeting)
+}
+
+/// The line that names two edges that conflict, and how.
+pub fn write_conflict_note<N: Sink>(
+    notes: &mut N,
+    a: Edge,
+    b: Edge,
+    meeting: Meeting,
+) -> Result<(), WriteFault>
+    ensures { WritesText (ended (conflict_text a b meeting)) (N.written notes.old) (N.written notes.new) (N.faults notes.old) (N.faults notes.new) result }
+{
+    write_conflict(notes, a, b, meeting)?;
+    write_text(notes, b"\n")
+}

@@ -1,0 +1,77 @@
+//! A query, from the bytes in to the bytes out.
+
+ghost use Rattle.std.specs.Prelude.{◌≡◌, ◌≤◌, length};
+ghost use Rattle.loc_csvform.specs.Layer.{layer_of};
+ghost use Rattle.loc_io.specs.Meaning.{KeepsFiles, KeepsMaking, bytes_of};
+ghost use Rattle.loc_top.specs.Layers.{IsPlane, ReadsPlane};
+ghost use Rattle.loc_top.specs.Query.{CountsTold, Hands, LayerTold, PointsTold, OutTold, limit};
+
+use crate::answers::answers;
+use crate::{Plane, RunFault};
+use loc_csvform::{LayerFault, read_layer};
+use loc_io::{ReadAllFault, Shelf, Sink, read_all, write_all};
+use std::alloc::Global;
+
+// The most bytes of a layer text and of a points text.
+const LIMIT: usize = 268_435_456;
+
+// The plane of a layer text.
+fn plane_of(alloc: Global, text: &[u8]) -> Result<Plane, RunFault>
+    requires { length text.now ≤ limit }
+    ensures { IsPlane (layer_of text.now) result }
+{
+    let features = match read_layer(alloc, text) {
+        Ok(features) => features,
+        Err(LayerFault::Text { row, fault }) => return Err(RunFault::LayerText { row, fault }),
+        Err(LayerFault::NoMemory) => return Err(RunFault::NoMemory),
+    };
+    let plane = Plane::make(alloc, features)?;
+    match plane.conflict() {
+        None => Ok(plane),
+        Some(pair) => Err(RunFault::Conflict {
+            a: pair.a,
+            b: pair.b,
+            meeting: pair.meeting,
+        }),
+    }
+}
+
+// The plane of the layer's file.
+fn read_plane<F: Shelf>(alloc: Global, shelf: &mut F, name: &str) -> Result<Plane, RunFault>
+    ensures { ReadsPlane name.now (F.meaning shelf.old) (F.meaning shelf.new) result }
+{
+    match read_all(alloc, shelf, name, LIMIT) {
+        Ok(text) => plane_of(alloc, &text),
+        Err(ReadAllFault::ReadFault) => Err(RunFault::ReadFault),
+        Err(ReadAllFault::TooLong) => Err(RunFault::LayerLong),
+        Err(ReadAllFault::NoMemory) => Err(RunFault::NoMemory),
+    }
+}
+
+/// Reads the layer and then the points, and writes the answers at once: all memory is taken before the first byte on `out`.
+pub fn query<F: Shelf, O: Sink>(
+    alloc: Global,
+    layer_name: &str,
+    points_name: &str,
+    shelf: &mut F,
+    out: &mut O,
+) -> Result<(), RunFault>
+    ensures files { KeepsFiles (F.meaning shelf.old) (F.meaning shelf.new) }
+    ensures making { KeepsMaking (F.meaning shelf.old) (F.meaning shelf.new) }
+    ensures names { Hands layer_name.now points_name.now (F.meaning shelf.old).entries (F.meaning shelf.new).entries result }
+    ensures counts { CountsTold (F.meaning shelf.old).read_faults (F.meaning shelf.new).read_faults (O.faults out.old) (O.faults out.new) result }
+    ensures layer { LayerTold (bytes_of ((F.meaning shelf.old).told layer_name.now)) result }
+    ensures points { PointsTold (bytes_of ((F.meaning shelf.old).told points_name.now)) result }
+    ensures out { OutTold result (bytes_of ((F.meaning shelf.old).told layer_name.now)) (bytes_of ((F.meaning shelf.old).told points_name.now)) (O.written out.old) (O.written out.new) }
+{
+    let plane = read_plane(alloc, shelf, layer_name)?;
+    let points = match read_all(alloc, shelf, points_name, LIMIT) {
+        Ok(text) => text,
+        Err(ReadAllFault::ReadFault) => return Err(RunFault::ReadFault),
+        Err(ReadAllFault::TooLong) => return Err(RunFault::PointsLong),
+        Err(ReadAllFault::NoMemory) => return Err(RunFault::NoMemory),
+    };
+    let lines = answers(alloc, &plane, &points)?;
+    write_all(out, &lines)?;
+    Ok(())
+}

@@ -1,0 +1,13 @@
+pub mod PieceLemmas
+pub mod NumberLemmas
+pub mod PointLemmas
+pub mod MemberLemmas
+pub mod WordLemmas
+pub mod FrontLemmas
+pub mod ListLemmas
+pub mod RingLemmas
+pub mod TokenSteps
+pub mod TokenLongest
+pub mod TokenFront
+pub mod TokenTurns
+pub mod TokenPieces

@@ -1,0 +1,12 @@
+use Rattle.std.proofs.Common.{rules, arith}
+use Rattle.loc_wkt.proofs.PieceLemmas.{mark_first, no_mark_first}
+use Rattle.loc_wkt.proofs.marks.next_mark.Goals as goal
+
+pub returns-in-empty-clause-found : goal.returns-in-empty-clause-found
+returns-in-empty-clause-found c = no_mark_first c.args.text.now c.skip_white.result.now (search rules) (λ h. absurd (omega arith))
+
+pub returns-then-is_mark-clause-found : goal.returns-then-is_mark-clause-found
+returns-then-is_mark-clause-found c = mark_first c.args.text.now c.skip_white.result.now (search rules) (omega arith) (search rules)
+
+pub returns-else-is_mark-clause-found : goal.returns-else-is_mark-clause-found
+returns-else-is_mark-clause-found c = no_mark_first c.args.text.now c.skip_white.result.now (search rules) (λ h. search rules)

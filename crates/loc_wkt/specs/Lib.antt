@@ -1,0 +1,5 @@
+pub mod Whole
+pub mod Fronts
+pub mod TokenParts
+pub mod TokenList
+pub mod TokensLeft

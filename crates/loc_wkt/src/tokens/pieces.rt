@@ -1,0 +1,60 @@
+// The pieces of a text, cut by its tokens: a piece is the longest token at its place, with what follows it before the next break.
+
+ghost use Rattle.std.specs.Prelude.{◌≡◌, ◌∷◌, [], ◌<◌, ◌≤◌, length, take, drop, slice_index, false, IfSome, IfNone};
+ghost use Rattle.std.specs.List.{position_or_len};
+ghost use Rattle.loc_spec_text.specs.Bytes.{is_white as is_white_byte};
+ghost use Rattle.loc_spec_text.specs.Geometry.{is_break as is_break_byte, is_mark as is_mark_byte, piece_of, pieces};
+
+use super::lengths::{is_white, token_length, white_length};
+
+/// Whether a byte is a parenthesis or a comma.
+pub fn is_mark(b: u8) -> bool
+    ensures { result ≡ is_mark_byte b }
+{
+    b == b'(' || b == b')' || b == b','
+}
+
+/// Whether a byte ends a piece.
+fn is_break(b: u8) -> bool
+    ensures { result ≡ is_break_byte b }
+{
+    is_white(b) || is_mark(b)
+}
+
+/// The number of bytes before the first white space or mark.
+fn run_length(text: &[u8]) -> usize
+    ensures within { result ≤ length text.now }
+    ensures front { result ≡ position_or_len is_break_byte text.now }
+{
+    text.iter().take_while(|b| !is_break(**b)).count()
+}
+
+/// The length of the first piece of a text that begins with no white space.
+fn piece_length(text: &[u8]) -> usize
+    requires some { 0 < length text.now }
+    requires no_white { is_white_byte (slice_index text.now 0) ≡ false }
+    ensures some { 0 < result }
+    ensures within { result ≤ length text.now }
+    ensures cut { pieces text.now ≡ piece_of (take result text.now) ∷ pieces (drop result text.now) }
+{
+    let token = token_length(text);
+    if is_mark(text[0]) {
+        token
+    } else {
+        token + run_length(&text[token..])
+    }
+}
+
+/// The first piece of a text and what follows it, or nothing where the text is blank.
+pub fn next_piece(text: &[u8]) -> Option<(&[u8], &[u8])>
+    ensures found { IfSome result (λ p. pieces text.now ≡ piece_of p.0.now ∷ pieces p.1.now) }
+    ensures shorter { IfSome result (λ p. length p.1.now < length text.now) }
+    ensures none { IfNone result (pieces text.now ≡ []) }
+{
+    let white = white_length(text);
+    if white == text.len() {
+        return None;
+    }
+    let text = &text[white..];
+    Some(text.split_at(piece_length(text)))
+}
