@@ -4,7 +4,7 @@ use Rattle.loc_io.specs.Meaning.{Meaning, bytes_of}
 use Rattle.loc_io.specs.Whole.{ReadsAll, BytesAreTold}
 use Rattle.loc_rings.specs.Values.{Feature}
 use Rattle.loc_csvform.specs.Layer.{LineFault, layer_of}
-use Rattle.loc_top.specs.Query.{limit}
+use Rattle.loc_top.specs.Query.{limit, ReachedBy}
 use Rattle.loc_top.specs.Layers.{IsPlane, RoseFor, LongFor, PlaneTold, ReadsPlane}
 use Rattle.loc_top.specs.declared.fault.RunFault.{RunFault}
 use Rattle.loc_top.specs.declared.fault.RunFault.TheVariants as f
@@ -57,3 +57,8 @@ reads_plane name old new v r all is = record {
   long = long_of all.taken (layer_of v.items) r is all.length.1;
   layer = told_of (bytes_of (old.told name)) v r all.bytes (subst (λ k. k ≤ limit) all.length.0 all.length.1) is;
 }
+
+-- a plane that was read lets the points be taken up
+pub reached_by : (told : Option (List ℕ)) (plane : List Feature) (j : ℕ) → PlaneTold told (Ok plane) → ReachedBy told (Some j)
+reached_by None plane j is = tt
+reached_by (Some text) plane j is = (is.0, is.1.1)

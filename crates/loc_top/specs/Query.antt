@@ -72,6 +72,8 @@ LongTold k None (Err f.LayerLong) = limit < k
 LongTold k (Some j) (Err f.LayerLong) = ⊥
 LongTold k None (Err f.PointsLong) = ⊥
 LongTold k (Some j) (Err f.PointsLong) = (k ≤ limit) × (limit < j)
+LongTold k (Some j) (Err (f.LayerText row fault)) = ⊥
+LongTold k (Some j) (Err (f.Conflict a b meeting)) = ⊥
 LongTold k None other = k ≤ limit
 LongTold k (Some j) other = (k ≤ limit) × (j ≤ limit)
 
@@ -80,11 +82,18 @@ abbrev pub reached : List ℕ → Option ℕ → Entries
 reached name None = []
 reached name (Some k) = (name, k) ∷ []
 
+-- the points are taken up only where the layer's text, if it is told, was accepted
+abbrev pub ReachedBy : Option (List ℕ) → Option ℕ → Type 0
+ReachedBy told None = ⊤
+ReachedBy None (Some j) = ⊤
+ReachedBy (Some layer) (Some j) = (length layer ≤ limit) × Accepts (layer_of layer)
+
 -- the layer's name was handed to the shelf, and then at most that of the points
-pub record Hands {T : Type 0} (layer points : List ℕ) (old new : Entries) (result : Result T RunFault) : Type 0 where
+pub record Hands {T : Type 0} (layer points : List ℕ) (told : Option (List ℕ)) (old new : Entries) (result : Result T RunFault) : Type 0 where
   pub of_layer : ℕ
   pub of_points : Option ℕ
   pub entries : new ≡ old ++ (layer, of_layer) ∷ reached points of_points
+  pub order : ReachedBy told of_points
   pub long : LongTold of_layer of_points result
 
 -- why it ends so, by the layer's text where that is told

@@ -12,7 +12,7 @@ use Rattle.loc_csvform.specs.Layer.{LineFault, layer_of}
 use Rattle.loc_edges.specs.Conflicts.{has_conflict}
 use Rattle.loc_top.specs.Located.{edges_of}
 use Rattle.loc_top.specs.Notes.{note_of, status_of}
-use Rattle.loc_top.specs.Query.{limit, Accepts, Conflicts, Refuses, defined_output, CountsTold, Hands, LayerTold, PointsTold, OutTold, reached}
+use Rattle.loc_top.specs.Query.{limit, Accepts, Conflicts, Refuses, defined_output, CountsTold, Hands, LayerTold, PointsTold, OutTold, ReachedBy, reached}
 use Rattle.loc_top.specs.Words.{Word}
 use Rattle.loc_top.specs.declared.fault.RunFault.{RunFault}
 use Rattle.loc_top.specs.declared.fault.RunFault.TheVariants as f
@@ -25,7 +25,7 @@ Text = List ℕ
 pub record Ended {T : Type 0} (layer points : Word) (old new : Meaning) (w w' : ℕ) (o o' : Option Text) (result : Result T RunFault) : Type 0 where
   pub files : KeepsFiles old new
   pub making : KeepsMaking old new
-  pub names : Hands layer points old.entries new.entries result
+  pub names : Hands layer points (bytes_of (old.told layer)) old.entries new.entries result
   pub counts : CountsTold old.read_faults new.read_faults w w' result
   pub layer_text : LayerTold (bytes_of (old.told layer)) result
   pub points_text : PointsTold (bytes_of (old.told points)) result
@@ -156,10 +156,11 @@ pub record OutGrows (query : Option (Word × Word)) (old : Meaning) (o o' : Opti
   pub write : status ≡ 4 → (names : Word × Word) (layer points : Text) → query ≡ Some names → old.told names.0 ≡ holds layer → old.told names.1 ≡ holds points
       → WroteFront o o' (defined_output (layer_of layer) points)
 
--- no name but these two is handed to the shelf, each at most once, and none where the words are refused
+-- no name but these two is handed to the shelf, each at most once, and none where the words are refused; the points' only where the
+-- layer was accepted
 abbrev pub HandsOnly : Option (Word × Word) → Meaning → Meaning → Type 0
 HandsOnly None old new = new.entries ≡ old.entries
-HandsOnly (Some names) old new = (k : ℕ) × (j : Option ℕ) × (new.entries ≡ old.entries ++ (names.0, k) ∷ reached names.1 j)
+HandsOnly (Some names) old new = (k : ℕ) × (j : Option ℕ) × (new.entries ≡ old.entries ++ (names.0, k) ∷ reached names.1 j) × ReachedBy (bytes_of (old.told names.0)) j
 
 -- the fault as an outcome
 abbrev pub outcome_of : Option RunFault → Result (Unit {0}) RunFault
@@ -182,4 +183,4 @@ pub record Cause (query : Option (Word × Word)) (old new : Meaning) (n n' : ℕ
   pub fault : Option RunFault
   pub status_is : status ≡ status_in fault
   pub note : NoteOf fault n n' m m'
-  pub bytes : (names : Word × Word) → query ≡ Some names → Hands names.0 names.1 old.entries new.entries (outcome_of fault)
+  pub bytes : (names : Word × Word) → query ≡ Some names → Hands names.0 names.1 (bytes_of (old.told names.0)) old.entries new.entries (outcome_of fault)

@@ -58,7 +58,7 @@ pub fn query<F: Shelf, O: Sink>(
 ) -> Result<(), RunFault>
     ensures files { KeepsFiles (F.meaning shelf.old) (F.meaning shelf.new) }
     ensures making { KeepsMaking (F.meaning shelf.old) (F.meaning shelf.new) }
-    ensures names { Hands layer_name.now points_name.now (F.meaning shelf.old).entries (F.meaning shelf.new).entries result }
+    ensures names { Hands layer_name.now points_name.now (bytes_of ((F.meaning shelf.old).told layer_name.now)) (F.meaning shelf.old).entries (F.meaning shelf.new).entries result }
     ensures counts { CountsTold (F.meaning shelf.old).read_faults (F.meaning shelf.new).read_faults (O.faults out.old) (O.faults out.new) result }
     ensures layer { LayerTold (bytes_of ((F.meaning shelf.old).told layer_name.now)) result }
     ensures points { PointsTold (bytes_of ((F.meaning shelf.old).told points_name.now)) result }

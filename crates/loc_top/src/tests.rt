@@ -16,7 +16,7 @@ const SQUARE: &str = "POLYGON ((0 0, 4 0, 4 4, 0 4, 0 0))\n";
 const BOW_TIE: &str = "POLYGON ((0 0, 4 4, 4 0, 0 4, 0 0))";
 
 // The layer, the points, the status, and what stands on out and on notes.
-const ROWS: [(&str, &str, u8, &str, &str); 13] = [
+const ROWS: [(&str, &str, u8, &str, &str); 14] = [
     (
         SQUARE,
         "2 2\n5 2\n0 0\n4 4\n4 2\n4 5\n0 -1\n-1 4\n5 0\n",
@@ -67,6 +67,13 @@ const ROWS: [(&str, &str, u8, &str, &str); 13] = [
         "",
     ),
     (
+        "POLYGON ((-1000000000000000000 -1000000000000000000, 1000000000000000000 -1000000000000000000, 1000000000000000000 1000000000000000000, -1000000000000000000 1000000000000000000, -1000000000000000000 -1000000000000000000))",
+        "0 0\n1000000000000000000 0\n-1000000000000000000 1000000000000000000\n1000000000000000001 0\n",
+        0,
+        "face in \"1\"\nborder 3 on \"1\" in\ncorner 1 on \"1\" in\nunread\n",
+        "",
+    ),
+    (
         "POLYGON ((1000000000000000001 0, 4 0, 4 4, 1000000000000000001 0))",
         "0 0\n",
         1,
@@ -97,8 +104,9 @@ const REFUSED: [[&str; 5]; 5] = [
     ["ask", "layer", "points", "--scale", "0"],
 ];
 
-// The layer, which call of the shelf, of out and of notes fails, the status, and what stands on out and on notes.
-const FAILING: [(&str, u64, u64, u64, u8, &str, &str); 12] = [
+// The layer, or none where its file is missing; which call of the shelf, of out and of notes fails, the status, and what stands on out and on notes.
+const FAILING: [(&str, u64, u64, u64, u8, &str, &str); 13] = [
+    ("", 0, 0, 0, 3, "", "read failed\n"),
     (SQUARE, 1, 0, 0, 3, "", "read failed\n"),
     (SQUARE, 2, 0, 0, 3, "", "read failed\n"),
     (SQUARE, 3, 0, 0, 3, "", "read failed\n"),
@@ -200,7 +208,9 @@ fn failing_calls(rt: HostRuntime) -> Result<(), Fail> {
     let words = words_of(alloc, &QUERY)?;
     for (layer, shelf_call, out_call, notes_call, want, answers, line) in FAILING {
         let mut shelf = MemShelf::new(alloc, calls(alloc, shelf_call)?);
-        shelf.put("layer", layer.as_bytes())?;
+        if !layer.is_empty() {
+            shelf.put("layer", layer.as_bytes())?;
+        }
         shelf.put("points", b"2 2\n")?;
         let mut out = MemSink::new(alloc, calls(alloc, out_call)?);
         let mut notes = MemSink::new(alloc, calls(alloc, notes_call)?);
