@@ -14,9 +14,6 @@ use Rattle.loc_spec_text.proofs.CutLaws.{place_none}
 abbrev pub is_feed : ℕ → Bool
 is_feed b = b == 10
 
-lines-feed : (b : ℕ) (text : List ℕ) → is_feed b ≡ true → lines (b ∷ text) ≡ [] ∷ lines text
-lines-feed b text h = rw h refl
-
 lines-other : (b : ℕ) (text : List ℕ) → is_feed b ≡ false → lines (b ∷ text) ≡ onto_first b (lines text)
 lines-other b text h = rw h refl
 

@@ -10,6 +10,7 @@ use itoa::Buffer;
 use loc_geom::{Edge, Meeting, Point};
 use loc_io::{Sink, WriteFault, write_all};
 use loc_spec_text::TextFault;
+use loc_wkt::print_grid;
 
 // A text as it is.
 fn write_text<N: Sink>(notes: &mut N, text: &[u8]) -> Result<(), WriteFault>
@@ -30,16 +31,14 @@ fn write_number<N: Sink>(notes: &mut N, number: u32) -> Result<(), WriteFault>
 fn write_x<N: Sink>(notes: &mut N, p: Point) -> Result<(), WriteFault>
     ensures { WritesText (grid_text 0 p.x) (N.written notes.old) (N.written notes.new) (N.faults notes.old) (N.faults notes.new) result }
 {
-    let mut buffer = Buffer::new();
-    write_all(notes, buffer.format(p.x()).as_bytes())
+    print_grid(p.x(), 0, notes)
 }
 
 // The y of a point at scale 0.
 fn write_y<N: Sink>(notes: &mut N, p: Point) -> Result<(), WriteFault>
     ensures { WritesText (grid_text 0 p.y) (N.written notes.old) (N.written notes.new) (N.faults notes.old) (N.faults notes.new) result }
 {
-    let mut buffer = Buffer::new();
-    write_all(notes, buffer.format(p.y()).as_bytes())
+    print_grid(p.y(), 0, notes)
 }
 
 // A space, and the y of a point.

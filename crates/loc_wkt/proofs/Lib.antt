@@ -11,3 +11,6 @@ pub mod TokenLongest
 pub mod TokenFront
 pub mod TokenTurns
 pub mod TokenPieces
+pub mod DigitLemmas
+pub mod GridLemmas
+pub mod GridTexts

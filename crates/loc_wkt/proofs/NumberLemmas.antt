@@ -23,7 +23,7 @@ pub record AreSmall (ds : List ℕ) (value : ℕ) : Type 0 where
   pub is_value : value ≡ digits_value 10 ds
   pub small : value ≤ 1000000000000000000
 
-digit_number : (c : ℕ) → 48 ≤ c → c ≤ 57 → digit_value c ≡ c - 48
+pub digit_number : (c : ℕ) → 48 ≤ c → c ≤ 57 → digit_value c ≡ c - 48
 digit_number c h k = rw (le-ltb c 48 h, lt-ltb c 58 (omega arith)) refl
 
 -- the number of one digit more
@@ -74,7 +74,7 @@ all_small ds v h s =
     rw (n, s.digits, small) (ap Some (sym s.is_value))
 
 -- what a digit is not
-digit_bounds : (c : ℕ) → is_ascii_digit c ≡ true → (48 ≤ c) × (c ≤ 57)
+pub digit_bounds : (c : ℕ) → is_ascii_digit c ≡ true → (48 ≤ c) × (c ≤ 57)
 digit_bounds c h = let p = and_parts (leb 48 c) (leb c 57) h in (leb-true 48 c p.0, leb-true c 57 p.1)
 
 no_point : (c : ℕ) → is_ascii_digit c ≡ true → is_point c ≡ false

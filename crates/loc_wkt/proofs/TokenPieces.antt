@@ -67,7 +67,8 @@ unsigned_plain (b ∷ text) h = at (is_sign b) refl h
     at true e k = both (is_plain b) (list_all is_plain text) (sign_plain b e) k
     at false e k = k
 
-nothing_after : (p : ℕ → Bool) (text : List ℕ) → list_any p text ≡ false → after_first p text ≡ []
+-- behind no mark there is nothing
+pub nothing_after : (p : ℕ → Bool) (text : List ℕ) → list_any p text ≡ false → after_first p text ≡ []
 nothing_after p [] h = refl
 nothing_after p (b ∷ text) h = at (p b) refl h (nothing_after p text)
   where

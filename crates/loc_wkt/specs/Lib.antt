@@ -3,3 +3,4 @@ pub mod Fronts
 pub mod TokenParts
 pub mod TokenList
 pub mod TokensLeft
+pub mod GridNumbers

@@ -1,13 +1,17 @@
-//! Well-known text (OGC 06-103r4): its tokens, and the readers of geometry texts and of point lines. For now the readers read the
-//! narrow texts: one ring of whole numbers, and points of two whole numbers.
+//! Well-known text (OGC 06-103r4): its tokens, its number texts at any scale and grid values in print, and the readers of geometry texts
+//! and of point lines. For now the readers read the narrow texts: one ring of whole numbers, and points of two whole numbers.
 #![tactic(auto)]
 
+mod grid_numbers;
+mod grid_texts;
 mod marks;
 mod numbers;
 mod points;
 mod ring_texts;
 mod tokens;
 
+pub use grid_numbers::{GridNumber, grid_number, is_number};
+pub use grid_texts::print_grid;
 pub use loc_spec_text::TextFault;
 pub use marks::is_blank;
 pub use points::read_whole_point;

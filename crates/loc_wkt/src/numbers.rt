@@ -5,17 +5,17 @@ ghost use Rattle.loc_spec_plane.specs.Points.{OnGrid};
 ghost use Rattle.loc_spec_text.specs.Number.{is_negative as is_negative_text, unsigned as unsigned_text};
 ghost use Rattle.loc_wkt.specs.Whole.{small_value, whole_value};
 
-const LIMIT: u64 = 1_000_000_000_000_000_000;
+pub(crate) const LIMIT: u64 = 1_000_000_000_000_000_000;
 
 /// Whether a text begins with a minus.
-fn is_negative(text: &[u8]) -> bool
+pub(crate) fn is_negative(text: &[u8]) -> bool
     ensures { result ≡ is_negative_text text.now }
 {
     matches!(text.first(), Some(b'-'))
 }
 
 /// The text behind its sign, if it has one.
-fn unsigned(text: &[u8]) -> &[u8]
+pub(crate) fn unsigned(text: &[u8]) -> &[u8]
     ensures { result.now ≡ unsigned_text text.now }
 {
     match text.first() {
@@ -46,7 +46,7 @@ fn digits_value(digits: &[u8]) -> Option<u64>
 }
 
 /// A magnitude of at most 10^18, with its sign.
-fn signed(magnitude: u64, negative: bool) -> i64
+pub(crate) fn signed(magnitude: u64, negative: bool) -> i64
     requires { magnitude ≤ 10 ^ 18 }
     ensures value { result ≡ (if negative then neg_ℤ (pos magnitude) else pos magnitude) }
     ensures on_grid { OnGrid result }

@@ -1,0 +1,166 @@
+// The value of a number text on the grid of a scale, exactly, for texts and exponents of any length.
+
+ghost use Rattle.std.specs.Prelude.{◌≡◌, ◌≤◌, ◌^◌, if◌then◌else◌, length, min, true};
+ghost use Rattle.std.specs.Char.{is_ascii_digit};
+ghost use Rattle.std.specs.List.{list_all};
+ghost use Rattle.std.specs.Str.Parse.{digits_value};
+ghost use Rattle.loc_spec_text.specs.Number.{is_negative as is_negative_text, is_number as is_number_text, unsigned as unsigned_text};
+ghost use Rattle.loc_wkt.specs.GridNumbers.{IsBounded, IsDecimal, IsGridNumber};
+
+mod digits;
+mod parts;
+
+use crate::numbers::{LIMIT, is_negative, signed, unsigned};
+use digits::{Digits, capped_value};
+pub use parts::is_number;
+use parts::parts;
+
+/// What a number text is on the grid of a scale: its grid value, or off the grid, or on it and beyond 10^18 either way.
+#[derive(Clone, Copy, Debug, PartialEq, Eq)]
+pub enum GridNumber {
+    OnGrid(i64),
+    OffGrid,
+    OutOfRange,
+}
+
+/// The parts of a number without its sign: its digits without the point, how many of them stand behind it, and how far its exponent
+/// raises and lowers, of which no more than 2^40 is kept.
+#[derive(Clone, Copy)]
+struct Decimal {
+    digits: Digits,
+    fraction: usize,
+    raised: u64,
+    lowered: u64,
+}
+
+/// How far an exponent raises and lowers, of which no more than 2^40 is kept.
+fn shifts(exponent: &[u8]) -> (u64, u64)
+    requires { list_all is_ascii_digit (unsigned_text exponent.now) ≡ true }
+    ensures raised { result.0 ≡ min (if is_negative_text exponent.now then 0 else digits_value 10 (unsigned_text exponent.now)) (2 ^ 40) }
+    ensures lowered { result.1 ≡ min (if is_negative_text exponent.now then digits_value 10 (unsigned_text exponent.now) else 0) (2 ^ 40) }
+{
+    let shift = capped_value(unsigned(exponent));
+    if is_negative(exponent) {
+        (0, shift)
+    } else {
+        (shift, 0)
+    }
+}
+
+/// The parts of a number text as numbers.
+fn decimal_of(text: &[u8]) -> Decimal
+    requires number { is_number_text text.now ≡ true }
+    requires length { length text.now ≤ 2 ^ 28 }
+    ensures { IsDecimal result text.now }
+{
+    let parts = parts(text);
+    let whole = Digits::none().followed_by(parts.whole);
+    let digits = whole.followed_by(parts.fraction);
+    let (raised, lowered) = shifts(parts.exponent);
+    Decimal {
+        digits,
+        fraction: parts.fraction.len(),
+        raised,
+        lowered,
+    }
+}
+
+/// What a number text is on the grid of a scale. The text has at most 2^28 bytes, and the scale is at most 15.
+pub fn grid_number(text: &[u8], scale: u8) -> GridNumber
+    requires number { is_number_text text.now ≡ true }
+    requires length { length text.now ≤ 2 ^ 28 }
+    requires scale { scale ≤ 15 }
+    ensures number { IsGridNumber scale text.now result }
+    ensures bound { IsBounded result }
+{
+    let number = decimal_of(text);
+    if number.digits.head == 0 && !number.digits.long {
+        return GridNumber::OnGrid(0);
+    }
+    let up = number.digits.zeros as u64 + number.raised + scale as u64;
+    let down = number.lowered + number.fraction as u64;
+    if up < down {
+        return GridNumber::OffGrid;
+    }
+    let places = up - down;
+    if number.digits.long || places > 18 {
+        return GridNumber::OutOfRange;
+    }
+    let magnitude = number.digits.head as u128 * 10u64.pow(places as u32) as u128;
+    if magnitude > LIMIT as u128 {
+        return GridNumber::OutOfRange;
+    }
+    GridNumber::OnGrid(signed(magnitude as u64, is_negative(text)))
+}
+
+#[cfg(test)]
+mod tests {
+    use super::*;
+
+    #[test]
+    fn numbers_on_grids(rt: HostRuntime) {
+        let limit = 1_000_000_000_000_000_000;
+        let many = b"-0000000000000000000000000000012.5000000000000000000000000000000000";
+        let table: [(&[u8], u8, GridNumber); 32] = [
+            (b"10e-1", 0, GridNumber::OnGrid(1)),
+            (b"1e-1", 0, GridNumber::OffGrid),
+            (b"-.5", 1, GridNumber::OnGrid(-5)),
+            (b"1000.000", 15, GridNumber::OnGrid(limit)),
+            (b"-1000", 15, GridNumber::OnGrid(-limit)),
+            (b"1000.000000000000001", 15, GridNumber::OutOfRange),
+            (b"1000.0000000000000001", 15, GridNumber::OffGrid),
+            (b"12.50", 1, GridNumber::OnGrid(125)),
+            (b"12.50", 0, GridNumber::OffGrid),
+            (b"1.5e3", 0, GridNumber::OnGrid(1500)),
+            (b"1.5E3", 1, GridNumber::OnGrid(15000)),
+            (b"1.5e+03", 1, GridNumber::OnGrid(15000)),
+            (b"12.55", 1, GridNumber::OffGrid),
+            (b"0e99999999999999999999", 0, GridNumber::OnGrid(0)),
+            (b"-0.000e-99999999999999999999", 15, GridNumber::OnGrid(0)),
+            (b"1e99999999999999999999", 0, GridNumber::OutOfRange),
+            (b"12e-99999999999999999999", 15, GridNumber::OffGrid),
+            (b"1000000000000000000", 0, GridNumber::OnGrid(limit)),
+            (b"1000000000000000001", 0, GridNumber::OutOfRange),
+            (b"-1000000000000000001", 0, GridNumber::OutOfRange),
+            (b"99999999999999999999", 0, GridNumber::OutOfRange),
+            (b"9999999999999999999", 0, GridNumber::OutOfRange),
+            (b"123456789012345678901234567890", 0, GridNumber::OutOfRange),
+            (
+                b"1234567890123456789012345678901e-1",
+                0,
+                GridNumber::OffGrid,
+            ),
+            (
+                b"100000000000000000000000000000e-29",
+                0,
+                GridNumber::OnGrid(1),
+            ),
+            (
+                b"0.00000000000000000000000000001e29",
+                0,
+                GridNumber::OnGrid(1),
+            ),
+            (many, 1, GridNumber::OnGrid(-125)),
+            (b"4.", 0, GridNumber::OnGrid(4)),
+            (b".5", 1, GridNumber::OnGrid(5)),
+            (b"+3", 0, GridNumber::OnGrid(3)),
+            (b"-0", 0, GridNumber::OnGrid(0)),
+            (
+                b"1e0000000000000000000000000000002",
+                0,
+                GridNumber::OnGrid(100),
+            ),
+        ];
+        for (text, scale, want) in table {
+            assert!(rt; is_number(text) && text.len() < 100 && scale <= 15);
+            assert_eq!(rt; grid_number(text, scale), want);
+        }
+        let others: [&[u8]; 16] = [
+            b"", b".", b"+", b"-.", b"e5", b"1e", b"1e+", b"1.5.5", b"1-2", b"--1", b"1e5.0",
+            b"1e5e5", b" 1", b"1 ", b"1,5", b"0x10",
+        ];
+        for text in others {
+            assert!(rt; !is_number(text));
+        }
+    }
+}
