@@ -25,7 +25,7 @@ or_assoc true b c = refl
 or_assoc false b c = refl
 
 -- some end passes where some edge has an end that passes
-any-ends_of : (p : Point → Bool) (es : List Edge) → list_any p (ends_of es) ≡ list_any (λ (e : Edge). p e.lo || p e.hi) es
+pub any-ends_of : (p : Point → Bool) (es : List Edge) → list_any p (ends_of es) ≡ list_any (λ (e : Edge). p e.lo || p e.hi) es
 any-ends_of p [] = refl
 any-ends_of p (e ∷ es) = ap (λ b. p e.lo || (p e.hi || b)) (any-ends_of p es) ∙ or_assoc (p e.lo) (p e.hi) (list_any (λ (e : Edge). p e.lo || p e.hi) es)
 

@@ -1,4 +1,10 @@
+pub mod EndingRows
+pub mod Even
 pub mod Layers
+pub mod MarkRows
+pub mod Ordered
 pub mod Orders
 pub mod Pairs
+pub mod Places
+pub mod Rows
 pub mod SortedSet

@@ -60,15 +60,15 @@ pub record IsOrderBy {X : Type 0} (R : X → X → Ordering) (comes_before : X �
 
 module _ {X : Type 0} {R : X → X → Ordering} {comes_before : X → X → Bool} (order : IsOrderBy R comes_before) where
   -- nothing comes before itself
-  irrefl : (x : X) → comes_before x x ≡ false
+  pub irrefl : (x : X) → comes_before x x ≡ false
   irrefl x = false_from_ne_true _ (λ h. order.asym x x h h)
 
   -- what comes before is less
-  less : (x y : X) → comes_before x y ≡ true → R x y ≡ Less
+  pub less : (x y : X) → comes_before x y ≡ true → R x y ≡ Less
   less x y h = by_ranked _ _ _ (R x y) (order.ranked x y) (λ e _. e) (λ _ same. absurd (both_ways _ (irrefl y) (subst (λ z. comes_before z y ≡ true) same h))) (λ _ more. absurd (order.asym x y h more))
 
   -- what is less comes before
-  from_less : (x y : X) → R x y ≡ Less → comes_before x y ≡ true
+  pub from_less : (x y : X) → R x y ≡ Less → comes_before x y ≡ true
   from_less x y h = subst (λ r. MatchOrdering r (comes_before x y ≡ true) (x ≡ y) (comes_before y x ≡ true)) h (order.ranked x y)
 
   -- coming before passes on
@@ -76,7 +76,7 @@ module _ {X : Type 0} {R : X → X → Ordering} {comes_before : X → X → Boo
   trans x y z h k = from_less x z (order.total.trans x y z (less x y h) (less y z k))
 
   -- of two different members one comes before the other
-  same_from_neither : (x y : X) → comes_before x y ≡ false → comes_before y x ≡ false → x ≡ y
+  pub same_from_neither : (x y : X) → comes_before x y ≡ false → comes_before y x ≡ false → x ≡ y
   same_from_neither x y h k = by_ranked _ _ _ (R x y) (order.ranked x y) (λ _ lt. absurd (both_ways _ h lt)) (λ _ same. same) (λ _ gt. absurd (both_ways _ k gt))
 
   -- ---- the sorted set rises

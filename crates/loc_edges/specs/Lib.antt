@@ -1,2 +1,5 @@
 pub mod Conflicts
+pub mod Ending
+pub mod Kept
 pub mod Layers
+pub mod MarkRows

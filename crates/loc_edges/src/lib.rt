@@ -1,12 +1,21 @@
-//! The tables of a layer: its corners and its edges, in order and each once, and the first pair of edges that conflicts.
+//! The tables of a layer: its corners and its edges, in order and each once, the marks of each edge, and the first pair of edges that
+//! conflicts.
 #![tactic(auto)]
 
 mod conflicts;
+mod limits;
+mod marks;
+mod numbers;
+mod ranges;
 mod segments;
 mod sorted;
+mod table;
 mod tables;
 
 pub use conflicts::{Conflict, first_conflict};
+pub use limits::is_small;
+pub use loc_spec_plane::Mark;
+pub use table::EdgeTable;
 pub use tables::{corners, corners_between, edges};
 
 #[cfg(test)]
@@ -133,6 +142,56 @@ mod tests {
             table,
             &[(3, 4, Meeting::Touch), (3, 5, Meeting::Touch)],
         );
+        Ok(())
+    }
+
+    const BOTH: &[Mark] = &[
+        Mark {
+            feature: 0,
+            odd: true,
+        },
+        Mark {
+            feature: 2,
+            odd: true,
+        },
+    ];
+
+    const TWICE: &[Mark] = &[Mark {
+        feature: 1,
+        odd: false,
+    }];
+
+    #[test]
+    fn edge_table_by_hand(rt: HostRuntime) -> Result<(), Fail> {
+        let layer = features_of(rt.alloc(), &[&SQUARE, &BACK, &SQUARE])?;
+        if !is_small(&layer) {
+            return Err(Fail::new("a large layer"));
+        }
+        let table = EdgeTable::make(rt.alloc(), &layer)?;
+        table.law();
+
+        let points = [(0, 0), (0, 4), (4, -1), (4, 0), (4, 4)];
+        let beginning = [(0, 3), (3, 4), (4, 4), (4, 5), (5, 5)];
+        let ending: [&[u32]; 5] = [&[], &[0], &[1], &[2], &[3, 4]];
+        assert_eq!(rt; table.corner_count(), 5);
+        for n in 0..table.corner_count() {
+            let at = n as usize;
+            assert_eq!(rt; points.get(at).copied(), Some(pair_of(table.corner(n))));
+            assert_eq!(rt; beginning.get(at).copied(), Some(table.beginning(n)));
+            assert_eq!(rt; ending.get(at).copied(), Some(table.ending(n)));
+        }
+
+        let ends = [(0, 1), (0, 2), (0, 3), (1, 4), (3, 4)];
+        let marks = [BOTH, TWICE, BOTH, BOTH, BOTH];
+        assert_eq!(rt; table.edge_count(), 5);
+        for n in 0..table.edge_count() {
+            let at = n as usize;
+            let (lo, hi) = table.ends(n);
+            assert_eq!(rt; ends.get(at).copied(), Some((lo, hi)));
+            assert_eq!(rt; marks.get(at).copied(), Some(table.marks(n)));
+            assert_eq!(rt; table.edge(n).lo(), table.corner(lo));
+            assert_eq!(rt; table.edge(n).hi(), table.corner(hi));
+        }
         Ok(())
     }
 }

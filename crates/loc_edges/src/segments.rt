@@ -1,8 +1,9 @@
 // The segments of the rings of features.
 
-ghost use Rattle.std.specs.Prelude.{◌≡◌, ◌++◌, OnOk, IfOk};
+ghost use Rattle.std.specs.Prelude.{◌≡◌, ◌++◌, All, OnOk, IfOk};
 ghost use Rattle.loc_spec_plane.specs.Rings.{ring_segments, segments};
 ghost use Rattle.loc_spec_plane.specs.Tables.{layer_segments as segments_of_layer};
+ghost use Rattle.loc_rings.specs.Values.{IsRing};
 ghost use Rattle.loc_edges.specs.Layers.{layer_of};
 
 use loc_geom::{Edge, Point};
@@ -22,8 +23,9 @@ fn add_ring(edges: &mut Vec<Edge>, ring: &[Point]) -> Result<(), AllocError>
 }
 
 // Puts the segments of all rings behind the edges.
-fn add_rings(edges: &mut Vec<Edge>, rings: &Rings) -> Result<(), AllocError>
-    ensures { OnOk result (edges.new.items ≡ edges.old.items ++ segments rings.now) }
+pub(crate) fn add_rings(edges: &mut Vec<Edge>, rings: &Rings) -> Result<(), AllocError>
+    ensures added { OnOk result (edges.new.items ≡ edges.old.items ++ segments rings.now) }
+    ensures closed { OnOk result (All IsRing rings.now) }
 {
     for n in 0..rings.len() {
         add_ring(edges, rings.ring(n))?;

@@ -1,7 +1,8 @@
-use Rattle.std.proofs.Common.{◌≡◌, ◌++◌, take}
-use Rattle.loc_spec_plane.specs.Rings.{segments}
+use Rattle.std.proofs.Common.{◌≡◌, ℕ, ◌<◌, ◌++◌, get_or, take}
+use Rattle.loc_rings.specs.Values.{IsRing}
+use Rattle.loc_spec_plane.specs.Rings.{Ring, segments}
 use Rattle.loc_edges.proofs.segments.add_rings.Given as goal
 
--- the segments of the rings before have been put there
+-- the segments of the rings before have been put there, and each of those is closed
 abbrev pub invariant-loop-n : goal.invariant-loop-n
-invariant-loop-n l = l.edges.items ≡ l.fn.edges.items ++ segments (take l.n l.rings)
+invariant-loop-n l = (l.edges.items ≡ l.fn.edges.items ++ segments (take l.n l.rings)) × ((k : ℕ) (d : Ring) → k < l.n → IsRing (get_or l.rings k d))

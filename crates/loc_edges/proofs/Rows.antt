@@ -1,0 +1,120 @@
+-- The table of a layer: how many rows it has, and that its rows stand in order.
+use Rattle.std.proofs.Common.{◌≡◌, suc, ◌≤◌, Bool, true, false, ◌||◌, List, [], ◌∷◌, ◌++◌, length, refl, sym, ◌∙◌, ap, inl, inr, ◌⊎◌, arith, length-append}
+use Rattle.std.specs.List.{list_any, flat_map}
+use Rattle.std.proofs.lemmas.Bool.{cases_Bool, cond-true, cond-false, both_ways, or_cases}
+use Rattle.std.proofs.lemmas.List.Concat.{flat_map-append}
+use Rattle.std.proofs.lemmas.List.Folds.{list_any-append}
+use Rattle.loc_spec_plane.specs.Points.{Point, Edge, before, same_point, edge_before}
+use Rattle.loc_spec_plane.specs.Lists.{with_member, sorted_set}
+use Rattle.loc_spec_plane.specs.Rings.{Ring, Rings, ring_segments, segments, segment_between}
+use Rattle.loc_spec_plane.specs.Tables.{layer_segments, layer_corners, pieces_of, whole}
+use Rattle.loc_edges.specs.Kept.{points_of}
+use Rattle.loc_edges.specs.Layers.{ends_of}
+use Rattle.loc_edges.proofs.Orders.{points_by_before}
+use Rattle.loc_edges.proofs.Layers.{pieces_of-whole}
+use Rattle.loc_edges.proofs.SortedSet.{same-sorted_set}
+
+-- ---- how many
+module _ {X : Type 0} (comes_before : X → X → Bool) where
+  -- a list with one member more is no shorter, and at most one longer
+  length-with_member : (x : X) (ys : List X) → (length ys ≤ length (with_member comes_before x ys)) × (length (with_member comes_before x ys) ≤ suc (length ys))
+  length-with_member x [] = (omega arith, omega arith)
+  length-with_member x (y ∷ ys) = elim (cases_Bool (comes_before x y)) [
+    | inl first ↦ (let e : length (with_member comes_before x (y ∷ ys)) ≡ suc (suc (length ys)) = ap length (cond-true _ _ _ first) in (omega (arith, e), omega (arith, e)))
+    | inr other ↦ elim (cases_Bool (comes_before y x)) [
+      | inl later ↦ (let e : length (with_member comes_before x (y ∷ ys)) ≡ suc (length (with_member comes_before x ys)) = ap length (cond-false _ _ _ other ∙ cond-true _ _ _ later) in let more = length-with_member x ys in (omega (arith, e, more.0), omega (arith, e, more.1)))
+      | inr same ↦ (let e : length (with_member comes_before x (y ∷ ys)) ≡ suc (length ys) = ap length (cond-false _ _ _ other ∙ cond-false _ _ _ same) in (omega (arith, e), omega (arith, e)))
+    ]
+  ]
+
+  -- a sorted set is no longer than the list
+  pub length-sorted_set : (xs : List X) → length (sorted_set comes_before xs) ≤ length xs
+  length-sorted_set [] = omega arith
+  length-sorted_set (x ∷ xs) = (let one = length-with_member x (sorted_set comes_before xs) in omega (arith, one.1, length-sorted_set xs))
+
+  -- and no shorter than that of a part of the list
+  length-sorted_set_part : (xs ys : List X) → length (sorted_set comes_before ys) ≤ length (sorted_set comes_before (xs ++ ys))
+  length-sorted_set_part [] ys = omega arith
+  length-sorted_set_part (x ∷ xs) ys = (let one = length-with_member x (sorted_set comes_before (xs ++ ys)) in omega (arith, one.0, length-sorted_set_part xs ys))
+
+pub or_true : (t : Bool) → (t || true) ≡ true
+or_true true = refl
+or_true false = refl
+
+-- a test that an end of a segment of a ring passes is passed by a point of the ring
+ring_points : (p : Point → Bool) (ring : Ring) → list_any p (ends_of (ring_segments ring)) ≡ true → list_any p ring ≡ true
+ring_points p [] h = h
+ring_points p (a ∷ []) h = absurd (both_ways _ refl h)
+ring_points p (a ∷ b ∷ ps) h = elim (cases_Bool (same_point a b)) [
+  | inl same ↦ later (ring_points p (b ∷ ps) (sym (ap (λ ss. list_any p (ends_of ss)) (cond-true _ _ _ same)) ∙ h))
+  | inr other ↦ split (sym (ap (λ ss. list_any p (ends_of ss)) (cond-false _ _ _ other)) ∙ h) (ring_points p (b ∷ ps))
+]
+  where
+    later : list_any p (b ∷ ps) ≡ true → list_any p (a ∷ b ∷ ps) ≡ true
+    later h = ap (λ t. p a || t) h ∙ or_true (p a)
+
+    split : list_any p (ends_of (segment_between a b ∷ ring_segments (b ∷ ps))) ≡ true → (list_any p (ends_of (ring_segments (b ∷ ps))) ≡ true → list_any p (b ∷ ps) ≡ true) → list_any p (a ∷ b ∷ ps) ≡ true
+    split h rest = elim (cases_Bool (p a)) [
+      | inl here ↦ ap (λ t. t || (p b || list_any p ps)) here
+      | inr not_here ↦ elim (cases_Bool (p b)) [
+        | inl next ↦ later (ap (λ t. t || list_any p ps) next)
+        | inr not_next ↦ later (rest (sym (drop_ends not_here not_next) ∙ h))
+      ]
+    ]
+      where
+        drop_ends : p a ≡ false → p b ≡ false → list_any p (ends_of (segment_between a b ∷ ring_segments (b ∷ ps))) ≡ list_any p (ends_of (ring_segments (b ∷ ps)))
+        drop_ends na nb = elim (cases_Bool (before a b)) [
+          | inl up ↦ ap (λ s. list_any p (ends_of (s ∷ ring_segments (b ∷ ps)))) (cond-true _ _ _ up) ∙ (ap (λ t. t || (p b || list_any p (ends_of (ring_segments (b ∷ ps))))) na ∙ ap (λ t. t || list_any p (ends_of (ring_segments (b ∷ ps)))) nb)
+          | inr down ↦ ap (λ s. list_any p (ends_of (s ∷ ring_segments (b ∷ ps)))) (cond-false _ _ _ down) ∙ (ap (λ t. t || (p a || list_any p (ends_of (ring_segments (b ∷ ps))))) nb ∙ ap (λ t. t || list_any p (ends_of (ring_segments (b ∷ ps)))) na)
+        ]
+
+-- the same of the rings of a feature
+rings_points : (p : Point → Bool) (rings : Rings) → list_any p (ends_of (segments rings)) ≡ true → list_any p (flat_map (λ ring. ring) rings) ≡ true
+rings_points p [] h = h
+rings_points p (ring ∷ rings) h = list_any-append p ring (flat_map (λ r. r) rings) ∙ either (or_cases _ _ (sym (ap (list_any p) (flat_map-append (λ (e : Edge). e.lo ∷ e.hi ∷ []) (ring_segments ring) (segments rings)) ∙ list_any-append p (ends_of (ring_segments ring)) (ends_of (segments rings))) ∙ h)) (rings_points p rings)
+  where
+    either : (list_any p (ends_of (ring_segments ring)) ≡ true) ⊎ (list_any p (ends_of (segments rings)) ≡ true) → (list_any p (ends_of (segments rings)) ≡ true → list_any p (flat_map (λ r. r) rings) ≡ true) → (list_any p ring || list_any p (flat_map (λ r. r) rings)) ≡ true
+    either (inl here) rest = ap (λ b. b || list_any p (flat_map (λ r. r) rings)) (ring_points p ring here)
+    either (inr there) rest = ap (λ b. list_any p ring || b) (rest there) ∙ or_true (list_any p ring)
+
+-- and of a layer
+layer_points : (p : Point → Bool) (layer : List Rings) → list_any p (ends_of (layer_segments layer)) ≡ true → list_any p (points_of layer) ≡ true
+layer_points p [] h = h
+layer_points p (rings ∷ layer) h = list_any-append p (flat_map (λ r. r) rings) (points_of layer) ∙ either (or_cases _ _ (sym (ap (list_any p) (flat_map-append (λ (e : Edge). e.lo ∷ e.hi ∷ []) (segments rings) (layer_segments layer)) ∙ list_any-append p (ends_of (segments rings)) (ends_of (layer_segments layer))) ∙ h)) (layer_points p layer)
+  where
+    either : (list_any p (ends_of (segments rings)) ≡ true) ⊎ (list_any p (ends_of (layer_segments layer)) ≡ true) → (list_any p (ends_of (layer_segments layer)) ≡ true → list_any p (points_of layer) ≡ true) → (list_any p (flat_map (λ r. r) rings) || list_any p (points_of layer)) ≡ true
+    either (inl here) rest = ap (λ b. b || list_any p (points_of layer)) (rings_points p rings here)
+    either (inr there) rest = ap (λ b. list_any p (flat_map (λ r. r) rings) || b) (rest there) ∙ or_true (list_any p (flat_map (λ r. r) rings))
+
+-- so there are no more corners than points: with the ends of the segments the points have no further member
+pub few_corners : (layer : List Rings) → length (layer_corners layer) ≤ length (points_of layer)
+few_corners layer =
+    let ends : List Point = ends_of (layer_segments layer) in
+    let same : sorted_set before (points_of layer ++ ends) ≡ sorted_set before (points_of layer) = same-sorted_set points_by_before (points_of layer ++ ends) (points_of layer) (λ p. list_any-append p (points_of layer) ends ∙ absorb (list_any p (points_of layer)) (list_any p ends) (layer_points p layer)) in
+    omega (arith, length-sorted_set_part before (points_of layer) ends, ap length same, length-sorted_set before (points_of layer))
+  where
+    absorb : (a b : Bool) → (b ≡ true → a ≡ true) → (a || b) ≡ a
+    absorb true b h = refl
+    absorb false true h = sym (h refl)
+    absorb false false h = refl
+
+-- a ring has no more segments than points
+few_ring_segments : (ring : Ring) → length (ring_segments ring) ≤ length ring
+few_ring_segments [] = omega arith
+few_ring_segments (a ∷ []) = omega arith
+few_ring_segments (a ∷ b ∷ ps) = elim (cases_Bool (same_point a b)) [
+  | inl same ↦ (let e : length (ring_segments (a ∷ b ∷ ps)) ≡ length (ring_segments (b ∷ ps)) = ap length (cond-true _ _ _ same) in omega (arith, e, few_ring_segments (b ∷ ps)))
+  | inr other ↦ (let e : length (ring_segments (a ∷ b ∷ ps)) ≡ suc (length (ring_segments (b ∷ ps))) = ap length (cond-false _ _ _ other) in omega (arith, e, few_ring_segments (b ∷ ps)))
+]
+
+few_segments : (rings : Rings) → length (segments rings) ≤ length (flat_map (λ (ring : Ring). ring) rings)
+few_segments [] = omega arith
+few_segments (ring ∷ rings) = omega (arith, length-append (ring_segments ring) (segments rings), length-append ring (flat_map (λ (r : Ring). r) rings), few_ring_segments ring, few_segments rings)
+
+few_layer_segments : (layer : List Rings) → length (layer_segments layer) ≤ length (points_of layer)
+few_layer_segments [] = omega arith
+few_layer_segments (rings ∷ layer) = omega (arith, length-append (segments rings) (layer_segments layer), length-append (flat_map (λ (r : Ring). r) rings) (points_of layer), few_segments rings, few_layer_segments layer)
+
+-- nor more edges
+pub few_edges : (layer : List Rings) → length (pieces_of whole layer) ≤ length (points_of layer)
+few_edges layer = omega (arith, ap length (pieces_of-whole layer), length-sorted_set edge_before (layer_segments layer), few_layer_segments layer)

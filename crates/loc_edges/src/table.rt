@@ -1,0 +1,144 @@
+// The table of a layer: its corners, its edges and their marks, by number.
+
+ghost use Rattle.std.specs.Prelude.{◌≡◌, ◌<◌, ◌≤◌, ◌^◌, ◌==◌, IsTrue, Some, filter, length, slice_get, IfOk};
+ghost use Rattle.loc_spec_plane.specs.Lists.{is_rising};
+ghost use Rattle.loc_spec_plane.specs.Tables.{IsTable, AllEnds, AllEven, table_of, corner as corner_of, edge as edge_of, lo_of, hi_of, edge_numbers, mark_before};
+ghost use Rattle.loc_edges.specs.Ending.{IsBeginning};
+ghost use Rattle.loc_edges.specs.Kept.{IsSmallLayer};
+ghost use Rattle.loc_edges.specs.Layers.{layer_of};
+
+use crate::marks::mark_rows;
+use crate::numbers::numbered_ends;
+use crate::ranges::{ending_rows, first_from};
+use crate::tables::{corners_between, edges as sorted_edges};
+use loc_geom::{Edge, Point};
+use loc_rings::Feature;
+use loc_spec_plane::Mark;
+use std::alloc::{AllocError, Global};
+use std::marker::Model;
+
+/// The table of a layer: its corners in order, its edges as pairs of corner numbers in order, and for each edge its marks in the order of
+/// the features.
+#[derive(Drop)]
+pub struct EdgeTable {
+    corners: Vec<Point>,
+    edges: Vec<Edge>,
+    ends: Vec<(u32, u32)>,
+    marks: Vec<Vec<Mark>>,
+    ending: Vec<Vec<u32>>,
+}
+
+impl Model for EdgeTable {
+    ghost use Rattle.std.specs.Prelude.{map};
+    ghost use Rattle.loc_spec_plane.specs.Tables.{Table};
+    ghost use Rattle.loc_edges.specs.MarkRows.{rows_of};
+    ghost use Rattle.loc_edges.specs.Kept.{IsKept};
+
+    ghost Value = { Table };
+
+    ghost view = { λ t. record { corners = t.corners.items; ends = t.ends.items; marks = rows_of t.marks } };
+
+    ghost invariant = { λ t. IsKept t.edges.items (map (λ row. row.items) t.ending.items) (record { corners = t.corners.items; ends = t.ends.items; marks = rows_of t.marks }) };
+}
+
+impl EdgeTable {
+    /// The table of a layer. It takes time in the order of n log n for n written points.
+    pub fn make(alloc: Global, features: &[Feature]) -> Result<EdgeTable, AllocError>
+        requires small { IsSmallLayer (layer_of features.now) }
+        ensures ok { IfOk result (λ table. table ≡ table_of (layer_of features.now)) }
+        ensures in_order { IfOk result IsTable }
+        ensures all_ends { IfOk result AllEnds }
+        ensures all_even { IfOk result AllEven }
+    {
+        let edges = sorted_edges(alloc, features)?;
+        let corners = corners_between(alloc, &edges)?;
+        let ends = numbered_ends(alloc, &corners, &edges)?;
+        let marks = mark_rows(alloc, &edges, features)?;
+        let ending = ending_rows(alloc, &ends, corners.len() as u32)?;
+        Ok(EdgeTable {
+            corners,
+            edges,
+            ends,
+            marks,
+            ending,
+        })
+    }
+    /// What is true of every table, as a call that does no work: its rows stand in order, every corner is an end of an edge, and every
+    /// feature has an even number of odd marks at each corner.
+    pub fn law(&self)
+        ensures in_order { IsTable self.now }
+        ensures all_ends { AllEnds self.now }
+        ensures all_even { AllEven self.now }
+    {
+        let _corners = &self.corners;
+    }
+
+    /// How many corners there are.
+    pub fn corner_count(&self) -> u32
+        ensures value { result ≡ length self.now.corners }
+        ensures within { result ≤ 2 ^ 20 }
+    {
+        self.corners.len() as u32
+    }
+
+    /// How many edges there are.
+    pub fn edge_count(&self) -> u32
+        ensures value { result ≡ length self.now.ends }
+        ensures within { result ≤ 2 ^ 20 }
+    {
+        self.ends.len() as u32
+    }
+
+    /// Corner n.
+    pub fn corner(&self, n: u32) -> Point
+        requires { n < length self.now.corners }
+        ensures { result ≡ corner_of self.now n }
+    {
+        self.corners[n as usize]
+    }
+
+    /// Edge n by its points.
+    pub fn edge(&self, n: u32) -> Edge
+        requires { n < length self.now.ends }
+        ensures { result ≡ edge_of self.now n }
+    {
+        self.edges[n as usize]
+    }
+
+    /// The numbers of the lower and of the upper end of edge n.
+    pub fn ends(&self, n: u32) -> (u32, u32)
+        requires { n < length self.now.ends }
+        ensures lower { result.0 ≡ lo_of self.now n }
+        ensures upper { result.1 ≡ hi_of self.now n }
+        ensures goes_up { result.0 < result.1 }
+        ensures in_range { result.1 < length self.now.corners }
+    {
+        self.ends[n as usize]
+    }
+
+    /// The marks of edge n, in the order of the features.
+    pub fn marks(&self, n: u32) -> &[Mark]
+        requires { n < length self.now.ends }
+        ensures value { slice_get self.now.marks n ≡ Some result.now }
+        ensures in_order { IsTrue (is_rising mark_before result.now) }
+    {
+        self.marks[n as usize].as_slice()
+    }
+    /// The edges whose lower end is the corner: from the first number on and before the second.
+    pub fn beginning(&self, corner: u32) -> (u32, u32)
+        requires { corner < length self.now.corners }
+        ensures { IsBeginning self.now corner result.0 result.1 }
+    {
+        let first = first_from(&self.ends, corner);
+        let past = first_from(&self.ends, corner + 1);
+        (first as u32, past as u32)
+    }
+
+    /// The edges whose upper end is the corner, in order.
+    pub fn ending(&self, corner: u32) -> &[u32]
+        requires { corner < length self.now.corners }
+        ensures { result.now ≡ filter (λ e. hi_of self.now e == corner) (edge_numbers self.now) }
+    {
+        self.ending[corner as usize].as_slice()
+    }
+}
