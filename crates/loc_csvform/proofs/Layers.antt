@@ -1,49 +1,98 @@
--- The layer of a text, line by line.
-use Rattle.std.proofs.Common.{◌≡◌, ℕ, ◌+◌, List, [], ◌∷◌, ◌++◌, Bool, true, false, not, Result, Ok, Err, refl, sym, ap, filter}
+-- The layer of a text, row by row.
+use Rattle.std.proofs.Common.{◌≡◌, ℕ, ◌+◌, List, [], ◌∷◌, Bool, true, false, Option, Some, None, Result, Ok, Err, codes, length, cond, refl, sym, subst, ap, map, filter}
 use Rattle.std.specs.List.{enumerate_from}
+use Rattle.std.proofs.lemmas.Bool.{eq-eqb}
+use Rattle.std.specs.Fmt.{decimal}
+use Rattle.csv.specs.Reading.{default_config, records, strip_bom}
+use Rattle.std.specs.Result.{IsErrAnd, IfErr}
+use Rattle.loc_spec_text.specs.declared.Form.TheVariants as form
 use Rattle.loc_spec_text.specs.declared.TextFault.{TextFault}
-use Rattle.loc_spec_text.specs.Bytes.{is_blank, lines}
-use Rattle.loc_spec_text.specs.Reading.{Polygons}
-use Rattle.loc_spec_text.specs.RingText.{ring_reading}
+use Rattle.loc_spec_text.specs.Bytes.{is_blank, lines, result_and_then}
+use Rattle.loc_spec_text.specs.Reading.{Polygons, reading}
 use Rattle.loc_rings.specs.Values.{Feature}
-use Rattle.loc_csvform.specs.Faults.{IsFeature}
-use Rattle.loc_csvform.specs.Layer.{LineFault, features_from, with_reading, layer_of}
-
--- a numbered line is no blank one
-abbrev pub is_feature_line : ℕ × List ℕ → Bool
-is_feature_line l = not (is_blank l.1)
+use Rattle.loc_csvform.specs.declared.faults.LayerFault.{LayerFault}
+use Rattle.loc_csvform.specs.declared.faults.LayerFault.TheVariants as f
+use Rattle.loc_csvform.specs.Faults.{IsFaultOf}
+use Rattle.loc_csvform.specs.Layer.{LayerRead, RowRead, column, csv_row, features_from, field, is_row_line, layer_of, line_row, row_id, row_of, text_reading, with_row}
 
 -- the layer, given the features of the lines so far and the rest of the text behind them
-abbrev pub later : ℕ → List ℕ → List Feature → Result (List Feature) LineFault
-later row rest features = features_from ring_reading (filter is_feature_line (enumerate_from (row + 1) (lines rest))) features
+abbrev pub later : ℕ → ℕ → List ℕ → List Feature → LayerRead
+later scale row rest features = features_from (reading scale) (map line_row (filter is_row_line (enumerate_from (row + 1) (lines rest)))) features
 
-pub at_start : (bytes : List ℕ) → later 0 bytes [] ≡ layer_of bytes
-unfolding layer_of
-at_start bytes = refl
+-- what is left of the numbered lines, by whether the first is blank
+chosen : (n : ℕ) (line : List ℕ) (ls : List (ℕ × List ℕ)) (blank : Bool) → is_blank line ≡ blank → filter is_row_line ((n, line) ∷ ls) ≡ cond blank (filter is_row_line ls) ((n, line) ∷ filter is_row_line ls)
+chosen n line ls true e = rw e refl
+chosen n line ls false e = rw e refl
 
-pub at_end : (row : ℕ) (features : List Feature) → later row [] features ≡ Ok features
-at_end row features = refl
-
-filtered : (l : ℕ × List ℕ) (ls : List (ℕ × List ℕ)) (b : Bool) → is_feature_line l ≡ b → (features : List Feature) → b ≡ false → features_from ring_reading (filter is_feature_line (l ∷ ls)) features ≡ features_from ring_reading (filter is_feature_line ls) features
-filtered l ls true e features h = absurd (cc h)
-filtered l ls false e features h = rw e refl
-
-kept : (l : ℕ × List ℕ) (ls : List (ℕ × List ℕ)) → is_feature_line l ≡ true → (features : List Feature) → features_from ring_reading (filter is_feature_line (l ∷ ls)) features ≡ with_reading l.0 features (ring_reading l.1) (features_from ring_reading (filter is_feature_line ls))
-kept l ls e features = rw e refl
+numbered : (scale n : ℕ) (line : List ℕ) (ls : List (ℕ × List ℕ)) (features : List Feature) (blank : Bool) → is_blank line ≡ blank
+    → features_from (reading scale) (map line_row (filter is_row_line ((n, line) ∷ ls))) features ≡ features_from (reading scale) (map line_row (cond blank (filter is_row_line ls) ((n, line) ∷ filter is_row_line ls))) features
+numbered scale n line ls features blank e = ap (λ rest. features_from (reading scale) (map line_row rest) features) (chosen n line ls blank e)
 
 -- a blank line is passed over
-pub pass : (row : ℕ) (rest line more : List ℕ) (features : List Feature) → lines rest ≡ line ∷ lines more → is_blank line ≡ true → later row rest features ≡ later (row + 1) more features
-pass row rest line more features cut blank = rw cut (filtered (row + 1, line) (enumerate_from (row + 1 + 1) (lines more)) false (ap not blank) features refl)
+pub pass : (scale row : ℕ) (rest line more : List ℕ) (features : List Feature) → lines rest ≡ line ∷ lines more → is_blank line ≡ true → later scale row rest features ≡ later scale (row + 1) more features
+pass scale row rest line more features cut blank = rw cut (numbered scale (row + 1) line (enumerate_from (row + 1 + 1) (lines more)) features true blank)
 
--- another line is read
-pub read : (row : ℕ) (rest line more : List ℕ) (features : List Feature) → lines rest ≡ line ∷ lines more → is_blank line ≡ false → later row rest features ≡ with_reading (row + 1) features (ring_reading line) (later (row + 1) more)
-read row rest line more features cut full = rw cut (kept (row + 1, line) (enumerate_from (row + 1 + 1) (lines more)) (ap not full) features)
+-- another line is a row
+pub read : (scale row : ℕ) (rest line more : List ℕ) (features : List Feature) → lines rest ≡ line ∷ lines more → is_blank line ≡ false
+    → later scale row rest features ≡ result_and_then (with_row features (record { number = row + 1; id = decimal (row + 1); text = line }) (text_reading (reading scale) line)) (later scale (row + 1) more)
+read scale row rest line more features cut full = rw cut (numbered scale (row + 1) line (enumerate_from (row + 1 + 1) (lines more)) features false full)
 
--- a feature more
-pub put : (row : ℕ) (features : List Feature) (feature : Feature) (text : Result Polygons TextFault) (more : List Feature → Result (List Feature) LineFault) → IsFeature row feature text → with_reading row features text more ≡ more (features ++ feature ∷ [])
-put row features feature (Ok polygons) more is = ap (λ f. more (features ++ f ∷ [])) (sym is)
-put row features feature (Err fault) more is = absurd is
+-- the step that was taken
+pub put : (first : LayerRead) (features : List Feature) (more : List Feature → LayerRead) → first ≡ Ok features → result_and_then first more ≡ more features
+put first features more is = rw is refl
 
--- a fault
-pub stop : (row : ℕ) (features : List Feature) (fault : TextFault) (text : Result Polygons TextFault) (more : List Feature → Result (List Feature) LineFault) → text ≡ Err fault → with_reading row features text more ≡ Err (record { row = row; fault = fault })
-stop row features fault text more is = rw is refl
+-- the fault of a step is that of the whole
+pub stop : (first : LayerRead) (fault : LayerFault) (more : List Feature → LayerRead) → IsFaultOf first fault → IsFaultOf (result_and_then first more) fault
+stop first f.NoMemory more is = tt
+stop first (f.Text row fault) more is = (rw is.0 refl, is.1)
+stop first f.NoColumn more is = rw is refl
+stop first (f.Ragged row) more is = rw is refl
+stop first (f.BadText row) more is = rw is refl
+stop first (f.LongId row) more is = rw is refl
+stop first (f.ManyFeatures row) more is = rw is refl
+stop first (f.ManyPoints row) more is = rw is refl
+
+-- the features of the first row, then those of the others
+pub row_more : (read : List ℕ → Result Polygons TextFault) (row : RowRead) (rows : List RowRead) (features : List Feature) → features_from read (row ∷ rows) features ≡ result_and_then (features_from read (row ∷ []) features) (features_from read rows)
+row_more read (Err fault) rows features = refl
+row_more read (Ok row) rows features = go (with_row features row (text_reading read row.text))
+  where
+    go : (first : LayerRead) → result_and_then first (features_from read rows) ≡ result_and_then (result_and_then first (features_from read [])) (features_from read rows)
+    go (Ok more) = refl
+    go (Err fault) = refl
+
+-- the fault of a row is that of the layer
+pub row_fault : (read : List ℕ → Result Polygons TextFault) (row : RowRead) (features : List Feature) (fault : LayerFault) → IsFaultOf row fault → IsFaultOf (features_from read (row ∷ []) features) fault
+row_fault read row features f.NoMemory is = tt
+row_fault read row features (f.Text n fault) is = (rw is.0 refl, is.1)
+row_fault read row features f.NoColumn is = rw is refl
+row_fault read row features (f.Ragged n) is = rw is refl
+row_fault read row features (f.BadText n) is = rw is refl
+row_fault read row features (f.LongId n) is = rw is refl
+row_fault read row features (f.ManyFeatures n) is = rw is refl
+row_fault read row features (f.ManyPoints n) is = rw is refl
+
+-- a record of as many fields as the header has
+pub same_count : (count wkt : ℕ) (id : Option ℕ) (n : ℕ) (fields : List (List ℕ)) → length fields ≡ count → csv_row count wkt id (n, fields) ≡ row_of n (row_id id n fields) (field fields wkt)
+same_count count wkt id n fields same = rw (eq-eqb (length fields) count same) refl
+
+-- a fault that is handed on
+pub handed : {X : Type 0} (r : Result X LayerFault) (read : RowRead) (fault : LayerFault) (features : List Feature) (texts : List ℕ → Result Polygons TextFault) → IsErrAnd r (λ e. e ≡ fault) → IsFaultOf read fault → IfErr r (IsFaultOf (features_from texts (read ∷ []) features))
+handed (Ok x) read fault features texts is of = absurd is
+handed (Err e) read fault features texts is of = row_fault texts read features e (subst (IsFaultOf read) (sym is) of)
+
+-- a text in form csv without a record
+pub no_header : (scale : ℕ) (text : List ℕ) → [] ≡ records default_config (strip_bom text) → layer_of form.Csv scale text ≡ Err f.NoColumn
+unfolding layer_of
+no_header scale text none = rw (sym none) refl
+
+-- one whose first record has no geometry column
+pub no_column : (scale : ℕ) (text : List ℕ) (header : List (List ℕ)) (below : List (List (List ℕ))) → header ∷ below ≡ records default_config (strip_bom text) → column (codes "wkt") header ≡ None → layer_of form.Csv scale text ≡ Err f.NoColumn
+unfolding layer_of
+no_column scale text header below cut none = rw (sym cut, none) refl
+
+-- and one whose first record has it
+pub under_header : (scale : ℕ) (text : List ℕ) (header : List (List ℕ)) (below : List (List (List ℕ))) (wkt : ℕ) → header ∷ below ≡ records default_config (strip_bom text) → column (codes "wkt") header ≡ Some wkt
+    → layer_of form.Csv scale text ≡ features_from (reading scale) (map (csv_row (length header) wkt (column (codes "id") header)) (enumerate_from 1 below)) []
+unfolding layer_of
+under_header scale text header below wkt cut some = rw (sym cut, some) refl

@@ -1,3 +1,7 @@
 mod Examples
 pub mod Layers
 pub mod LineLemmas
+pub mod Marks
+pub mod Machine
+pub mod Fields
+pub mod Fronts

@@ -1,6 +1,6 @@
 // The lines of a text.
 
-ghost use Rattle.std.specs.Prelude.{◌≡◌, ◌∷◌, ◌<◌, [], ◌==◌, length, position, MatchOption, IfSome};
+ghost use Rattle.std.specs.Prelude.{◌≡◌, ◌∷◌, ◌<◌, ◌≤◌, [], ◌==◌, length, position, MatchOption, IfSome};
 ghost use Rattle.loc_spec_text.specs.Bytes.{lines};
 
 // Where the first LF stands.
@@ -13,6 +13,7 @@ fn feed_place(text: &[u8]) -> Option<usize>
 /// The first line of a text, without its LF, and what follows it. Nothing where the text is empty, and so has no line.
 pub fn next_line(text: &[u8]) -> Option<(&[u8], &[u8])>
     ensures found { MatchOption result (text.now ≡ []) (λ l. lines text.now ≡ l.0.now ∷ lines l.1.now) }
+    ensures within { IfSome result (λ l. length l.0.now ≤ length text.now) }
     ensures shorter { IfSome result (λ l. length l.1.now < length text.now) }
 {
     if text.is_empty() {

@@ -1,5 +1,6 @@
 pub mod EndingRows
 pub mod Even
+pub mod Hits
 pub mod Layers
 pub mod MarkRows
 pub mod Ordered
@@ -8,3 +9,5 @@ pub mod Pairs
 pub mod Places
 pub mod Rows
 pub mod SortedSet
+pub mod EdgeLists
+pub mod SmallLayers

@@ -17,7 +17,7 @@ use Rattle.loc_edges.specs.declared.conflicts.Conflict.{Conflict}
 
 module _ {X : Type 0} (p : X → Bool) where
   -- a member of a list of which none passes
-  fails-at : (xs : List X) (i : ℕ) (d : X) → list_any p xs ≡ false → i < length xs → p (get_or xs i d) ≡ false
+  pub fails-at : (xs : List X) (i : ℕ) (d : X) → list_any p xs ≡ false → i < length xs → p (get_or xs i d) ≡ false
   fails-at xs i d none fits = false_from_ne_true _ (λ h. both_ways _ none (list_any_at p xs i d fits h))
 
   -- one more that fails

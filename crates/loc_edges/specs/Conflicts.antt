@@ -1,11 +1,16 @@
 -- Which two edges of a list conflict.
-use Rattle.std.specs.Prelude.{ℕ, ◌<◌, Bool, not, List, length, take, slice_index_or, IsTrue}
+use Rattle.std.specs.Prelude.{ℕ, ◌<◌, Bool, not, List, length, map, take, slice_index_or, IsTrue}
 use Rattle.std.specs.List.{list_any}
 use Rattle.loc_spec_plane.specs.Points.{Edge, conflict, edge_before}
 use Rattle.loc_spec_plane.specs.Lists.{is_rising}
+use Rattle.loc_spec_plane.specs.Tables.{Table, edge, edge_numbers}
 use Rattle.loc_geom.specs.Answers.{IsMeeting}
 use Rattle.loc_geom.specs.declared.kinds.Meeting.{Meeting}
 use Rattle.loc_edges.specs.declared.conflicts.Conflict.{Conflict}
+
+-- the edges of a table by their points, in order
+abbrev pub edges_of : Table → List Edge
+edges_of t = map (edge t) (edge_numbers t)
 
 -- the edge conflicts with one of the list
 abbrev pub conflicts_with : List Edge → Edge → Bool

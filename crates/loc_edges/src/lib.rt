@@ -2,29 +2,40 @@
 //! conflicts.
 #![tactic(auto)]
 
+ghost use Rattle.std.specs.Prelude.{◌≡◌, ◌<◌, IfOk, length};
+ghost use Rattle.loc_rings.specs.Values.{IsRing};
+
 mod conflicts;
-mod limits;
+mod floors;
+mod list_rows;
 mod marks;
 mod numbers;
 mod ranges;
+mod ranks;
 mod segments;
 mod sorted;
 mod table;
 mod tables;
+mod views;
 
 pub use conflicts::{Conflict, first_conflict};
-pub use limits::is_small;
+pub use floors::Floors;
 pub use loc_spec_plane::Mark;
+pub use ranks::{Placing, Ranks};
 pub use table::EdgeTable;
 pub use tables::{corners, corners_between, edges};
+pub use views::Views;
 
 #[cfg(test)]
 mod tests {
     use super::*;
-    use loc_geom::{Edge, Meeting, Point};
-    use loc_rings::{Feature, Rings};
+    use loc_geom::{Edge, Meeting, Point, Side, Steps};
+    use loc_rings::{Feature, Layer, Rings};
     use std::alloc::Global;
+    use std::cmp::Ordering;
+    use std::marker::Brand;
     use std::process::Abort;
+    use std::sync::ledger::{Blank, Ledger};
     use std::test::Fail;
 
     const SQUARE: [(i64, i64); 5] = [(0, 0), (4, 0), (4, 4), (0, 4), (0, 0)];
@@ -35,22 +46,43 @@ mod tests {
 
     const BACK: [(i64, i64); 4] = [(4, -1), (0, 0), (0, 0), (4, -1)];
 
+    // A closed ring by its coordinates.
+    fn ring_of(alloc: Global, row: &[(i64, i64)]) -> Result<Vec<Point>, Fail>
+        ensures { IfOk result (λ ring. IsRing ring.items) }
+    {
+        let mut ring = Vec::new(alloc);
+        for (x, y) in row.iter().copied() {
+            ring.push(Point::new(x, y).ok_or("off the grid")?)?;
+        }
+        if ring.len() < 4 || ring[0] != ring[ring.len() - 1] {
+            return Err(Fail::new("no ring"));
+        }
+        Ok(ring)
+    }
+
     // Features without ids, each of one ring given by its coordinates.
     fn features_of(alloc: Global, rows: &[&[(i64, i64)]]) -> Result<Vec<Feature>, Fail> {
         let mut features = Vec::new(alloc);
         for row in rows {
-            let mut ring = Vec::new(alloc);
-            for (x, y) in row.iter().copied() {
-                ring.push(Point::new(x, y).ok_or("off the grid")?)?;
-            }
-            if ring.len() < 4 || ring[0] != ring[ring.len() - 1] {
-                return Err(Fail::new("no ring"));
-            }
+            let ring = ring_of(alloc, row)?;
             let mut rings = Rings::new(alloc);
+            rings.start_polygon()?;
             rings.add(ring)?;
             features.push(Feature::new(Vec::new(alloc), rings))?;
         }
         Ok(features)
+    }
+
+    // The same features as a layer.
+    fn layer_of(alloc: Global, rows: &[&[(i64, i64)]]) -> Result<Layer, Fail> {
+        let mut layer = Layer::new(alloc);
+        for feature in features_of(alloc, rows)? {
+            if layer.is_full() || !layer.has_room(&feature) {
+                return Err(Fail::new("a large layer"));
+            }
+            layer.add(feature)?;
+        }
+        Ok(layer)
     }
 
     fn pair_of(p: Point) -> (i64, i64) {
@@ -163,10 +195,7 @@ mod tests {
 
     #[test]
     fn edge_table_by_hand(rt: HostRuntime) -> Result<(), Fail> {
-        let layer = features_of(rt.alloc(), &[&SQUARE, &BACK, &SQUARE])?;
-        if !is_small(&layer) {
-            return Err(Fail::new("a large layer"));
-        }
+        let layer = layer_of(rt.alloc(), &[&SQUARE, &BACK, &SQUARE])?;
         let table = EdgeTable::make(rt.alloc(), &layer)?;
         table.law();
 
@@ -192,6 +221,75 @@ mod tests {
             assert_eq!(rt; table.edge(n).lo(), table.corner(lo));
             assert_eq!(rt; table.edge(n).hi(), table.corner(hi));
         }
+        Ok(())
+    }
+
+    // Two edges: how the second stands to the first, whether the first is lower, and the second's lower end against the first edge and
+    // its lower end.
+    const ROWS: [(u32, u32, Placing, bool, Side, Ordering); 10] = [
+        (0, 1, Placing::Below, false, Side::On, Ordering::Equal),
+        (1, 0, Placing::Above, true, Side::On, Ordering::Equal),
+        (2, 3, Placing::Below, false, Side::Below, Ordering::Less),
+        (3, 4, Placing::Hits, false, Side::On, Ordering::Equal),
+        (4, 3, Placing::Hits, false, Side::On, Ordering::Equal),
+        (4, 5, Placing::Below, false, Side::On, Ordering::Equal),
+        (5, 4, Placing::Above, true, Side::On, Ordering::Equal),
+        (4, 6, Placing::Hits, false, Side::On, Ordering::Less),
+        (5, 6, Placing::Above, true, Side::Above, Ordering::Less),
+        (6, 7, Placing::Below, false, Side::Below, Ordering::Less),
+    ];
+
+    // How edge b stands to edge a, where a is alive at b's lower end.
+    fn placing_of(ranks: &Ranks, a: u32, b: u32) -> Option<Placing>
+        requires first_in_range { a < length ranks.now.ends }
+        requires second_in_range { b < length ranks.now.ends }
+    {
+        ranks.law();
+        let (from, to) = ranks.ends(a);
+        let (at, _) = ranks.ends(b);
+        if a == b || at < from || to <= at {
+            return None;
+        }
+        Some(ranks.placing(a, b))
+    }
+
+    // The rows, with a counter that has this name.
+    fn expect_rows<L: Ledger>(rt: &impl Abort, table: &EdgeTable, blank: Blank)
+        requires name { blank.name ≡ L.name }
+        requires parts { blank.parts ≡ L.parts }
+        requires some { 0 < L.parts }
+    {
+        let views = table.views();
+        let ranks = table.ranks();
+        let mut steps = Steps::<L>::new(blank);
+        for (a, b, placing, lower, side, order) in ROWS {
+            assert!(rt; a < views.edge_count());
+            assert!(rt; b < views.edge_count());
+            assert_eq!(rt; placing_of(&ranks, a, b), Some(placing));
+            assert_eq!(rt; ranks.lower(a, b), lower);
+            assert_eq!(rt; views.lower(a, b), lower);
+            let (begin, _) = views.ends(a);
+            let (corner, _) = ranks.ends(b);
+            let p = table.corner(corner);
+            assert_eq!(rt; ranks.side(a, corner), side);
+            assert_eq!(rt; views.side(a, p, &mut steps), side);
+            assert_eq!(rt; views.compare(begin, p, &mut steps), order);
+        }
+    }
+
+    #[test]
+    fn views_and_ranks_by_hand(rt: HostRuntime) -> Result<(), Fail> {
+        let layer = layer_of(rt.alloc(), &[&BESIDE, &SQUARE])?;
+        let table = EdgeTable::make(rt.alloc(), &layer)?;
+        assert_eq!(rt; table.views().corner_count(), 7);
+        expect_rows::<Brand>(&rt, &table, Blank::new(1));
+
+        let floors = Floors::of(
+            vec![in rt.alloc(); None, Some(2)]?,
+            vec![in rt.alloc(); Some(1)]?,
+        );
+        assert_eq!(rt; floors.of_corner().get(1).copied(), Some(Some(2)));
+        assert_eq!(rt; floors.of_edge().get(0).copied(), Some(Some(1)));
         Ok(())
     }
 }

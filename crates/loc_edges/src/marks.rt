@@ -6,10 +6,11 @@ ghost use Rattle.loc_spec_plane.specs.Points.{Edge as EdgeOf, edge_before};
 ghost use Rattle.loc_spec_plane.specs.Lists.{is_rising};
 ghost use Rattle.loc_spec_plane.specs.Rings.{Rings as RingLists};
 ghost use Rattle.loc_spec_plane.specs.Tables.{edge_marks, whole};
-ghost use Rattle.loc_rings.specs.Values.{IsRing};
+ghost use Rattle.loc_rings.specs.Values.{IsRing, rings_of};
 ghost use Rattle.loc_edges.specs.Layers.{layer_of};
 ghost use Rattle.loc_edges.specs.MarkRows.{marks_with, rows_of};
 
+use crate::list_rows::empty_rows;
 use crate::segments::add_rings;
 use loc_geom::Edge;
 use loc_rings::Feature;
@@ -60,8 +61,8 @@ fn count_feature(
 ) -> Result<(), AllocError>
     requires in_order { IsTrue (is_rising edge_before edges.now) }
     requires as_many { vec_len rows.old ≡ length edges.now }
-    ensures closed { OnOk result (All IsRing feature.now.rings) }
-    ensures counted { OnOk result ((layer : List RingLists) → number ≡ length layer → rows_of rows.old ≡ map (edge_marks whole layer) edges.now → rows_of rows.new ≡ map (edge_marks whole (layer ++ feature.now.rings ∷ [])) edges.now) }
+    ensures closed { OnOk result (All IsRing (rings_of feature.now)) }
+    ensures counted { OnOk result ((layer : List RingLists) → number ≡ length layer → rows_of rows.old ≡ map (edge_marks whole layer) edges.now → rows_of rows.new ≡ map (edge_marks whole (layer ++ (rings_of feature.now) ∷ [])) edges.now) }
 {
     let mut segments = Vec::new(alloc);
     add_rings(&mut segments, feature.rings())?;
@@ -72,14 +73,10 @@ fn count_feature(
 }
 
 // A row without marks for each edge.
-fn empty_rows(alloc: Global, edges: &[Edge]) -> Result<Vec<Vec<Mark>>, AllocError>
+fn unmarked_rows(alloc: Global, edges: &[Edge]) -> Result<Vec<Vec<Mark>>, AllocError>
     ensures { IfOk result (λ rows. rows_of rows ≡ map (edge_marks whole []) edges.now) }
 {
-    let mut rows = Vec::new(alloc);
-    for _edge in edges {
-        rows.push(Vec::new(alloc))?;
-    }
-    Ok(rows)
+    empty_rows(alloc, edges.len())
 }
 
 // The marks of each edge, in the order of the features.
@@ -93,7 +90,7 @@ pub(crate) fn mark_rows(
     ensures closed { IfOk result (λ _. All (All IsRing) (layer_of features.now)) }
     ensures value { IfOk result (λ rows. rows_of rows ≡ map (edge_marks whole (layer_of features.now)) edges.now) }
 {
-    let mut rows = empty_rows(alloc, edges)?;
+    let mut rows = unmarked_rows(alloc, edges)?;
     for (n, feature) in features.iter().enumerate() {
         count_feature(alloc, &mut rows, edges, feature, n as u32)?;
     }

@@ -5,6 +5,7 @@ ghost use Rattle.loc_spec_plane.specs.Lists.{is_rising, numbers};
 ghost use Rattle.loc_spec_plane.specs.Tables.{pair_before};
 ghost use Rattle.loc_edges.specs.Ending.{ending_among};
 
+use crate::list_rows::empty_rows;
 use std::alloc::{AllocError, Global};
 
 // The place of the first pair whose first number is not below the corner's.
@@ -17,17 +18,6 @@ pub(crate) fn first_from(ends: &[(u32, u32)], corner: u32) -> usize
     ends.partition_point(|pair| pair.0 < corner)
 }
 
-// A row without edges for each corner.
-fn empty_rows(alloc: Global, corners: u32) -> Result<Vec<Vec<u32>>, AllocError>
-    ensures { IfOk result (λ rows. map (λ row. row.items) rows.items ≡ map (λ _. []) (numbers corners)) }
-{
-    let mut rows = Vec::new(alloc);
-    for _corner in 0..corners {
-        rows.push(Vec::new(alloc))?;
-    }
-    Ok(rows)
-}
-
 // The edges that end at each corner, in order.
 pub(crate) fn ending_rows(
     alloc: Global,
@@ -38,7 +28,7 @@ pub(crate) fn ending_rows(
     requires few { length ends.now ≤ 2 ^ 20 }
     ensures { IfOk result (λ rows. map (λ row. row.items) rows.items ≡ map (ending_among ends.now (length ends.now)) (numbers corners)) }
 {
-    let mut rows = empty_rows(alloc, corners)?;
+    let mut rows = empty_rows(alloc, corners as usize)?;
     for (n, pair) in ends.iter().enumerate() {
         rows[pair.1 as usize].push(n as u32)?;
     }

@@ -3,6 +3,7 @@
 ghost use Rattle.std.specs.Prelude.{◌≡◌, ◌++◌, All, OnOk, IfOk};
 ghost use Rattle.loc_spec_plane.specs.Rings.{ring_segments, segments};
 ghost use Rattle.loc_spec_plane.specs.Tables.{layer_segments as segments_of_layer};
+ghost use Rattle.loc_spec_text.specs.Reading.{all_rings};
 ghost use Rattle.loc_rings.specs.Values.{IsRing};
 ghost use Rattle.loc_edges.specs.Layers.{layer_of};
 
@@ -24,8 +25,8 @@ fn add_ring(edges: &mut Vec<Edge>, ring: &[Point]) -> Result<(), AllocError>
 
 // Puts the segments of all rings behind the edges.
 pub(crate) fn add_rings(edges: &mut Vec<Edge>, rings: &Rings) -> Result<(), AllocError>
-    ensures added { OnOk result (edges.new.items ≡ edges.old.items ++ segments rings.now) }
-    ensures closed { OnOk result (All IsRing rings.now) }
+    ensures added { OnOk result (edges.new.items ≡ edges.old.items ++ segments (all_rings rings.now)) }
+    ensures closed { OnOk result (All IsRing (all_rings rings.now)) }
 {
     for n in 0..rings.len() {
         add_ring(edges, rings.ring(n))?;

@@ -3,8 +3,9 @@
 ghost use Rattle.std.specs.Prelude.{◌≡◌, ◌<◌, ◌≤◌, ◌^◌, ◌==◌, IsTrue, Some, filter, length, slice_get, IfOk};
 ghost use Rattle.loc_spec_plane.specs.Lists.{is_rising};
 ghost use Rattle.loc_spec_plane.specs.Tables.{IsTable, AllEnds, AllEven, table_of, corner as corner_of, edge as edge_of, lo_of, hi_of, edge_numbers, mark_before};
+ghost use Rattle.loc_spec_plane.specs.Points.{edge_before};
+ghost use Rattle.loc_edges.specs.Conflicts.{edges_of};
 ghost use Rattle.loc_edges.specs.Ending.{IsBeginning};
-ghost use Rattle.loc_edges.specs.Kept.{IsSmallLayer};
 ghost use Rattle.loc_edges.specs.Layers.{layer_of};
 
 use crate::marks::mark_rows;
@@ -12,7 +13,7 @@ use crate::numbers::numbered_ends;
 use crate::ranges::{ending_rows, first_from};
 use crate::tables::{corners_between, edges as sorted_edges};
 use loc_geom::{Edge, Point};
-use loc_rings::Feature;
+use loc_rings::Layer;
 use loc_spec_plane::Mark;
 use std::alloc::{AllocError, Global};
 use std::marker::Model;
@@ -43,13 +44,13 @@ impl Model for EdgeTable {
 
 impl EdgeTable {
     /// The table of a layer. It takes time in the order of n log n for n written points.
-    pub fn make(alloc: Global, features: &[Feature]) -> Result<EdgeTable, AllocError>
-        requires small { IsSmallLayer (layer_of features.now) }
-        ensures ok { IfOk result (λ table. table ≡ table_of (layer_of features.now)) }
+    pub fn make(alloc: Global, layer: &Layer) -> Result<EdgeTable, AllocError>
+        ensures ok { IfOk result (λ table. table ≡ table_of (layer_of layer.now)) }
         ensures in_order { IfOk result IsTable }
         ensures all_ends { IfOk result AllEnds }
         ensures all_even { IfOk result AllEven }
     {
+        let features = layer.features();
         let edges = sorted_edges(alloc, features)?;
         let corners = corners_between(alloc, &edges)?;
         let ends = numbered_ends(alloc, &corners, &edges)?;
@@ -103,6 +104,15 @@ impl EdgeTable {
         ensures { result ≡ edge_of self.now n }
     {
         self.edges[n as usize]
+    }
+
+    /// The edges by their points, in order.
+    pub fn edges(&self) -> &[Edge]
+        ensures value { result.now ≡ edges_of self.now }
+        ensures in_order { IsTrue (is_rising edge_before result.now) }
+        ensures within { length result.now ≤ 2 ^ 20 }
+    {
+        self.edges.as_slice()
     }
 
     /// The numbers of the lower and of the upper end of edge n.

@@ -1,5 +1,5 @@
 -- What the real files mean as a shelf.
-use Rattle.std.specs.Prelude.{None, is_some}
+use Rattle.std.specs.Prelude.{Option, None, is_some}
 use Rattle.loc_io.specs.Meaning.{Meaning, untold}
 use Rattle.loc_io.specs.declared.file_shelf.FileShelf.{FileShelf}
 
@@ -15,3 +15,7 @@ file_meaning s = record {
   read_faults = s.read_faults.number;
   write_faults = s.write_faults.number;
 }
+
+-- the file that is being made
+abbrev pub file_in_making : {R File Dir : Type 0} → FileShelf R File Dir → Option File
+file_in_making s = s.writing

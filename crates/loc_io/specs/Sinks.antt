@@ -18,6 +18,10 @@ failing_writes s = s.fail.numbers.items
 abbrev pub writes_made : MemSink → ℕ
 writes_made s = s.fail.calls
 
+-- the stream below a sink
+abbrev pub stream_of : {W : Type 0} → StdSink W → W
+stream_of s = s.inner
+
 -- how many writes to a stream have failed
 abbrev pub std_faults : {W : Type 0} → StdSink W → ℕ
 std_faults s = s.faults.number

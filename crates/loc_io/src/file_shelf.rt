@@ -1,6 +1,7 @@
 //! The real files as a shelf, of whose content nothing is told.
-ghost use Rattle.std.specs.Prelude.{◌≡◌};
-ghost use Rattle.loc_io.specs.Meaning.{IsFresh, untold};
+ghost use Rattle.std.specs.Prelude.{◌≡◌, option_and_then};
+ghost use Rattle.std.specs.Io.KnownBytes.{WriteAppends};
+ghost use Rattle.loc_io.specs.Meaning.{IsFresh, Writes, untold};
 
 use crate::failed::FaultCount;
 use crate::trace::Trace;
@@ -40,7 +41,7 @@ impl<R: Files + Drop> FileShelf<R> {
 }
 
 impl<R: Files + Drop> Shelf for FileShelf<R> {
-    ghost use Rattle.loc_io.specs.FileShelf.{file_meaning};
+    ghost use Rattle.loc_io.specs.FileShelf.{file_meaning, file_in_making};
 
     ghost meaning = { file_meaning };
 
@@ -76,7 +77,11 @@ impl<R: Files + Drop> Shelf for FileShelf<R> {
     }
 
     // One call of the file. A write that takes no byte is a failure.
-    fn write(&mut self, piece: &[u8]) -> Result<usize, Failed> {
+    fn write(&mut self, piece: &[u8]) -> Result<usize, Failed>
+        ensures shelf { Writes piece.now (file_meaning self.old) (file_meaning self.new) result }
+        ensures file { WriteAppends (option_and_then R.File.contents (file_in_making self.old))
+            (option_and_then R.File.contents (file_in_making self.new)) result piece.now }
+    {
         if let Some(file) = &mut self.writing {
             if let Ok(n) = file.write(piece) {
                 if n > 0 {

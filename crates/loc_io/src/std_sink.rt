@@ -1,5 +1,7 @@
 //! A real stream as a sink, of which nothing is told.
-ghost use Rattle.std.specs.Prelude.{◌≡◌, None};
+ghost use Rattle.std.specs.Prelude.{◌≡◌, ◌<◌, ◌≤◌, None, length, IfOk};
+ghost use Rattle.std.specs.Io.KnownBytes.{WriteAppends};
+ghost use Rattle.loc_io.specs.Causes.{HasCause};
 
 use crate::failed::FaultCount;
 use crate::{Failed, Sink};
@@ -26,14 +28,20 @@ impl<W: Write + Drop> StdSink<W> {
 }
 
 impl<W: Write + Drop> Sink for StdSink<W> {
-    ghost use Rattle.loc_io.specs.Sinks.{std_faults};
+    ghost use Rattle.loc_io.specs.Sinks.{std_faults, stream_of};
 
     ghost written = { λ _. None };
 
     ghost faults = { std_faults };
 
     // One call of the stream. A write that takes no byte is a failure.
-    fn write(&mut self, piece: &[u8]) -> Result<usize, Failed> {
+    fn write(&mut self, piece: &[u8]) -> Result<usize, Failed>
+        ensures count { IfOk result (λ n. (0 < n) × (n ≤ length piece.now)) }
+        ensures bytes { WriteAppends None None result piece.now }
+        ensures cause { HasCause (std_faults self.old) (std_faults self.new) result }
+        ensures stream { WriteAppends (W.contents (stream_of self.old))
+            (W.contents (stream_of self.new)) result piece.now }
+    {
         match self.inner.write(piece) {
             Ok(n) if n > 0 => Ok(n),
             _ => Err(self.faults.count_one()),

@@ -1,11 +1,11 @@
 //! The laws, as calls that do nothing: their contracts are the laws. Lists are ghost values.
 
-ghost use Rattle.std.specs.Prelude.{◌≡◌, IsTrue, not, ◌&&◌, ◌||◌};
+ghost use Rattle.std.specs.Prelude.{◌≡◌, List, IsTrue, not, ◌&&◌, ◌||◌};
 ghost use Rattle.std.specs.List.{list_all};
 ghost use Rattle.loc_spec_plane.specs.Lists.{exactly_one};
 ghost use Rattle.loc_spec_plane.specs.Points.{Edge as EdgeValue, before, up_to, same_point, same_edge, is_above, is_below, conflict};
 ghost use Rattle.loc_spec_plane.specs.Places.{alive, lower, is_chain};
-ghost use Rattle.loc_order.specs.TwoPlaces.{TwoPlaces, AreInOrder};
+ghost use Rattle.loc_order.specs.TwoPlaces.{TwoPlaces, AreInOrder, EachTwo};
 
 use loc_geom::{Edge, Point};
 
@@ -30,12 +30,11 @@ pub fn chain(p: Point)
 /// A chain at p keeps its order at p and at c, a later point that none of its edges ends before: where the point is above or on
 /// an edge it is above each earlier one, unless both begin at p or both end at c. Two of its edges that end at c do not conflict.
 pub fn monotone(p: Point, c: Point)
-    ghost two: { TwoPlaces }
-    requires chain_at_p { IsTrue (is_chain p two.edges) }
-    requires places { AreInOrder two }
+    ghost edges: { List EdgeValue }
+    requires chain_at_p { IsTrue (is_chain p edges) }
     requires later { IsTrue (before p c) }
-    requires reaching { IsTrue (list_all (λ (e : EdgeValue). up_to c e.hi) two.edges) }
-    ensures here { IsTrue (not (is_below two.b p)) → IsTrue (is_above two.a p || (same_point p two.a.lo && same_point p two.b.lo)) }
-    ensures there { IsTrue (not (is_below two.b c)) → IsTrue (is_above two.a c || (same_point c two.a.hi && same_point c two.b.hi)) }
-    ensures ends { IsTrue (same_point c two.a.hi) → IsTrue (same_point c two.b.hi) → IsTrue (not (conflict two.a two.b)) }
+    requires reaching { IsTrue (list_all (λ (e : EdgeValue). up_to c e.hi) edges) }
+    ensures here { EachTwo edges (λ a b. IsTrue (not (is_below b p)) → IsTrue (is_above a p || (same_point p a.lo && same_point p b.lo))) }
+    ensures there { EachTwo edges (λ a b. IsTrue (not (is_below b c)) → IsTrue (is_above a c || (same_point c a.hi && same_point c b.hi))) }
+    ensures ends { EachTwo edges (λ a b. IsTrue (same_point c a.hi) → IsTrue (same_point c b.hi) → IsTrue (not (conflict a b))) }
 {}

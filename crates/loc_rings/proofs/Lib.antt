@@ -1,3 +1,5 @@
 pub mod Crossings
 pub mod Passes
 pub mod RingLists
+pub mod Cuts
+pub mod Points

@@ -1,2 +1,4 @@
 pub mod Parity
 pub mod Values
+pub mod Kept
+pub mod Layers

@@ -6,6 +6,8 @@ ghost use Rattle.loc_spec_plane.specs.Lists.{exactly_one};
 ghost use Rattle.loc_spec_plane.specs.Rays.{crosses_right};
 ghost use Rattle.loc_spec_plane.specs.Rings.{ring_segments, segments, touches as touches_of, covers as covers_of};
 ghost use Rattle.loc_rings.specs.Parity.{IsParity};
+ghost use Rattle.loc_rings.specs.Values.{rings_of};
+ghost use Rattle.loc_spec_text.specs.Reading.{all_rings};
 
 use crate::features::Feature;
 use crate::rings::Rings;
@@ -67,7 +69,7 @@ fn ring_parity(ring: &[Point], p: Point) -> Option<bool>
 
 // Whether the ray crosses an odd number of the segments of all rings: None where p lies on one.
 fn parity(rings: &Rings, p: Point) -> Option<bool>
-    ensures { IsParity (segments rings.now) p result }
+    ensures { IsParity (segments (all_rings rings.now)) p result }
 {
     let mut odd = false;
     for n in 0..rings.len() {
@@ -78,7 +80,7 @@ fn parity(rings: &Rings, p: Point) -> Option<bool>
 
 /// Whether p lies on a segment of the feature.
 pub fn touches(feature: &Feature, p: Point) -> bool
-    ensures { result ≡ touches_of feature.now.rings p }
+    ensures { result ≡ touches_of (rings_of feature.now) p }
 {
     parity(feature.rings(), p).is_none()
 }
@@ -86,7 +88,7 @@ pub fn touches(feature: &Feature, p: Point) -> bool
 /// Whether the feature has p in its inside, by the even-odd rule: p lies on no segment, and the ray from p to the right crosses an odd
 /// number of segments. A segment counts as often as it stands in the rings, and an end that is level with p counts as below the ray.
 pub fn covers(feature: &Feature, p: Point) -> bool
-    ensures { result ≡ covers_of feature.now.rings p }
+    ensures { result ≡ covers_of (rings_of feature.now) p }
 {
     parity(feature.rings(), p).unwrap_or(false)
 }

@@ -18,7 +18,7 @@ impl Model for Feature {
 
     ghost Value = { FeatureValue };
 
-    ghost view = { λ f. record { id = f.id.items; rings = f.rings } };
+    ghost view = { λ f. record { id = f.id.items; polygons = f.rings } };
 
     ghost invariant = { λ f. vec_len f.id ≤ 200 };
 }
@@ -28,7 +28,7 @@ impl Feature {
     pub fn new(id: Vec<u8>, rings: Rings) -> Feature
         requires { vec_len id ≤ 200 }
         ensures id { result.id ≡ id.items }
-        ensures rings { result.rings ≡ rings }
+        ensures polygons { result.polygons ≡ rings }
     {
         Feature { id, rings }
     }
@@ -41,9 +41,9 @@ impl Feature {
         self.id.as_slice()
     }
 
-    /// The rings.
+    /// The rings, which know which polygon each belongs to.
     pub fn rings(&self) -> &Rings
-        ensures { result.now ≡ self.now.rings }
+        ensures { result.now ≡ self.now.polygons }
     {
         &self.rings
     }

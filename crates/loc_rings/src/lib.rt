@@ -3,10 +3,12 @@
 
 mod containment;
 mod features;
+mod layers;
 mod rings;
 
 pub use containment::{covers, touches};
 pub use features::Feature;
+pub use layers::Layer;
 pub use loc_laws_rays::ray_law;
 pub use rings::Rings;
 
@@ -85,12 +87,17 @@ mod tests {
     // A feature without an id, of rings given by their coordinates.
     fn feature_of(alloc: Global, rows: &[&[(i64, i64)]]) -> Result<Feature, Fail> {
         let mut rings = Rings::new(alloc);
+        rings.start_polygon()?;
         for row in rows {
             let mut ring = Vec::new(alloc);
             for (x, y) in row.iter().copied() {
                 ring.push(Point::new(x, y).ok_or("off the grid")?)?;
             }
-            if ring.len() < 4 || ring[0] != ring[ring.len() - 1] || rings.len() > 9 {
+            if ring.len() < 4
+                || ring[0] != ring[ring.len() - 1]
+                || rings.len() > 9
+                || rings.polygons() == 0
+            {
                 return Err(Fail::new("no ring"));
             }
             rings.add(ring)?;
@@ -119,10 +126,28 @@ mod tests {
         for (rings, inside, border, outside) in CASES {
             let feature = feature_of(rt.alloc(), rings)?;
             assert_eq!(rt; feature.rings().len(), rings.len());
+            assert_eq!(rt; feature.rings().polygons(), 1);
             expect(&rt, &feature, inside, false, true)?;
             expect(&rt, &feature, border, true, false)?;
             expect(&rt, &feature, outside, false, false)?;
         }
+        Ok(())
+    }
+
+    #[test]
+    fn layer_by_hand(rt: HostRuntime) -> Result<(), Fail> {
+        let mut layer = Layer::new(rt.alloc());
+        for (rings, _, _, _) in CASES {
+            let feature = feature_of(rt.alloc(), rings)?;
+            if layer.is_full() || !layer.has_room(&feature) {
+                return Err(Fail::new("no room"));
+            }
+            layer.add(feature)?;
+        }
+        assert_eq!(rt; layer.len(), 7);
+        assert_eq!(rt; layer.points(), 46);
+        assert_eq!(rt; layer.features().len(), 7);
+        assert!(rt; layer.len() > 1 && layer.feature(1).rings().len() == 2);
         Ok(())
     }
 }

@@ -1,6 +1,5 @@
 pub mod Examples
 pub mod ReadingExamples
-pub mod RingTextExamples
 pub mod PointExamples
 pub mod ReaderLaws
 pub mod LineLaws

@@ -3,6 +3,5 @@ pub mod Number
 pub mod Geometry
 pub mod Reader
 pub mod Reading
-pub mod RingText
 pub mod Points
 pub mod Tokens

@@ -23,6 +23,13 @@ pub enum TextFault {
     NoMemory,
 }
 
+/// The forms of a layer text: a geometry text a line, or records whose columns have names.
+#[derive(Clone, Copy, PartialEq, Eq, Debug, Drop)]
+pub enum Form {
+    Lines,
+    Csv,
+}
+
 /// The plain reader gives a text's tree exactly where the grammar does, so a text has at most one tree.
 pub fn tree_law()
     ensures { (text : List ℕ) (tree : List (Polygon PointText)) → IsTree numbers text tree ↔ (geometry_of text ≡ Some tree) }

@@ -1,27 +1,37 @@
 -- Two files, read one after the other.
 use Rattle.std.proofs.Common.{◌≡◌, ℕ, List, [], ◌∷◌, ◌++◌, Option, None, Some, Result, Err, ◌∙◌, ap, append_assoc, subst}
-use Rattle.loc_io.specs.Meaning.{Meaning, bytes_of}
+use Rattle.loc_io.specs.Meaning.{Meaning, KeepsFiles, bytes_of}
 use Rattle.loc_io.specs.Entries.{Entries}
-use Rattle.loc_top.specs.Run.{Text, Ends}
-use Rattle.loc_top.specs.Words.{Word}
+use Rattle.loc_top.specs.Run.{Text, Ends, HandsOnly}
+use Rattle.loc_top.specs.Words.{Asked}
 use Rattle.loc_top.specs.Query.{Hands, LongTold, ReachedBy}
 use Rattle.loc_top.specs.declared.fault.RunFault.{RunFault}
 
 -- the layer's file was read, and then the points' file
-pub hands_both : {T : Type 0} (layer points : List ℕ) (told : Option (List ℕ)) (old mid new : Entries) (k j : ℕ) (result : Result T RunFault) → mid ≡ old ++ (layer, k) ∷ [] → new ≡ mid ++ (points, j) ∷ [] → ReachedBy told (Some j) → LongTold k (Some j) result → Hands layer points told old new result
-hands_both layer points told old mid new k j result first second order long = record {
+pub hands_both : {T : Type 0} (asked : Asked) (told : Option (List ℕ)) (old mid new : Entries) (k j : ℕ) (result : Result T RunFault) → mid ≡ old ++ (asked.layer, k) ∷ [] → new ≡ mid ++ (asked.points, j) ∷ [] → ReachedBy asked.form asked.scale told (Some j) → LongTold k (Some j) result → Hands asked told old new result
+hands_both asked told old mid new k j result first second order long = record {
   of_layer = k;
   of_points = Some j;
-  entries = second ∙ ap (λ (l : Entries). l ++ (points, j) ∷ []) first ∙ append_assoc old ((layer, k) ∷ []) ((points, j) ∷ []);
+  entries = second ∙ ap (λ (l : Entries). l ++ (asked.points, j) ∷ []) first ∙ append_assoc old ((asked.layer, k) ∷ []) ((asked.points, j) ∷ []);
   order = order;
   long = long;
 }
 
 -- the bytes that a query took are those by which it ended
-pub hands_when : {T : Type 0} (q : Option (Word × Word)) (names : Word × Word) (old new : Meaning) (w w' : ℕ) (o o' : Option Text) (result : Result T RunFault) (fault : RunFault)
-    → Ends q old new w w' o o' result → result ≡ Err fault → q ≡ Some names → Hands {T = T} names.0 names.1 (bytes_of (old.told names.0)) old.entries new.entries (Err fault)
+pub hands_when : {T : Type 0} (q : Option Asked) (names : Asked) (old new : Meaning) (w w' : ℕ) (o o' : Option Text) (result : Result T RunFault) (fault : RunFault)
+    → Ends q old new w w' o o' result → result ≡ Err fault → q ≡ Some names → Hands {T = T} names (bytes_of (old.told names.layer)) old.entries new.entries (Err fault)
 hands_when None names old new w w' o o' result fault e r is = absurd (cc is)
 hands_when {T} (Some n) names old new w w' o o' result fault e r is =
     let h : n ≡ names = cc is in
-    let k : Hands n.0 n.1 (bytes_of (old.told n.0)) old.entries new.entries result = e.names in
-    subst (λ (m : Word × Word). Hands {T = T} m.0 m.1 (bytes_of (old.told m.0)) old.entries new.entries (Err fault)) h (subst (λ v. Hands n.0 n.1 (bytes_of (old.told n.0)) old.entries new.entries v) r k)
+    let k : Hands n (bytes_of (old.told n.layer)) old.entries new.entries result = e.names in
+    subst (λ (m : Asked). Hands {T = T} m (bytes_of (old.told m.layer)) old.entries new.entries (Err fault)) h (subst (λ v. Hands n (bytes_of (old.told n.layer)) old.entries new.entries v) r k)
+
+-- whatever a query came to, its names alone were handed over
+pub hands_only : {T : Type 0} (q : Option Asked) (old new : Meaning) (w w' : ℕ) (o o' : Option Text) (result : Result T RunFault) → Ends q old new w w' o o' result → HandsOnly q old new
+hands_only None old new w w' o o' result e = ap (λ (m : Meaning). m.entries) e.shelf
+hands_only (Some names) old new w w' o o' result e = (e.names.of_layer, e.names.of_points, e.names.entries, e.names.order)
+
+-- every file is as at entry
+pub keeps_files : {T : Type 0} (q : Option Asked) (old new : Meaning) (w w' : ℕ) (o o' : Option Text) (result : Result T RunFault) → Ends q old new w w' o o' result → KeepsFiles old new
+keeps_files None old new w w' o o' result e name = ap (λ (m : Meaning). m.told name) e.shelf
+keeps_files (Some names) old new w w' o o' result e name = e.files name

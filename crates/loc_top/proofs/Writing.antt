@@ -2,6 +2,12 @@
 use Rattle.std.proofs.Common.{◌≡◌, ℕ, List, ◌++◌, Option, Some, None, Result, Ok, Err, sym, ◌∙◌, ap, append_assoc, subst}
 use Rattle.std.specs.Io.KnownBytes.{Appends}
 use Rattle.loc_io.specs.Reading.{WroteFront}
+use Rattle.std.proofs.Common.{ℤ, arith, of_z, to_z, to_z-of_z}
+use Rattle.std.proofs.lemmas.Int.{ints}
+use Rattle.std.specs.Int.{w64}
+use borrow.Author.Differences.{fits_in}
+use Rattle.loc_spec_plane.specs.Points.{OnGrid}
+use Rattle.loc_spec_text.specs.Points.{grid_text}
 use Rattle.loc_top.specs.Writing.{WritesText}
 
 appends-both : (o m n : Option (List ℕ)) (a b : List ℕ) → Appends o m a → Appends m n b → Appends o n (a ++ b)
@@ -30,3 +36,11 @@ pub stop : {T U E : Type 0} (a b : List ℕ) (o m : Option (List ℕ)) (f h : �
 stop {U} a b o m f h first second e d is fails w =
     let v = subst (λ r. WritesText a o m f h r) is w in
     subst (λ r. WritesText (a ++ b) o m f h r) (sym fails) (record { ok = tt; err = front-of o m a b v.err; cause = record { later = v.cause.later; failed = v.cause.failed; steady = tt } })
+
+-- a coordinate is read back from its 64 bits
+grid_back : (v : ℤ) → OnGrid v → to_z w64 (of_z w64 v) ≡ v
+grid_back v on = to_z-of_z (fits_in w64 v (omega (arith, ints)))
+
+-- a coordinate that was written as 64 bits
+pub same_value : {T E : Type 0} (scale : ℕ) (v w : ℤ) (o m : Option (List ℕ)) (f h : ℕ) (r : Result T E) → OnGrid v → v ≡ w → WritesText (grid_text scale (to_z w64 (of_z w64 v))) o m f h r → WritesText (grid_text scale w) o m f h r
+same_value scale v w o m f h r on is written = subst (λ x. WritesText (grid_text scale x) o m f h r) (grid_back v on ∙ is) written

@@ -1,17 +1,20 @@
 -- What a query comes to, by cases on how it ended.
-use Rattle.std.specs.Prelude.{◌≡◌, ℕ, ◌<◌, ◌≤◌, List, [], ◌∷◌, ◌++◌, length, Option, Some, None, Result, Ok, Err, IsTrue, not, slice_get, ⊤}
+use Rattle.std.specs.Prelude.{◌≡◌, ℕ, ◌+◌, ◌*◌, ◌<◌, ◌≤◌, List, [], ◌∷◌, ◌++◌, length, Option, Some, None, Result, Ok, Err, IsTrue, not, slice_get, ⊤}
 use Rattle.std.specs.Io.KnownBytes.{Keeps, Appends}
 use Rattle.loc_io.specs.Causes.{Rose}
 use Rattle.loc_io.specs.Entries.{Entries}
 use Rattle.loc_io.specs.Reading.{WroteFront}
 use Rattle.loc_spec_plane.specs.Points.{Edge, edge_before, conflict, touch, cross}
-use Rattle.loc_spec_text.specs.declared.TextFault.{TextFault}
+use Rattle.loc_spec_text.specs.declared.Form.{Form}
 use Rattle.loc_geom.specs.declared.kinds.Meeting.{Meeting}
 use Rattle.loc_geom.specs.declared.kinds.Meeting.TheVariants as m
+use Rattle.loc_spec_text.specs.Bytes.{lines}
 use Rattle.loc_rings.specs.Values.{Feature}
-use Rattle.loc_csvform.specs.Layer.{LineFault, layer_of}
+use Rattle.loc_csvform.specs.Layer.{LayerRead, layer_of}
+use Rattle.loc_csvform.specs.declared.faults.LayerFault.{LayerFault}
 use Rattle.loc_edges.specs.Conflicts.{has_conflict}
-use Rattle.loc_top.specs.Located.{edges_of, output_of}
+use Rattle.loc_top.specs.Located.{edges_of, output_of, steps_of}
+use Rattle.loc_top.specs.Words.{Asked}
 use Rattle.loc_top.specs.declared.fault.RunFault.{RunFault}
 use Rattle.loc_top.specs.declared.fault.RunFault.TheVariants as f
 
@@ -36,23 +39,23 @@ pub record ShowsConflict (edges : List Edge) (a b : Edge) (meeting : Meeting) : 
   pub so : MeetSo a b meeting
 
 -- the layer reads, and no two of its edges conflict
-abbrev pub Accepts : Result (List Feature) LineFault → Type 0
+abbrev pub Accepts : LayerRead → Type 0
 Accepts (Ok layer) = IsTrue (not (has_conflict (edges_of layer)))
 Accepts (Err fault) = ⊥
 
 -- the layer reads, and two of its edges conflict so
-abbrev pub Conflicts : Result (List Feature) LineFault → Edge → Edge → Meeting → Type 0
+abbrev pub Conflicts : LayerRead → Edge → Edge → Meeting → Type 0
 Conflicts (Ok layer) a b meeting = IsTrue (has_conflict (edges_of layer)) × ShowsConflict (edges_of layer) a b meeting
 Conflicts (Err fault) a b meeting = ⊥
 
--- the layer does not read: this line is the first at fault
-abbrev pub Refuses : Result (List Feature) LineFault → ℕ → TextFault → Type 0
-Refuses read row fault = read ≡ Err (record { row = row; fault = fault })
+-- the layer does not read: this is its fault
+abbrev pub Refuses : LayerRead → LayerFault → Type 0
+Refuses read fault = read ≡ Err fault
 
 -- the defined output: the answers to all lines of the points text, for a layer that reads
-abbrev pub defined_output : Result (List Feature) LineFault → List ℕ → List ℕ
-defined_output (Ok layer) points = output_of layer points
-defined_output (Err fault) points = []
+abbrev pub defined_output : ℕ → LayerRead → List ℕ → List ℕ
+defined_output scale (Ok layer) points = output_of scale layer points
+defined_output scale (Err fault) points = []
 
 -- which counts rose: that of reads, and that of writes on out
 abbrev pub CountsTold : {T : Type 0} → ℕ → ℕ → ℕ → ℕ → Result T RunFault → Type 0
@@ -61,8 +64,8 @@ CountsTold r r' w w' (Err f.ReadFault) = Rose r r' × (w' ≡ w)
 CountsTold r r' w w' (Err f.WriteFault) = (r' ≡ r) × Rose w w'
 CountsTold r r' w w' (Err f.Words) = ⊥
 CountsTold r r' w w' (Err f.LayerLong) = (r' ≡ r) × (w' ≡ w)
-CountsTold r r' w w' (Err (f.LayerText row fault)) = (r' ≡ r) × (w' ≡ w)
-CountsTold r r' w w' (Err (f.Conflict a b meeting)) = (r' ≡ r) × (w' ≡ w)
+CountsTold r r' w w' (Err (f.Layer form fault)) = (r' ≡ r) × (w' ≡ w)
+CountsTold r r' w w' (Err (f.Conflict scale a b meeting)) = (r' ≡ r) × (w' ≡ w)
 CountsTold r r' w w' (Err f.PointsLong) = (r' ≡ r) × (w' ≡ w)
 CountsTold r r' w w' (Err f.NoMemory) = (r' ≡ r) × (w' ≡ w)
 
@@ -72,8 +75,8 @@ LongTold k None (Err f.LayerLong) = limit < k
 LongTold k (Some j) (Err f.LayerLong) = ⊥
 LongTold k None (Err f.PointsLong) = ⊥
 LongTold k (Some j) (Err f.PointsLong) = (k ≤ limit) × (limit < j)
-LongTold k (Some j) (Err (f.LayerText row fault)) = ⊥
-LongTold k (Some j) (Err (f.Conflict a b meeting)) = ⊥
+LongTold k (Some j) (Err (f.Layer form fault)) = ⊥
+LongTold k (Some j) (Err (f.Conflict scale a b meeting)) = ⊥
 LongTold k None other = k ≤ limit
 LongTold k (Some j) other = (k ≤ limit) × (j ≤ limit)
 
@@ -83,31 +86,31 @@ reached name None = []
 reached name (Some k) = (name, k) ∷ []
 
 -- the points are taken up only where the layer's text, if it is told, was accepted
-abbrev pub ReachedBy : Option (List ℕ) → Option ℕ → Type 0
-ReachedBy told None = ⊤
-ReachedBy None (Some j) = ⊤
-ReachedBy (Some layer) (Some j) = (length layer ≤ limit) × Accepts (layer_of layer)
+abbrev pub ReachedBy : Form → ℕ → Option (List ℕ) → Option ℕ → Type 0
+ReachedBy form scale told None = ⊤
+ReachedBy form scale None (Some j) = ⊤
+ReachedBy form scale (Some layer) (Some j) = (length layer ≤ limit) × Accepts (layer_of form scale layer)
 
 -- the layer's name was handed to the shelf, and then at most that of the points
-pub record Hands {T : Type 0} (layer points : List ℕ) (told : Option (List ℕ)) (old new : Entries) (result : Result T RunFault) : Type 0 where
+pub record Hands {T : Type 0} (asked : Asked) (told : Option (List ℕ)) (old new : Entries) (result : Result T RunFault) : Type 0 where
   pub of_layer : ℕ
   pub of_points : Option ℕ
-  pub entries : new ≡ old ++ (layer, of_layer) ∷ reached points of_points
-  pub order : ReachedBy told of_points
+  pub entries : new ≡ old ++ (asked.layer, of_layer) ∷ reached asked.points of_points
+  pub order : ReachedBy asked.form asked.scale told of_points
   pub long : LongTold of_layer of_points result
 
 -- why it ends so, by the layer's text where that is told
-abbrev pub LayerTold : {T : Type 0} → Option (List ℕ) → Result T RunFault → Type 0
-LayerTold None result = ⊤
-LayerTold (Some layer) (Ok x) = (length layer ≤ limit) × Accepts (layer_of layer)
-LayerTold (Some layer) (Err f.LayerLong) = limit < length layer
-LayerTold (Some layer) (Err (f.LayerText row fault)) = (length layer ≤ limit) × Refuses (layer_of layer) row fault
-LayerTold (Some layer) (Err (f.Conflict a b meeting)) = (length layer ≤ limit) × Conflicts (layer_of layer) a b meeting
-LayerTold (Some layer) (Err f.PointsLong) = (length layer ≤ limit) × Accepts (layer_of layer)
-LayerTold (Some layer) (Err f.Words) = ⊥
-LayerTold (Some layer) (Err f.ReadFault) = ⊤
-LayerTold (Some layer) (Err f.WriteFault) = (length layer ≤ limit) × Accepts (layer_of layer)
-LayerTold (Some layer) (Err f.NoMemory) = ⊤
+abbrev pub LayerTold : {T : Type 0} → Form → ℕ → Option (List ℕ) → Result T RunFault → Type 0
+LayerTold form scale None result = ⊤
+LayerTold form scale (Some layer) (Ok x) = (length layer ≤ limit) × Accepts (layer_of form scale layer)
+LayerTold form scale (Some layer) (Err f.LayerLong) = limit < length layer
+LayerTold form scale (Some layer) (Err (f.Layer shown fault)) = (length layer ≤ limit) × (shown ≡ form) × Refuses (layer_of form scale layer) fault
+LayerTold form scale (Some layer) (Err (f.Conflict shown a b meeting)) = (length layer ≤ limit) × (shown ≡ scale) × Conflicts (layer_of form scale layer) a b meeting
+LayerTold form scale (Some layer) (Err f.PointsLong) = (length layer ≤ limit) × Accepts (layer_of form scale layer)
+LayerTold form scale (Some layer) (Err f.Words) = ⊥
+LayerTold form scale (Some layer) (Err f.ReadFault) = ⊤
+LayerTold form scale (Some layer) (Err f.WriteFault) = (length layer ≤ limit) × Accepts (layer_of form scale layer)
+LayerTold form scale (Some layer) (Err f.NoMemory) = ⊤
 
 -- why it ends so, by the points' text where that is told
 abbrev pub PointsTold : {T : Type 0} → Option (List ℕ) → Result T RunFault → Type 0
@@ -116,26 +119,37 @@ PointsTold (Some points) (Ok x) = length points ≤ limit
 PointsTold (Some points) (Err f.PointsLong) = limit < length points
 PointsTold (Some points) (Err f.WriteFault) = length points ≤ limit
 PointsTold (Some points) (Err f.LayerLong) = ⊤
-PointsTold (Some points) (Err (f.LayerText row fault)) = ⊤
-PointsTold (Some points) (Err (f.Conflict a b meeting)) = ⊤
+PointsTold (Some points) (Err (f.Layer form fault)) = ⊤
+PointsTold (Some points) (Err (f.Conflict scale a b meeting)) = ⊤
 PointsTold (Some points) (Err f.Words) = ⊤
 PointsTold (Some points) (Err f.ReadFault) = ⊤
 PointsTold (Some points) (Err f.NoMemory) = ⊤
 
 -- out has grown by the defined output, or by a front of it, where both texts are told
-abbrev pub GrewBy : (Option (List ℕ) → Option (List ℕ) → List ℕ → Type 0) → Option (List ℕ) → Option (List ℕ) → Option (List ℕ) → Option (List ℕ) → Type 0
-GrewBy grown (Some layer) (Some points) old new = grown old new (defined_output (layer_of layer) points)
-GrewBy grown None points old new = ⊤
-GrewBy grown (Some layer) None old new = ⊤
+abbrev pub GrewBy : Form → ℕ → (Option (List ℕ) → Option (List ℕ) → List ℕ → Type 0) → Option (List ℕ) → Option (List ℕ) → Option (List ℕ) → Option (List ℕ) → Type 0
+GrewBy form scale grown (Some layer) (Some points) old new = grown old new (defined_output scale (layer_of form scale layer) points)
+GrewBy form scale grown None points old new = ⊤
+GrewBy form scale grown (Some layer) None old new = ⊤
 
 -- what was written on out, where it is told
-abbrev pub OutTold : {T : Type 0} → Result T RunFault → Option (List ℕ) → Option (List ℕ) → Option (List ℕ) → Option (List ℕ) → Type 0
-OutTold (Ok x) layer points old new = GrewBy Appends layer points old new
-OutTold (Err f.WriteFault) layer points old new = GrewBy WroteFront layer points old new
-OutTold (Err f.Words) layer points old new = Keeps old new
-OutTold (Err f.LayerLong) layer points old new = Keeps old new
-OutTold (Err (f.LayerText row fault)) layer points old new = Keeps old new
-OutTold (Err (f.Conflict a b meeting)) layer points old new = Keeps old new
-OutTold (Err f.PointsLong) layer points old new = Keeps old new
-OutTold (Err f.ReadFault) layer points old new = Keeps old new
-OutTold (Err f.NoMemory) layer points old new = Keeps old new
+abbrev pub OutTold : {T : Type 0} → Form → ℕ → Result T RunFault → Option (List ℕ) → Option (List ℕ) → Option (List ℕ) → Option (List ℕ) → Type 0
+OutTold form scale (Ok x) layer points old new = GrewBy form scale Appends layer points old new
+OutTold form scale (Err f.WriteFault) layer points old new = GrewBy form scale WroteFront layer points old new
+OutTold form scale (Err f.Words) layer points old new = Keeps old new
+OutTold form scale (Err f.LayerLong) layer points old new = Keeps old new
+OutTold form scale (Err (f.Layer shown fault)) layer points old new = Keeps old new
+OutTold form scale (Err (f.Conflict shown a b meeting)) layer points old new = Keeps old new
+OutTold form scale (Err f.PointsLong) layer points old new = Keeps old new
+OutTold form scale (Err f.ReadFault) layer points old new = Keeps old new
+OutTold form scale (Err f.NoMemory) layer points old new = Keeps old new
+
+-- the steps that an answer takes at most, for a layer that reads
+abbrev pub steps_in : LayerRead → ℕ
+steps_in (Ok layer) = steps_of layer
+steps_in (Err fault) = 0
+
+-- how many steps were counted: at most those of an answer for each line of the points text, where both texts are told
+abbrev pub StepsTold : Form → ℕ → Option (List ℕ) → Option (List ℕ) → ℕ → ℕ → Type 0
+StepsTold form scale (Some layer) (Some points) old new = (old ≤ new) × (new ≤ old + length (lines points) * steps_in (layer_of form scale layer))
+StepsTold form scale None points old new = old ≤ new
+StepsTold form scale (Some layer) None old new = old ≤ new

@@ -5,15 +5,16 @@ use Rattle.loc_io.specs.Causes.{Rose}
 use Rattle.loc_io.specs.Meaning.{Meaning, KeepsFiles, KeepsMaking, holds, bytes_of}
 use Rattle.loc_io.specs.Reading.{WroteFront}
 use Rattle.loc_spec_plane.specs.Points.{Edge}
-use Rattle.loc_spec_text.specs.declared.TextFault.{TextFault}
+use Rattle.loc_spec_text.specs.declared.Form.{Form}
 use Rattle.loc_geom.specs.declared.kinds.Meeting.{Meeting}
 use Rattle.loc_rings.specs.Values.{Feature}
-use Rattle.loc_csvform.specs.Layer.{LineFault, layer_of}
+use Rattle.loc_csvform.specs.Layer.{LayerRead, layer_of}
+use Rattle.loc_csvform.specs.declared.faults.LayerFault.{LayerFault}
 use Rattle.loc_edges.specs.Conflicts.{has_conflict}
 use Rattle.loc_top.specs.Located.{edges_of}
 use Rattle.loc_top.specs.Notes.{note_of, status_of}
-use Rattle.loc_top.specs.Query.{limit, Accepts, Conflicts, Refuses, defined_output, CountsTold, Hands, LayerTold, PointsTold, OutTold, ReachedBy, reached}
-use Rattle.loc_top.specs.Words.{Word}
+use Rattle.loc_top.specs.Query.{limit, Accepts, Conflicts, Refuses, defined_output, CountsTold, Hands, LayerTold, PointsTold, OutTold, ReachedBy, reached, StepsTold}
+use Rattle.loc_top.specs.Words.{Asked}
 use Rattle.loc_top.specs.declared.fault.RunFault.{RunFault}
 use Rattle.loc_top.specs.declared.fault.RunFault.TheVariants as f
 
@@ -22,14 +23,14 @@ abbrev pub Text : Type 0
 Text = List ℕ
 
 -- how a query ended
-pub record Ended {T : Type 0} (layer points : Word) (old new : Meaning) (w w' : ℕ) (o o' : Option Text) (result : Result T RunFault) : Type 0 where
+pub record Ended {T : Type 0} (asked : Asked) (old new : Meaning) (w w' : ℕ) (o o' : Option Text) (result : Result T RunFault) : Type 0 where
   pub files : KeepsFiles old new
   pub making : KeepsMaking old new
-  pub names : Hands layer points (bytes_of (old.told layer)) old.entries new.entries result
+  pub names : Hands asked (bytes_of (old.told asked.layer)) old.entries new.entries result
   pub counts : CountsTold old.read_faults new.read_faults w w' result
-  pub layer_text : LayerTold (bytes_of (old.told layer)) result
-  pub points_text : PointsTold (bytes_of (old.told points)) result
-  pub out : OutTold result (bytes_of (old.told layer)) (bytes_of (old.told points)) o o'
+  pub layer_text : LayerTold asked.form asked.scale (bytes_of (old.told asked.layer)) result
+  pub points_text : PointsTold (bytes_of (old.told asked.points)) result
+  pub out : OutTold asked.form asked.scale result (bytes_of (old.told asked.layer)) (bytes_of (old.told asked.points)) o o'
 
 -- the words are no command: no file was handed to the shelf, and nothing was written
 pub record Untouched {T : Type 0} (old new : Meaning) (w w' : ℕ) (o o' : Option Text) (result : Result T RunFault) : Type 0 where
@@ -39,9 +40,9 @@ pub record Untouched {T : Type 0} (old new : Meaning) (w w' : ℕ) (o o' : Optio
   pub words : result ≡ Err f.Words
 
 -- how a run ended, by what its words ask
-abbrev pub Ends : {T : Type 0} → Option (Word × Word) → Meaning → Meaning → ℕ → ℕ → Option Text → Option Text → Result T RunFault → Type 0
+abbrev pub Ends : {T : Type 0} → Option Asked → Meaning → Meaning → ℕ → ℕ → Option Text → Option Text → Result T RunFault → Type 0
 Ends None old new w w' o o' result = Untouched old new w w' o o' result
-Ends (Some names) old new w w' o o' result = Ended names.0 names.1 old new w w' o o' result
+Ends (Some names) old new w w' o o' result = Ended names old new w w' o o' result
 
 -- the count stands below its last value, and did not rise
 abbrev pub Steady : ℕ → ℕ → Type 0
@@ -51,21 +52,21 @@ Steady before now = (before < 2 ^ 64 - 1) × (now ≡ before)
 abbrev pub Risen : ℕ → ℕ → Type 0
 Risen before now = (before < 2 ^ 64 - 1) × (before < now)
 
--- With status 0 every layer line is blank or a ring text, no two edges conflict, neither text is too long, and out has grown by
+-- With status 0 every layer line is blank or reads, no two edges conflict, neither text is too long, and out has grown by
 -- exactly the defined output.
-abbrev pub Done : Option (Word × Word) → Meaning → Option Text → Option Text → ℕ → Type 0
-Done query old o o' status = status ≡ 0 → (names : Word × Word) (layer points : Text) → query ≡ Some names
-    → old.told names.0 ≡ holds layer → old.told names.1 ≡ holds points
-    → Accepts (layer_of layer) × (length layer ≤ limit) × (length points ≤ limit) × Appends o o' (defined_output (layer_of layer) points)
+abbrev pub Done : Option Asked → Meaning → Option Text → Option Text → ℕ → Type 0
+Done query old o o' status = status ≡ 0 → (names : Asked) (layer points : Text) → query ≡ Some names
+    → old.told names.layer ≡ holds layer → old.told names.points ≡ holds points
+    → Accepts (layer_of names.form names.scale layer) × (length layer ≤ limit) × (length points ≤ limit) × Appends o o' (defined_output names.scale (layer_of names.form names.scale layer) points)
 
--- If every layer line is blank or a ring text, no two edges conflict, neither text is too long and no count rose, the status is 0 and
+-- If every layer line is blank or reads, no two edges conflict, neither text is too long and no count rose, the status is 0 and
 -- out has grown by exactly the defined output; or it is 5 and out is as before.
-abbrev pub Succeeds : Option (Word × Word) → Meaning → Meaning → ℕ → ℕ → Option Text → Option Text → ℕ → Type 0
-Succeeds query old new w w' o o' status = (names : Word × Word) (layer points : Text) → query ≡ Some names
-    → old.told names.0 ≡ holds layer → old.told names.1 ≡ holds points
-    → Accepts (layer_of layer) → length layer ≤ limit → length points ≤ limit
+abbrev pub Succeeds : Option Asked → Meaning → Meaning → ℕ → ℕ → Option Text → Option Text → ℕ → Type 0
+Succeeds query old new w w' o o' status = (names : Asked) (layer points : Text) → query ≡ Some names
+    → old.told names.layer ≡ holds layer → old.told names.points ≡ holds points
+    → Accepts (layer_of names.form names.scale layer) → length layer ≤ limit → length points ≤ limit
     → Steady old.read_faults new.read_faults → Steady w w'
-    → ((status ≡ 0) × Appends o o' (defined_output (layer_of layer) points)) ⊎ ((status ≡ 5) × Keeps o o')
+    → ((status ≡ 0) × Appends o o' (defined_output names.scale (layer_of names.form names.scale layer) points)) ⊎ ((status ≡ 5) × Keeps o o')
 
 -- status 3 comes exactly where the shelf's count of read faults rose
 abbrev pub ReadsFail : Meaning → Meaning → ℕ → Type 0
@@ -83,7 +84,7 @@ pub record NoCountRose (old new : Meaning) (w w' : ℕ) (status : ℕ) : Type 0 
   pub files : new.write_faults ≡ old.write_faults
 
 -- status 2 comes exactly for other words
-abbrev pub RefusesWords : Option (Word × Word) → ℕ → Type 0
+abbrev pub RefusesWords : Option Asked → ℕ → Type 0
 RefusesWords query status = (status ≡ 2 → query ≡ None) × (query ≡ None → status ≡ 2)
 
 -- the text was written on notes, or a front of it where the count rose
@@ -91,53 +92,53 @@ abbrev pub Wrote : ℕ → ℕ → Option Text → Option Text → Text → Type
 Wrote n n' m m' text = (Appends m m' text × (n' ≡ n)) ⊎ (WroteFront m m' text × Rose n n')
 
 -- the layer reads, and some two of its edges conflict
-abbrev pub HasConflict : Result (List Feature) LineFault → Type 0
+abbrev pub HasConflict : LayerRead → Type 0
 HasConflict (Ok layer) = IsTrue (has_conflict (edges_of layer))
 HasConflict (Err fault) = ⊥
 
 -- the line names two edges that conflict, the lesser first, and how
-abbrev pub WroteConflict : Result (List Feature) LineFault → ℕ → ℕ → Option Text → Option Text → Type 0
-WroteConflict read n n' m m' = (a : Edge) × (b : Edge) × (meeting : Meeting) × Conflicts read a b meeting × Wrote n n' m m' (note_of (f.Conflict a b meeting))
+abbrev pub WroteConflict : ℕ → LayerRead → ℕ → ℕ → Option Text → Option Text → Type 0
+WroteConflict scale read n n' m m' = (a : Edge) × (b : Edge) × (meeting : Meeting) × Conflicts read a b meeting × Wrote n n' m m' (note_of (f.Conflict scale a b meeting))
 
--- the line names the first line at fault
-abbrev pub WroteLine : Result (List Feature) LineFault → ℕ → ℕ → Option Text → Option Text → Type 0
-WroteLine (Ok layer) n n' m m' = ⊥
-WroteLine (Err e) n n' m m' = Wrote n n' m m' (note_of (f.LayerText e.row e.fault))
+-- the line names the fault of the layer
+abbrev pub WroteLine : Form → LayerRead → ℕ → ℕ → Option Text → Option Text → Type 0
+WroteLine form (Ok layer) n n' m m' = ⊥
+WroteLine form (Err e) n n' m m' = Wrote n n' m m' (note_of (f.Layer form e))
 
 -- why a told layer was refused, with the line on notes; or it was accepted, and the line is that of the points
-abbrev pub IsLayerRefusal : Text → ℕ → ℕ → Option Text → Option Text → Type 0
-IsLayerRefusal layer n n' m m' =
+abbrev pub IsLayerRefusal : Form → ℕ → Text → ℕ → ℕ → Option Text → Option Text → Type 0
+IsLayerRefusal form scale layer n n' m m' =
     ((limit < length layer) × Wrote n n' m m' (note_of f.LayerLong))
-    ⊎ (((length layer ≤ limit) × WroteLine (layer_of layer) n n' m m')
-    ⊎ (((length layer ≤ limit) × WroteConflict (layer_of layer) n n' m m')
-    ⊎ ((length layer ≤ limit) × Accepts (layer_of layer) × Wrote n n' m m' (note_of f.PointsLong))))
+    ⊎ (((length layer ≤ limit) × WroteLine form (layer_of form scale layer) n n' m m')
+    ⊎ (((length layer ≤ limit) × WroteConflict scale (layer_of form scale layer) n n' m m')
+    ⊎ ((length layer ≤ limit) × Accepts (layer_of form scale layer) × Wrote n n' m m' (note_of f.PointsLong))))
 
 -- The refusals of texts. Where a cause stands and no read failed, the status is 1 with the line of the cause, or 5.
-pub record RefusesTexts (query : Option (Word × Word)) (old new : Meaning) (n n' : ℕ) (m m' : Option Text) (status : ℕ) : Type 0 where
+pub record RefusesTexts (query : Option Asked) (old new : Meaning) (n n' : ℕ) (m m' : Option Text) (status : ℕ) : Type 0 where
   -- the layer's text is longer than the limit
-  pub layer_long : (names : Word × Word) (layer : Text) → query ≡ Some names → old.told names.0 ≡ holds layer
+  pub layer_long : (names : Asked) (layer : Text) → query ≡ Some names → old.told names.layer ≡ holds layer
       → limit < length layer → Steady old.read_faults new.read_faults
       → ((status ≡ 1) × Wrote n n' m m' (note_of f.LayerLong)) ⊎ (status ≡ 5)
-  -- a line of the layer is neither blank nor a ring text, and this is the first
-  pub layer_line : (names : Word × Word) (layer : Text) (row : ℕ) (fault : TextFault) → query ≡ Some names → old.told names.0 ≡ holds layer
-      → length layer ≤ limit → Refuses (layer_of layer) row fault → Steady old.read_faults new.read_faults
-      → ((status ≡ 1) × Wrote n n' m m' (note_of (f.LayerText row fault))) ⊎ (status ≡ 5)
+  -- the layer does not read, and this is its fault
+  pub layer_line : (names : Asked) (layer : Text) (fault : LayerFault) → query ≡ Some names → old.told names.layer ≡ holds layer
+      → length layer ≤ limit → Refuses (layer_of names.form names.scale layer) fault → Steady old.read_faults new.read_faults
+      → ((status ≡ 1) × Wrote n n' m m' (note_of (f.Layer names.form fault))) ⊎ (status ≡ 5)
   -- the layer reads, and some two of its edges conflict: the shown two do, and so
-  pub conflict : (names : Word × Word) (layer : Text) → query ≡ Some names → old.told names.0 ≡ holds layer
-      → length layer ≤ limit → HasConflict (layer_of layer) → Steady old.read_faults new.read_faults
-      → ((status ≡ 1) × WroteConflict (layer_of layer) n n' m m') ⊎ (status ≡ 5)
+  pub conflict : (names : Asked) (layer : Text) → query ≡ Some names → old.told names.layer ≡ holds layer
+      → length layer ≤ limit → HasConflict (layer_of names.form names.scale layer) → Steady old.read_faults new.read_faults
+      → ((status ≡ 1) × WroteConflict names.scale (layer_of names.form names.scale layer) n n' m m') ⊎ (status ≡ 5)
   -- the layer is accepted, and the points' text is longer than the limit
-  pub points_long : (names : Word × Word) (layer points : Text) → query ≡ Some names → old.told names.0 ≡ holds layer → old.told names.1 ≡ holds points
-      → length layer ≤ limit → Accepts (layer_of layer) → limit < length points → Steady old.read_faults new.read_faults
+  pub points_long : (names : Asked) (layer points : Text) → query ≡ Some names → old.told names.layer ≡ holds layer → old.told names.points ≡ holds points
+      → length layer ≤ limit → Accepts (layer_of names.form names.scale layer) → limit < length points → Steady old.read_faults new.read_faults
       → ((status ≡ 1) × Wrote n n' m m' (note_of f.PointsLong)) ⊎ (status ≡ 5)
 
 -- Status 1 comes only by these causes: where it does, one of them stands, and the line on notes is its line.
-pub record RefusedOnly (query : Option (Word × Word)) (old : Meaning) (n n' : ℕ) (m m' : Option Text) (status : ℕ) : Type 0 where
+pub record RefusedOnly (query : Option Asked) (old : Meaning) (n n' : ℕ) (m m' : Option Text) (status : ℕ) : Type 0 where
   -- no other cause is left where the layer is told
-  pub layer : status ≡ 1 → (names : Word × Word) (layer : Text) → query ≡ Some names → old.told names.0 ≡ holds layer → IsLayerRefusal layer n n' m m'
+  pub layer : status ≡ 1 → (names : Asked) (layer : Text) → query ≡ Some names → old.told names.layer ≡ holds layer → IsLayerRefusal names.form names.scale layer n n' m m'
   -- where the layer is accepted, it is the points' text
-  pub points : status ≡ 1 → (names : Word × Word) (layer points : Text) → query ≡ Some names → old.told names.0 ≡ holds layer → old.told names.1 ≡ holds points
-      → length layer ≤ limit → Accepts (layer_of layer) → (limit < length points) × Wrote n n' m m' (note_of f.PointsLong)
+  pub points : status ≡ 1 → (names : Asked) (layer points : Text) → query ≡ Some names → old.told names.layer ≡ holds layer → old.told names.points ≡ holds points
+      → length layer ≤ limit → Accepts (layer_of names.form names.scale layer) → (limit < length points) × Wrote n n' m m' (note_of f.PointsLong)
 
 -- Nothing is written on notes with status 0, and with another the line of the cause.
 pub record Notes (n n' : ℕ) (m m' : Option Text) (status : ℕ) : Type 0 where
@@ -148,19 +149,19 @@ pub record Notes (n n' : ℕ) (m m' : Option Text) (status : ℕ) : Type 0 where
   pub memory : status ≡ 5 → Wrote n n' m m' (note_of f.NoMemory)
 
 -- With status 1, 2, 3 and 5 nothing was written on out. With 4 out grew by a front of the defined output.
-pub record OutGrows (query : Option (Word × Word)) (old : Meaning) (o o' : Option Text) (status : ℕ) : Type 0 where
+pub record OutGrows (query : Option Asked) (old : Meaning) (o o' : Option Text) (status : ℕ) : Type 0 where
   pub refused : status ≡ 1 → Keeps o o'
   pub words : status ≡ 2 → Keeps o o'
   pub read : status ≡ 3 → Keeps o o'
   pub memory : status ≡ 5 → Keeps o o'
-  pub write : status ≡ 4 → (names : Word × Word) (layer points : Text) → query ≡ Some names → old.told names.0 ≡ holds layer → old.told names.1 ≡ holds points
-      → WroteFront o o' (defined_output (layer_of layer) points)
+  pub write : status ≡ 4 → (names : Asked) (layer points : Text) → query ≡ Some names → old.told names.layer ≡ holds layer → old.told names.points ≡ holds points
+      → WroteFront o o' (defined_output names.scale (layer_of names.form names.scale layer) points)
 
 -- no name but these two is handed to the shelf, each at most once, and none where the words are refused; the points' only where the
 -- layer was accepted
-abbrev pub HandsOnly : Option (Word × Word) → Meaning → Meaning → Type 0
+abbrev pub HandsOnly : Option Asked → Meaning → Meaning → Type 0
 HandsOnly None old new = new.entries ≡ old.entries
-HandsOnly (Some names) old new = (k : ℕ) × (j : Option ℕ) × (new.entries ≡ old.entries ++ (names.0, k) ∷ reached names.1 j) × ReachedBy (bytes_of (old.told names.0)) j
+HandsOnly (Some names) old new = (k : ℕ) × (j : Option ℕ) × (new.entries ≡ old.entries ++ (names.layer, k) ∷ reached names.points j) × ReachedBy names.form names.scale (bytes_of (old.told names.layer)) j
 
 -- the fault as an outcome
 abbrev pub outcome_of : Option RunFault → Result (Unit {0}) RunFault
@@ -179,8 +180,17 @@ NoteOf (Some fault) n n' m m' = Wrote n n' m m' (note_of fault)
 
 -- The fault of the run, or none. It gives the status, the line on notes and the numbers of bytes taken: `too long` comes exactly where
 -- byte limit + 1 of that file was taken. This holds of every shelf, also of one that tells no bytes.
-pub record Cause (query : Option (Word × Word)) (old new : Meaning) (n n' : ℕ) (m m' : Option Text) (status : ℕ) : Type 0 where
+pub record Cause (query : Option Asked) (old new : Meaning) (n n' : ℕ) (m m' : Option Text) (status : ℕ) : Type 0 where
   pub fault : Option RunFault
   pub status_is : status ≡ status_in fault
   pub note : NoteOf fault n n' m m'
-  pub bytes : (names : Word × Word) → query ≡ Some names → Hands names.0 names.1 (bytes_of (old.told names.0)) old.entries new.entries (outcome_of fault)
+  pub bytes : (names : Asked) → query ≡ Some names → Hands names (bytes_of (old.told names.layer)) old.entries new.entries (outcome_of fault)
+
+-- The status is that of an outcome of the words, the shelf and out. Notes has no part in it: a failed write on notes changes no status.
+abbrev pub Settled : Option Asked → Meaning → Meaning → ℕ → ℕ → Option Text → Option Text → ℕ → Type 0
+Settled query old new w w' o o' status = (fault : Option RunFault) × Ends query old new w w' o o' (outcome_of fault) × (status ≡ status_in fault)
+
+-- Steps are counted for the places of points alone: at most one for each corner and each edge of the layer, for each line of the points.
+abbrev pub Counts : Option Asked → Meaning → ℕ → ℕ → Type 0
+Counts None old steps steps' = steps' ≡ steps
+Counts (Some names) old steps steps' = StepsTold names.form names.scale (bytes_of (old.told names.layer)) (bytes_of (old.told names.points)) steps steps'

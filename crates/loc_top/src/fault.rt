@@ -4,12 +4,14 @@ ghost use Rattle.std.specs.Prelude.{◌≡◌, OnOk, OnErr};
 ghost use Rattle.std.specs.Io.KnownBytes.{Appends};
 ghost use Rattle.loc_io.specs.Causes.{HasCause};
 ghost use Rattle.loc_io.specs.Reading.{WroteFront};
-ghost use Rattle.loc_top.specs.Notes.{note_of, status_of};
+ghost use Rattle.loc_top.specs.Notes.{layer_refusal, note_of, status_of};
 
-use crate::notes::{write_conflict_note, write_line_note};
+use crate::Scale;
+use crate::notes::{write_conflict_note, write_layer_note};
+use loc_csvform::LayerFault;
 use loc_geom::{Edge, Meeting};
 use loc_io::{Sink, WriteFault, write_all};
-use loc_spec_text::TextFault;
+use loc_spec_text::Form;
 use std::alloc::AllocError;
 
 /// The cause of a status other than 0.
@@ -17,8 +19,16 @@ use std::alloc::AllocError;
 pub enum RunFault {
     Words,
     LayerLong,
-    LayerText { row: u32, fault: TextFault },
-    Conflict { a: Edge, b: Edge, meeting: Meeting },
+    Layer {
+        form: Form,
+        fault: LayerFault,
+    },
+    Conflict {
+        scale: Scale,
+        a: Edge,
+        b: Edge,
+        meeting: Meeting,
+    },
     PointsLong,
     ReadFault,
     WriteFault,
@@ -48,13 +58,23 @@ impl From<loc_io::WriteFault> for RunFault {
 }
 
 impl RunFault {
+    /// The fault of a layer in this form.
+    pub fn of_layer(form: Form, fault: LayerFault) -> RunFault
+        ensures { result ≡ layer_refusal form fault }
+    {
+        match fault {
+            LayerFault::NoMemory => RunFault::NoMemory,
+            fault => RunFault::Layer { form, fault },
+        }
+    }
+
     pub fn status(&self) -> u8
         ensures { result ≡ status_of self.now }
     {
         match self {
             RunFault::Words => 2,
             RunFault::LayerLong
-            | RunFault::LayerText { .. }
+            | RunFault::Layer { .. }
             | RunFault::Conflict { .. }
             | RunFault::PointsLong => 1,
             RunFault::ReadFault => 3,
@@ -72,8 +92,13 @@ impl RunFault {
         match self {
             RunFault::Words => write_all(notes, b"usage: locate query LAYER POINTS --scale K\n"),
             RunFault::LayerLong => write_all(notes, b"layer: too long\n"),
-            RunFault::LayerText { row, fault } => write_line_note(notes, *row, *fault),
-            RunFault::Conflict { a, b, meeting } => write_conflict_note(notes, *a, *b, *meeting),
+            RunFault::Layer { form, fault } => write_layer_note(notes, *form, *fault),
+            RunFault::Conflict {
+                scale,
+                a,
+                b,
+                meeting,
+            } => write_conflict_note(notes, *scale, *a, *b, *meeting),
             RunFault::PointsLong => write_all(notes, b"points: too long\n"),
             RunFault::ReadFault => write_all(notes, b"read failed\n"),
             RunFault::WriteFault => write_all(notes, b"write failed\n"),

@@ -6,11 +6,14 @@ mod fault;
 mod notes;
 mod plane;
 mod query;
+mod scale;
 #[cfg(test)]
 mod tests;
 mod top;
+mod words;
 
 use fault::RunFault;
 pub use loc_geom::Steps;
 use plane::Plane;
+use scale::Scale;
 pub use top::run;

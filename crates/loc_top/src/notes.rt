@@ -3,13 +3,15 @@
 ghost use Rattle.std.specs.Prelude.{◌++◌, codes};
 ghost use Rattle.std.specs.Fmt.{decimal};
 ghost use Rattle.loc_spec_text.specs.Points.{ended, grid_text, position_text};
-ghost use Rattle.loc_top.specs.Notes.{conflict_text, edge_text, edges_text, line_text, meeting_text, text_fault_text};
+ghost use Rattle.loc_top.specs.Notes.{at_place, conflict_text, edge_text, edges_text, layer_fault_text, meeting_text, place_text, text_fault_text};
 ghost use Rattle.loc_top.specs.Writing.{WritesText};
 
+use crate::Scale;
 use itoa::Buffer;
+use loc_csvform::LayerFault;
 use loc_geom::{Edge, Meeting, Point};
 use loc_io::{Sink, WriteFault, write_all};
-use loc_spec_text::TextFault;
+use loc_spec_text::{Form, TextFault};
 use loc_wkt::print_grid;
 
 // A text as it is.
@@ -27,50 +29,57 @@ fn write_number<N: Sink>(notes: &mut N, number: u32) -> Result<(), WriteFault>
     write_all(notes, buffer.format(number).as_bytes())
 }
 
-// The x of a point at scale 0.
-fn write_x<N: Sink>(notes: &mut N, p: Point) -> Result<(), WriteFault>
-    ensures { WritesText (grid_text 0 p.x) (N.written notes.old) (N.written notes.new) (N.faults notes.old) (N.faults notes.new) result }
+// A coordinate at a scale.
+fn write_value<N: Sink>(notes: &mut N, scale: Scale, value: i64) -> Result<(), WriteFault>
+    ensures { WritesText (grid_text scale value) (N.written notes.old) (N.written notes.new) (N.faults notes.old) (N.faults notes.new) result }
 {
-    print_grid(p.x(), 0, notes)
+    print_grid(value, scale.decimals(), notes)
 }
 
-// The y of a point at scale 0.
-fn write_y<N: Sink>(notes: &mut N, p: Point) -> Result<(), WriteFault>
-    ensures { WritesText (grid_text 0 p.y) (N.written notes.old) (N.written notes.new) (N.faults notes.old) (N.faults notes.new) result }
+// The x of a point at a scale.
+fn write_x<N: Sink>(notes: &mut N, scale: Scale, p: Point) -> Result<(), WriteFault>
+    ensures { WritesText (grid_text scale p.x) (N.written notes.old) (N.written notes.new) (N.faults notes.old) (N.faults notes.new) result }
 {
-    print_grid(p.y(), 0, notes)
+    write_value(notes, scale, p.x())
+}
+
+// The y of a point at a scale.
+fn write_y<N: Sink>(notes: &mut N, scale: Scale, p: Point) -> Result<(), WriteFault>
+    ensures { WritesText (grid_text scale p.y) (N.written notes.old) (N.written notes.new) (N.faults notes.old) (N.faults notes.new) result }
+{
+    write_value(notes, scale, p.y())
 }
 
 // A space, and the y of a point.
-fn write_behind_space<N: Sink>(notes: &mut N, p: Point) -> Result<(), WriteFault>
-    ensures { WritesText (codes " " ++ grid_text 0 p.y) (N.written notes.old) (N.written notes.new) (N.faults notes.old) (N.faults notes.new) result }
+fn write_behind_space<N: Sink>(notes: &mut N, scale: Scale, p: Point) -> Result<(), WriteFault>
+    ensures { WritesText (codes " " ++ grid_text scale p.y) (N.written notes.old) (N.written notes.new) (N.faults notes.old) (N.faults notes.new) result }
 {
     write_text(notes, b" ")?;
-    write_y(notes, p)
+    write_y(notes, scale, p)
 }
 
 // x, a space, y.
-fn write_point<N: Sink>(notes: &mut N, p: Point) -> Result<(), WriteFault>
-    ensures { WritesText (position_text 0 p) (N.written notes.old) (N.written notes.new) (N.faults notes.old) (N.faults notes.new) result }
+fn write_point<N: Sink>(notes: &mut N, scale: Scale, p: Point) -> Result<(), WriteFault>
+    ensures { WritesText (position_text scale p) (N.written notes.old) (N.written notes.new) (N.faults notes.old) (N.faults notes.new) result }
 {
-    write_x(notes, p)?;
-    write_behind_space(notes, p)
+    write_x(notes, scale, p)?;
+    write_behind_space(notes, scale, p)
 }
 
 // A point and a comma.
-fn write_first_end<N: Sink>(notes: &mut N, p: Point) -> Result<(), WriteFault>
-    ensures { WritesText (position_text 0 p ++ codes ", ") (N.written notes.old) (N.written notes.new) (N.faults notes.old) (N.faults notes.new) result }
+fn write_first_end<N: Sink>(notes: &mut N, scale: Scale, p: Point) -> Result<(), WriteFault>
+    ensures { WritesText (position_text scale p ++ codes ", ") (N.written notes.old) (N.written notes.new) (N.faults notes.old) (N.faults notes.new) result }
 {
-    write_point(notes, p)?;
+    write_point(notes, scale, p)?;
     write_text(notes, b", ")
 }
 
 // The two ends of an edge.
-fn write_edge<N: Sink>(notes: &mut N, edge: Edge) -> Result<(), WriteFault>
-    ensures { WritesText (edge_text edge) (N.written notes.old) (N.written notes.new) (N.faults notes.old) (N.faults notes.new) result }
+fn write_edge<N: Sink>(notes: &mut N, scale: Scale, edge: Edge) -> Result<(), WriteFault>
+    ensures { WritesText (edge_text scale edge) (N.written notes.old) (N.written notes.new) (N.faults notes.old) (N.faults notes.new) result }
 {
-    write_first_end(notes, edge.lo())?;
-    write_point(notes, edge.hi())
+    write_first_end(notes, scale, edge.lo())?;
+    write_point(notes, scale, edge.hi())
 }
 
 // A word and a number.
@@ -110,44 +119,96 @@ fn write_text_fault<N: Sink>(notes: &mut N, fault: TextFault) -> Result<(), Writ
     }
 }
 
-// The line and its fault.
-fn write_line<N: Sink>(notes: &mut N, row: u32, fault: TextFault) -> Result<(), WriteFault>
-    ensures { WritesText (line_text row fault) (N.written notes.old) (N.written notes.new) (N.faults notes.old) (N.faults notes.new) result }
+// The place of a fault of the layer.
+fn write_place<N: Sink>(notes: &mut N, form: Form, row: u32) -> Result<(), WriteFault>
+    ensures { WritesText (place_text form row ++ codes ": ") (N.written notes.old) (N.written notes.new) (N.faults notes.old) (N.faults notes.new) result }
 {
-    write_numbered(notes, b"layer line ", row, b": ")?;
+    match form {
+        Form::Lines => write_numbered(notes, b"layer line ", row, b": "),
+        Form::Csv => write_numbered(notes, b"layer row ", row, b": "),
+    }
+}
+
+// What is wrong at a place of the layer.
+fn write_at_place<N: Sink>(
+    notes: &mut N,
+    form: Form,
+    row: u32,
+    text: &[u8],
+) -> Result<(), WriteFault>
+    ensures { WritesText (at_place form row text.now) (N.written notes.old) (N.written notes.new) (N.faults notes.old) (N.faults notes.new) result }
+{
+    write_place(notes, form, row)?;
+    write_text(notes, text)
+}
+
+// What is wrong with a geometry text of the layer.
+fn write_text_at_place<N: Sink>(
+    notes: &mut N,
+    form: Form,
+    row: u32,
+    fault: TextFault,
+) -> Result<(), WriteFault>
+    ensures { WritesText (at_place form row (text_fault_text fault)) (N.written notes.old) (N.written notes.new) (N.faults notes.old) (N.faults notes.new) result }
+{
+    write_place(notes, form, row)?;
     write_text_fault(notes, fault)
 }
 
-/// The line that names a line of the layer and its fault.
-pub fn write_line_note<N: Sink>(notes: &mut N, row: u32, fault: TextFault) -> Result<(), WriteFault>
-    ensures { WritesText (ended (line_text row fault)) (N.written notes.old) (N.written notes.new) (N.faults notes.old) (N.faults notes.new) result }
+// What is wrong with the layer.
+fn write_layer_fault<N: Sink>(
+    notes: &mut N,
+    form: Form,
+    fault: LayerFault,
+) -> Result<(), WriteFault>
+    ensures { WritesText (layer_fault_text form fault) (N.written notes.old) (N.written notes.new) (N.faults notes.old) (N.faults notes.new) result }
 {
-    write_line(notes, row, fault)?;
+    match fault {
+        LayerFault::NoColumn => write_text(notes, b"layer: no wkt column"),
+        LayerFault::Ragged { row } => write_at_place(notes, Form::Csv, row, b"fields"),
+        LayerFault::BadText { row } => write_at_place(notes, Form::Csv, row, b"id not UTF-8"),
+        LayerFault::LongId { row } => write_at_place(notes, Form::Csv, row, b"id too long"),
+        LayerFault::Text { row, fault } => write_text_at_place(notes, form, row, fault),
+        LayerFault::ManyFeatures { row } => write_at_place(notes, form, row, b"too many features"),
+        LayerFault::ManyPoints { row } => write_at_place(notes, form, row, b"too many points"),
+        LayerFault::NoMemory => write_text(notes, b"out of memory"),
+    }
+}
+
+/// The line that names the fault of the layer.
+pub fn write_layer_note<N: Sink>(
+    notes: &mut N,
+    form: Form,
+    fault: LayerFault,
+) -> Result<(), WriteFault>
+    ensures { WritesText (ended (layer_fault_text form fault)) (N.written notes.old) (N.written notes.new) (N.faults notes.old) (N.faults notes.new) result }
+{
+    write_layer_fault(notes, form, fault)?;
     write_text(notes, b"\n")
 }
 
 // The first of two edges.
-fn write_first_edge<N: Sink>(notes: &mut N, a: Edge) -> Result<(), WriteFault>
-    ensures { WritesText (codes "layer: edges " ++ edge_text a) (N.written notes.old) (N.written notes.new) (N.faults notes.old) (N.faults notes.new) result }
+fn write_first_edge<N: Sink>(notes: &mut N, scale: Scale, a: Edge) -> Result<(), WriteFault>
+    ensures { WritesText (codes "layer: edges " ++ edge_text scale a) (N.written notes.old) (N.written notes.new) (N.faults notes.old) (N.faults notes.new) result }
 {
     write_text(notes, b"layer: edges ")?;
-    write_edge(notes, a)
+    write_edge(notes, scale, a)
 }
 
 // The first of two edges and what joins them.
-fn write_joined<N: Sink>(notes: &mut N, a: Edge) -> Result<(), WriteFault>
-    ensures { WritesText (codes "layer: edges " ++ edge_text a ++ codes " and ") (N.written notes.old) (N.written notes.new) (N.faults notes.old) (N.faults notes.new) result }
+fn write_joined<N: Sink>(notes: &mut N, scale: Scale, a: Edge) -> Result<(), WriteFault>
+    ensures { WritesText (codes "layer: edges " ++ edge_text scale a ++ codes " and ") (N.written notes.old) (N.written notes.new) (N.faults notes.old) (N.faults notes.new) result }
 {
-    write_first_edge(notes, a)?;
+    write_first_edge(notes, scale, a)?;
     write_text(notes, b" and ")
 }
 
 // Two edges.
-fn write_edges<N: Sink>(notes: &mut N, a: Edge, b: Edge) -> Result<(), WriteFault>
-    ensures { WritesText (edges_text a b) (N.written notes.old) (N.written notes.new) (N.faults notes.old) (N.faults notes.new) result }
+fn write_edges<N: Sink>(notes: &mut N, scale: Scale, a: Edge, b: Edge) -> Result<(), WriteFault>
+    ensures { WritesText (edges_text scale a b) (N.written notes.old) (N.written notes.new) (N.faults notes.old) (N.faults notes.new) result }
 {
-    write_joined(notes, a)?;
-    write_edge(notes, b)
+    write_joined(notes, scale, a)?;
+    write_edge(notes, scale, b)
 }
 
 // How two edges conflict.
@@ -164,25 +225,27 @@ fn write_meeting<N: Sink>(notes: &mut N, meeting: Meeting) -> Result<(), WriteFa
 // Two edges, and how they conflict.
 fn write_conflict<N: Sink>(
     notes: &mut N,
+    scale: Scale,
     a: Edge,
     b: Edge,
     meeting: Meeting,
 ) -> Result<(), WriteFault>
-    ensures { WritesText (conflict_text a b meeting) (N.written notes.old) (N.written notes.new) (N.faults notes.old) (N.faults notes.new) result }
+    ensures { WritesText (conflict_text scale a b meeting) (N.written notes.old) (N.written notes.new) (N.faults notes.old) (N.faults notes.new) result }
 {
-    write_edges(notes, a, b)?;
+    write_edges(notes, scale, a, b)?;
     write_meeting(notes, meeting)
 }
 
 /// The line that names two edges that conflict, and how.
 pub fn write_conflict_note<N: Sink>(
     notes: &mut N,
+    scale: Scale,
     a: Edge,
     b: Edge,
     meeting: Meeting,
 ) -> Result<(), WriteFault>
-    ensures { WritesText (ended (conflict_text a b meeting)) (N.written notes.old) (N.written notes.new) (N.faults notes.old) (N.faults notes.new) result }
+    ensures { WritesText (ended (conflict_text scale a b meeting)) (N.written notes.old) (N.written notes.new) (N.faults notes.old) (N.faults notes.new) result }
 {
-    write_conflict(notes, a, b, meeting)?;
+    write_conflict(notes, scale, a, b, meeting)?;
     write_text(notes, b"\n")
 }

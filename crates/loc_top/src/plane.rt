@@ -1,36 +1,36 @@
-//! A layer with its corners and its edges.
+//! A layer with its table.
 
-ghost use Rattle.std.specs.Prelude.{◌≡◌, Ok, position, IfOk, MatchOption};
-ghost use Rattle.loc_spec_plane.specs.Points.{same_point, lies_on};
-ghost use Rattle.loc_top.specs.Located.{corners_of, edges_of};
+ghost use Rattle.std.specs.Prelude.{◌≡◌, ◌+◌, ◌≤◌, Ok, IfOk, MatchOption};
+ghost use Rattle.loc_place.specs.Found.{place_at};
+ghost use Rattle.loc_top.specs.Located.{steps_of, table_in};
 ghost use Rattle.loc_top.specs.Query.{Accepts, Conflicts};
 
-use loc_edges::{corners_between, edges, first_conflict};
-use loc_geom::{Edge, Meeting, Point, on};
-use loc_rings::Feature;
+use loc_edges::{EdgeTable, first_conflict};
+use loc_geom::{Edge, Meeting, Point, Steps};
+use loc_place::{Locator, Place};
+use loc_rings::{Feature, Layer};
+use loc_scan::Scan;
 use std::alloc::{AllocError, Global};
 use std::marker::Model;
+use std::sync::ledger::Ledger;
 
-/// The features of a layer, and the corners and edges between them.
+/// The features of a layer, and the table of its corners and edges.
 #[derive(Drop)]
 pub struct Plane {
-    features: Vec<Feature>,
-    corners: Vec<Point>,
-    edges: Vec<Edge>,
+    layer: Layer,
+    table: EdgeTable,
 }
 
 impl Model for Plane {
-    ghost use Rattle.std.specs.Prelude.{◌≡◌, IsTrue, List};
-    ghost use Rattle.loc_spec_plane.specs.Lists.{is_rising};
-    ghost use Rattle.loc_spec_plane.specs.Points.{edge_before};
+    ghost use Rattle.std.specs.Prelude.{◌≡◌, List};
     ghost use Rattle.loc_rings.specs.Values.{Feature as FeatureValue};
-    ghost use Rattle.loc_top.specs.Located.{corners_of, edges_of};
+    ghost use Rattle.loc_top.specs.Located.{table_in};
 
     ghost Value = { List FeatureValue };
 
-    ghost view = { λ p. p.features.items };
+    ghost view = { λ p. p.layer };
 
-    ghost invariant = { λ p. (p.corners.items ≡ corners_of p.features.items) × (p.edges.items ≡ edges_of p.features.items) × IsTrue (is_rising edge_before p.edges.items) };
+    ghost invariant = { λ p. p.table ≡ table_in p.layer };
 }
 
 /// Two edges that conflict, the lesser first, and how they meet.
@@ -41,57 +41,43 @@ pub struct Pair {
     pub meeting: Meeting,
 }
 
-// Whether a corner is p.
-fn is_corner(corner: &Point, p: Point) -> bool
-    ensures { result ≡ same_point corner.now p }
-{
-    *corner == p
-}
-
 impl Plane {
     /// The plane of a layer.
-    #[tactic(auto, unfolding(crate::specs::Located::corners_of, crate::specs::Located::edges_of))]
-    pub fn make(alloc: Global, features: Vec<Feature>) -> Result<Plane, AllocError>
-        ensures { IfOk result (λ plane. plane ≡ features.items) }
+    #[tactic(auto, unfolding(crate::specs::Located::table_in))]
+    pub fn make(alloc: Global, layer: Layer) -> Result<Plane, AllocError>
+        ensures { IfOk result (λ plane. plane ≡ layer) }
     {
-        let edges = edges(alloc, &features)?;
-        let corners = corners_between(alloc, &edges)?;
-        Ok(Plane {
-            features,
-            corners,
-            edges,
-        })
+        let table = EdgeTable::make(alloc, &layer)?;
+        Ok(Plane { layer, table })
     }
 
     /// The features, in order.
     pub fn features(&self) -> &[Feature]
         ensures { result.now ≡ self.now }
     {
-        &self.features
+        self.layer.features()
     }
 
-    /// The number of the corner that p is.
-    pub fn corner_at(&self, p: Point) -> Option<usize>
-        ensures { result ≡ position (λ c. same_point c p) (corners_of self.now) }
+    /// The place of a point, where no two edges conflict. It looks at every corner and every edge.
+    pub fn place<L: Ledger>(&self, p: Point, steps: &mut Steps<L>) -> Place
+        requires { Accepts (Ok self.now) }
+        ensures value { result ≡ place_at (table_in self.now) p }
+        ensures counted { steps.old ≤ steps.new }
+        ensures within { steps.new ≤ steps.old + steps_of self.now }
     {
-        self.corners.iter().position(|corner| is_corner(corner, p))
-    }
-
-    /// The number of the first edge on which p lies.
-    pub fn border_at(&self, p: Point) -> Option<usize>
-        ensures { result ≡ position (λ e. lies_on e p) (edges_of self.now) }
-    {
-        self.edges.iter().position(|e| on(*e, p))
+        self.table.law();
+        Scan.locate(&self.table.views(), p, steps).unwrap()
     }
 
     /// Two edges that conflict, if there are two. It looks at all pairs.
     pub fn conflict(&self) -> Option<Pair>
         ensures { MatchOption result (Accepts (Ok self.now)) (λ pair. Conflicts (Ok self.now) pair.a pair.b pair.meeting) }
     {
-        let shown = first_conflict(&self.edges)?;
+        let edges = self.table.edges();
+        let shown = first_conflict(edges)?;
         Some(Pair {
-            a: self.edges[shown.first],
-            b: self.edges[shown.second],
+            a: edges[shown.first],
+            b: edges[shown.second],
             meeting: shown.meeting,
         })
     }

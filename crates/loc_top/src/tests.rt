@@ -9,95 +9,232 @@ use std::marker::Brand;
 use std::sync::ledger::{Blank, Ledger};
 use std::test::Fail;
 
-const QUERY: [&str; 5] = ["query", "layer", "points", "--scale", "0"];
+const SQUARE: &[u8] = b"POLYGON ((0 0, 4 0, 4 4, 0 4, 0 0))\n";
 
-const SQUARE: &str = "POLYGON ((0 0, 4 0, 4 4, 0 4, 0 0))\n";
+const BOW_TIE: &[u8] = b"POLYGON ((0 0, 4 4, 4 0, 0 4, 0 0))";
 
-const BOW_TIE: &str = "POLYGON ((0 0, 4 4, 4 0, 0 4, 0 0))";
+// The layer, the points, the scale, the status, and what stands on out and on notes.
+type Row = (
+    &'static [u8],
+    &'static [u8],
+    &'static str,
+    u8,
+    &'static [u8],
+    &'static [u8],
+);
 
-// The layer, the points, the status, and what stands on out and on notes.
-const ROWS: [(&str, &str, u8, &str, &str); 14] = [
+const ROWS: [Row; 28] = [
     (
         SQUARE,
-        "2 2\n5 2\n0 0\n4 4\n4 2\n4 5\n0 -1\n-1 4\n5 0\n",
+        b"2 2\n5 2\n0 0\n4 4\n4 2\n4 5\n0 -1\n-1 4\n5 0\n",
+        "0",
         0,
-        "face in \"1\"\nface in\ncorner 0 on \"1\" in\ncorner 3 on \"1\" in\nborder 3 on \"1\" in\nface in\nface in\nface in\nface in\n",
-        "",
+        b"face in \"1\"\nface in\ncorner 0 on \"1\" in\ncorner 3 on \"1\" in\nborder 3 on \"1\" in\nface in\nface in\nface in\nface in\n",
+        b"",
     ),
     (
-        "POLYGON((0 0,2 -2,4 0,2 2,0 0))",
-        "-1 0\n1 0",
+        b"POLYGON((0 0,2 -2,4 0,2 2,0 0))",
+        b"-1 0\n1 0",
+        "0",
         0,
-        "face in\nface in \"1\"\n",
-        "",
+        b"face in\nface in \"1\"\n",
+        b"",
     ),
     (
-        "POLYGON ((0 0, 4 0, 4 4, 0 4, 0 0))\nPOLYGON ((1 1, 2 1, 2 2, 1 2, 1 1))\n",
-        "1 1\n2 2\n3 3\n",
+        b"POLYGON ((0 0, 4 0, 4 4, 0 4, 0 0))\nPOLYGON ((1 1, 2 1, 2 2, 1 2, 1 1))\n",
+        b"1 1\n2 2\n3 3\n",
+        "0",
         0,
-        "corner 2 on \"2\" in \"1\"\ncorner 5 on \"2\" in \"1\"\nface in \"1\"\n",
-        "",
+        b"corner 2 on \"2\" in \"1\"\ncorner 5 on \"2\" in \"1\"\nface in \"1\"\n",
+        b"",
     ),
     (
-        "\npolygon((0 0,4 0,4 4,0 4,0 0))\n \t\nPOLYGON ((4 0, 8 0, 8 4, 4 4, 4 0))",
-        "4 2\n\n 6\t1 \nx\n",
+        b"\npolygon((0 0,4 0,4 4,0 4,0 0))\n \t\nPOLYGON ((4 0, 8 0, 8 4, 4 4, 4 0))",
+        b"4 2\n\n 6\t1 \nx\nPOINT(6 1)\n",
+        "0",
         0,
-        "border 3 on \"2\" \"4\" in\nunread\nface in \"4\"\nunread\n",
-        "",
+        b"border 3 on \"2\" \"4\" in\nunread\nface in \"4\"\nunread\nface in \"4\"\n",
+        b"",
+    ),
+    (
+        b"POLYGON ((0 0, 4 0, 4 4, 0 4, 0 0), (1 1, 1 3, 3 3, 3 1, 1 1))",
+        b"2 2\n0.5 0.5\n0.55 0.5\n",
+        "1",
+        0,
+        b"face in\nface in \"1\"\nunread\n",
+        b"",
+    ),
+    (
+        b"MULTIPOLYGON (((0 0, 4 0, 4 4, 0 4, 0 0), (1 1, 1 3, 3 3, 3 1, 1 1)), ((1.5 1.5, 2.5 1.5, 2.5 2.5, 1.5 2.5, 1.5 1.5)))",
+        b"2 2\n1.2 1.2\n1.5 2\n",
+        "1",
+        0,
+        b"face in \"1\"\nface in\nborder 6 on \"1\" in\n",
+        b"",
+    ),
+    (
+        b"POLYGON ((0 0, 1000.000000000000001 0, 4 4, 0 0))",
+        b"4 2\n2 2\n6 1",
+        "15",
+        1,
+        b"",
+        b"layer line 1: number 3 out of range\n",
+    ),
+    (
+        b"MULTIPOLYGON (((0 0, 4 0, 4 4, 0 4, 0 0)), ((4 0, 8 0, 8 4, 4 4, 4 0)))",
+        b"4 2\n2 2\n6 1",
+        "15",
+        0,
+        b"border 3 on \"1\" in\nface in \"1\"\nface in \"1\"\n",
+        b"",
+    ),
+    (
+        b"\xEF\xBB\xBFPOLYGON EMPTY",
+        b"1 1",
+        "0",
+        0,
+        b"face in\n",
+        b"",
+    ),
+    (
+        b"POLYGON EMPTY\nMULTIPOLYGON EMPTY",
+        b"1 1",
+        "0",
+        0,
+        b"face in\n",
+        b"",
+    ),
+    (b"", b"1 1\n2 2", "0", 0, b"face in\nface in\n", b""),
+    (SQUARE, b"", "0", 0, b"", b""),
+    (
+        b"POLYGON ((-1000000000000000000 -1000000000000000000, 1000000000000000000 -1000000000000000000, 1000000000000000000 1000000000000000000, -1000000000000000000 -1000000000000000000))",
+        b"0 0\n0 -1\n0 1\n",
+        "0",
+        0,
+        b"border 1 on \"1\" in\nface in \"1\"\nface in\n",
+        b"",
+    ),
+    (
+        b"POLYGON ((-1e18 -1e18, 1e18 -1e18, 1e18 1e18, -1e18 1e18, -1e18 -1e18))",
+        b"0 0\n1000000000000000000 0\n-1000000000000000000 1000000000000000000\n1000000000000000001 0\n",
+        "0",
+        0,
+        b"face in \"1\"\nborder 3 on \"1\" in\ncorner 1 on \"1\" in\nunread\n",
+        b"",
+    ),
+    (
+        b"POLYGON ((1000000000000000001 0, 4 0, 4 4, 1000000000000000001 0))",
+        b"0 0\n",
+        "0",
+        1,
+        b"",
+        b"layer line 1: number 1 out of range\n",
+    ),
+    (
+        b"POLYGON ((0 0, 12.55 0, 12.55 4, 0 4, 0 0))",
+        b"0 0\n",
+        "1",
+        1,
+        b"",
+        b"layer line 1: number 3 off grid\n",
+    ),
+    (
+        b"POLYGON ((0 0, 4",
+        b"1 1\n",
+        "0",
+        1,
+        b"",
+        b"layer line 1: syntax\n",
+    ),
+    (
+        b"POLYGON (EMPTY)",
+        b"1 1\n",
+        "0",
+        1,
+        b"",
+        b"layer line 1: syntax\n",
+    ),
+    (
+        b"\n \n5 5\n",
+        b"1 1\n",
+        "0",
+        1,
+        b"",
+        b"layer line 3: syntax\n",
+    ),
+    (b"\n \nx\n", b"1 1\n", "0", 1, b"", b"layer line 3: tag\n"),
+    (
+        b"LINESTRING (0 0, 1 1)",
+        b"1 1\n",
+        "0",
+        1,
+        b"",
+        b"layer line 1: tag\n",
+    ),
+    (
+        b"POLYGON ((0 0, 4 0 1, 4 4, 0 0))",
+        b"1 1\n",
+        "0",
+        1,
+        b"",
+        b"layer line 1: dimension\n",
+    ),
+    (
+        b"POLYGON ((0 0, 4 0, 4 4, 0 4, 1 1))",
+        b"1 1\n",
+        "0",
+        1,
+        b"",
+        b"layer line 1: ring 1 open\n",
+    ),
+    (
+        b"POLYGON ((0 0, 4 0, 4 4, 0 4, 0 0), (1 1, 2 2, 1 1))",
+        b"1 1\n",
+        "0",
+        1,
+        b"",
+        b"layer line 1: ring 2 short\n",
     ),
     (
         BOW_TIE,
-        "1 1\n",
+        b"1 1\n",
+        "0",
         1,
-        "",
-        "layer: edges 0 0, 4 4 and 0 4, 4 0 cross\n",
+        b"",
+        b"layer: edges 0 0, 4 4 and 0 4, 4 0 cross\n",
     ),
     (
-        "POLYGON ((0 0, 4 0, 4 4, 0 4, 0 0))\nPOLYGON ((4 0, 6 0, 6 2, 4 2, 4 0))",
-        "1 1\n",
+        BOW_TIE,
+        b"1 1\n",
+        "1",
         1,
-        "",
-        "layer: edges 4 0, 4 2 and 4 0, 4 4 touch\n",
+        b"",
+        b"layer: edges 0.0 0.0, 4.0 4.0 and 0.0 4.0, 4.0 0.0 cross\n",
     ),
     (
-        "POLYGON ((-1000000000000000000 -1000000000000000000, 1000000000000000000 -1000000000000000000, 1000000000000000000 1000000000000000000, -1000000000000000000 -1000000000000000000))",
-        "0 0\n0 -1\n0 1\n",
-        0,
-        "border 1 on \"1\" in\nface in \"1\"\nface in\n",
-        "",
-    ),
-    (
-        "POLYGON ((-1000000000000000000 -1000000000000000000, 1000000000000000000 -1000000000000000000, 1000000000000000000 1000000000000000000, -1000000000000000000 1000000000000000000, -1000000000000000000 -1000000000000000000))",
-        "0 0\n1000000000000000000 0\n-1000000000000000000 1000000000000000000\n1000000000000000001 0\n",
-        0,
-        "face in \"1\"\nborder 3 on \"1\" in\ncorner 1 on \"1\" in\nunread\n",
-        "",
-    ),
-    (
-        "POLYGON ((1000000000000000001 0, 4 0, 4 4, 1000000000000000001 0))",
-        "0 0\n",
+        b"POLYGON ((0 0, 4 0, 4 4, 0 4, 0 0))\nPOLYGON ((4 0, 6 0, 6 2, 4 2, 4 0))",
+        b"1 1\n",
+        "0",
         1,
-        "",
-        "layer line 1: syntax\n",
+        b"",
+        b"layer: edges 4 0, 4 2 and 4 0, 4 4 touch\n",
     ),
-    ("", "1 1\n2 2", 0, "face in\nface in\n", ""),
-    (SQUARE, "", 0, "", ""),
-    ("POLYGON ((0 0, 4", "1 1\n", 1, "", "layer line 1: syntax\n"),
-    ("\n \nx\n", "1 1\n", 1, "", "layer line 3: syntax\n"),
     (
-        "POLYGON ((0 0, 4 0, 4 4, 0 4, 1 1))",
-        "1 1\n",
+        b"POLYGON ((0 0, 4 0, 0 0))",
+        b"1 1\n",
+        "0",
         1,
-        "",
-        "layer line 1: syntax\n",
+        b"",
+        b"layer line 1: ring 1 short\n",
     ),
 ];
 
-const USAGE: &str = "usage: locate query LAYER POINTS --scale K\n";
+const USAGE: &[u8] = b"usage: locate query LAYER POINTS --scale K\n";
 
 // Words that are no command.
-const REFUSED: [[&str; 5]; 5] = [
-    ["query", "layer", "points", "--scale", "1"],
+const REFUSED: [[&str; 5]; 6] = [
+    ["query", "layer", "points", "--scale", "16"],
+    ["query", "layer", "points", "--scale", "1.5"],
     ["query", "layer", "points", "--form", "0"],
     ["query", "-layer", "points", "--scale", "0"],
     ["query", "layer", "", "--scale", "0"],
@@ -105,20 +242,20 @@ const REFUSED: [[&str; 5]; 5] = [
 ];
 
 // The layer, or none where its file is missing; which call of the shelf, of out and of notes fails, the status, and what stands on out and on notes.
-const FAILING: [(&str, u64, u64, u64, u8, &str, &str); 13] = [
-    ("", 0, 0, 0, 3, "", "read failed\n"),
-    (SQUARE, 1, 0, 0, 3, "", "read failed\n"),
-    (SQUARE, 2, 0, 0, 3, "", "read failed\n"),
-    (SQUARE, 3, 0, 0, 3, "", "read failed\n"),
-    (SQUARE, 4, 0, 0, 3, "", "read failed\n"),
-    (SQUARE, 5, 0, 0, 3, "", "read failed\n"),
-    (SQUARE, 6, 0, 0, 3, "", "read failed\n"),
-    (SQUARE, 7, 0, 0, 0, "face in \"1\"\n", ""),
-    (SQUARE, 0, 1, 0, 4, "", "write failed\n"),
-    (SQUARE, 0, 1, 1, 4, "", ""),
-    (SQUARE, 1, 0, 1, 3, "", ""),
-    (BOW_TIE, 0, 0, 1, 1, "", ""),
-    (BOW_TIE, 0, 0, 3, 1, "", "layer: edges 0"),
+const FAILING: [(&[u8], u64, u64, u64, u8, &[u8], &[u8]); 13] = [
+    (b"", 0, 0, 0, 3, b"", b"read failed\n"),
+    (SQUARE, 1, 0, 0, 3, b"", b"read failed\n"),
+    (SQUARE, 2, 0, 0, 3, b"", b"read failed\n"),
+    (SQUARE, 3, 0, 0, 3, b"", b"read failed\n"),
+    (SQUARE, 4, 0, 0, 3, b"", b"read failed\n"),
+    (SQUARE, 5, 0, 0, 3, b"", b"read failed\n"),
+    (SQUARE, 6, 0, 0, 3, b"", b"read failed\n"),
+    (SQUARE, 7, 0, 0, 0, b"face in \"1\"\n", b""),
+    (SQUARE, 0, 1, 0, 4, b"", b"write failed\n"),
+    (SQUARE, 0, 1, 1, 4, b"", b""),
+    (SQUARE, 1, 0, 1, 3, b"", b""),
+    (BOW_TIE, 0, 0, 1, 1, b"", b""),
+    (BOW_TIE, 0, 0, 3, 1, b"", b"layer: edges 0"),
 ];
 
 // A list of one call number, or of none.
@@ -157,11 +294,11 @@ fn status<L: Ledger>(
 #[test]
 fn worked_layers(rt: HostRuntime) -> Result<(), Fail> {
     let alloc = rt.alloc();
-    let words = words_of(alloc, &QUERY)?;
-    for (layer, points, want, answers, line) in ROWS {
+    for (layer, points, scale, want, answers, line) in ROWS {
+        let words = words_of(alloc, &["query", "layer", "points", "--scale", scale])?;
         let mut shelf = MemShelf::new(alloc, Vec::new(alloc));
-        shelf.put("layer", layer.as_bytes())?;
-        shelf.put("points", points.as_bytes())?;
+        shelf.put("layer", layer)?;
+        shelf.put("points", points)?;
         let mut out = MemSink::new(alloc, Vec::new(alloc));
         let mut notes = MemSink::new(alloc, Vec::new(alloc));
         let status = status::<Brand>(
@@ -172,9 +309,9 @@ fn worked_layers(rt: HostRuntime) -> Result<(), Fail> {
             &mut notes,
             Blank::new(1),
         );
-        assert_eq!(rt; status, want, "at {layer}");
-        assert_eq!(rt; out.bytes(), answers.as_bytes(), "at {layer}");
-        assert_eq!(rt; notes.bytes(), line.as_bytes(), "at {layer}");
+        assert_eq!(rt; status, want);
+        assert_eq!(rt; out.bytes(), answers);
+        assert_eq!(rt; notes.bytes(), line);
     }
     Ok(())
 }
@@ -197,7 +334,7 @@ fn refused_words(rt: HostRuntime) -> Result<(), Fail> {
         );
         assert_eq!(rt; status, 2);
         assert_eq!(rt; out.bytes().len(), 0);
-        assert_eq!(rt; notes.bytes(), USAGE.as_bytes());
+        assert_eq!(rt; notes.bytes(), USAGE);
     }
     Ok(())
 }
@@ -205,11 +342,11 @@ fn refused_words(rt: HostRuntime) -> Result<(), Fail> {
 #[test]
 fn failing_calls(rt: HostRuntime) -> Result<(), Fail> {
     let alloc = rt.alloc();
-    let words = words_of(alloc, &QUERY)?;
+    let words = words_of(alloc, &["query", "layer", "points", "--scale", "0"])?;
     for (layer, shelf_call, out_call, notes_call, want, answers, line) in FAILING {
         let mut shelf = MemShelf::new(alloc, calls(alloc, shelf_call)?);
         if !layer.is_empty() {
-            shelf.put("layer", layer.as_bytes())?;
+            shelf.put("layer", layer)?;
         }
         shelf.put("points", b"2 2\n")?;
         let mut out = MemSink::new(alloc, calls(alloc, out_call)?);
@@ -223,8 +360,39 @@ fn failing_calls(rt: HostRuntime) -> Result<(), Fail> {
             Blank::new(1),
         );
         assert_eq!(rt; status, want, "at {shelf_call} {out_call} {notes_call}");
-        assert_eq!(rt; out.bytes(), answers.as_bytes());
-        assert_eq!(rt; notes.bytes(), line.as_bytes());
+        assert_eq!(rt; out.bytes(), answers);
+        assert_eq!(rt; notes.bytes(), line);
     }
+    Ok(())
+}
+
+#[test]
+fn long_lines(rt: HostRuntime) -> Result<(), Fail> {
+    let alloc = rt.alloc();
+    let words = words_of(alloc, &["query", "layer", "points", "--scale", "3"])?;
+    let mut points = Vec::new(alloc);
+    points.extend_from_slice(b"2 2\n\n0.12345678901234567 1\n")?;
+    for _ in 0..5000 {
+        points.push(b'a')?;
+    }
+    points.extend_from_slice(b"\n2 2")?;
+    let mut shelf = MemShelf::new(alloc, Vec::new(alloc));
+    shelf.put("layer", SQUARE)?;
+    shelf.put("points", &points)?;
+    let mut out = MemSink::new(alloc, Vec::new(alloc));
+    let mut notes = MemSink::new(alloc, Vec::new(alloc));
+    let status = status::<Brand>(
+        alloc,
+        words.as_slice(),
+        &mut shelf,
+        &mut out,
+        &mut notes,
+        Blank::new(1),
+    );
+    assert_eq!(rt; status, 0);
+    assert_eq!(rt;
+        out.bytes(),
+        b"face in \"1\"\nunread\nunread\nunread\nface in \"1\"\n".as_slice()
+    );
     Ok(())
 }

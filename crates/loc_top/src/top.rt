@@ -1,45 +1,40 @@
 //! The top call: the words, the command, the status and the line on notes.
 ghost use Rattle.std.specs.Prelude.{◌≡◌, ◌≤◌, ℕ, map, string_bytes};
 ghost use Rattle.loc_io.specs.Meaning.{KeepsFiles};
-ghost use Rattle.loc_top.specs.Words.{asked, is_place as is_place_word};
-ghost use Rattle.loc_top.specs.Run.{Ends, Done, Succeeds, ReadsFail, WritesFail, NoCountRose, RefusesWords, RefusesTexts, RefusedOnly, HandsOnly, Notes, OutGrows, Cause};
+ghost use Rattle.loc_top.specs.Words.{asked};
+ghost use Rattle.loc_top.specs.Run.{Ends, Done, Succeeds, ReadsFail, WritesFail, NoCountRose, RefusesWords, RefusesTexts, RefusedOnly, HandsOnly, Notes, OutGrows, Cause, Counts, Settled};
 
 use crate::RunFault;
 use crate::query::query;
+use crate::words::asked_of;
 use loc_geom::Steps;
 use loc_io::{Shelf, Sink};
 use std::alloc::Global;
 use std::sync::ledger::Ledger;
 
-// Whether a word can name a file.
-fn is_place(word: &str) -> bool
-    ensures { result ≡ is_place_word word.now }
-{
-    match word.as_bytes() {
-        [] => false,
-        [first, ..] => *first != b'-',
-    }
-}
-
-fn ended<F: Shelf, O: Sink>(
+fn ended<F: Shelf, O: Sink, L: Ledger>(
     alloc: Global,
     words: &[String],
     shelf: &mut F,
     out: &mut O,
+    steps: &mut Steps<L>,
 ) -> Result<(), RunFault>
-    ensures { Ends (asked (map string_bytes words.now)) (F.meaning shelf.old) (F.meaning shelf.new) (O.faults out.old) (O.faults out.new) (O.written out.old) (O.written out.new) result }
+    ensures steps { Counts (asked (map string_bytes words.now)) (F.meaning shelf.old) steps.old steps.new }
+    ensures ends { Ends (asked (map string_bytes words.now)) (F.meaning shelf.old) (F.meaning shelf.new) (O.faults out.old) (O.faults out.new) (O.written out.old) (O.written out.new) result }
 {
-    if let [command, layer, points, option, scale] = words {
-        if command.as_str() == "query"
-            && is_place(layer)
-            && is_place(points)
-            && option.as_str() == "--scale"
-            && scale.as_str() == "0"
-        {
-            return query(alloc, layer, points, shelf, out);
-        }
+    match asked_of(words) {
+        Some(asked) => query(
+            alloc,
+            asked.layer,
+            asked.points,
+            asked.form,
+            asked.scale,
+            shelf,
+            out,
+            steps,
+        ),
+        None => Err(RunFault::Words),
     }
-    Err(RunFault::Words)
 }
 
 /// Runs the command that the words are.
@@ -64,10 +59,11 @@ pub fn run<F: Shelf, O: Sink, N: Sink, L: Ledger>(
     ensures notes { Notes (N.faults notes.old) (N.faults notes.new) (N.written notes.old) (N.written notes.new) result }
     ensures out { OutGrows (asked (map string_bytes words.now)) (F.meaning shelf.old) (O.written out.old) (O.written out.new) result }
     ensures cause { Cause (asked (map string_bytes words.now)) (F.meaning shelf.old) (F.meaning shelf.new) (N.faults notes.old) (N.faults notes.new) (N.written notes.old) (N.written notes.new) result }
+    ensures settled { Settled (asked (map string_bytes words.now)) (F.meaning shelf.old) (F.meaning shelf.new) (O.faults out.old) (O.faults out.new) (O.written out.old) (O.written out.new) result }
     ensures range { result ≤ 5 }
-    ensures steps { steps.new ≡ steps.old }
+    ensures steps { Counts (asked (map string_bytes words.now)) (F.meaning shelf.old) steps.old steps.new }
 {
-    match ended(alloc, words, shelf, out) {
+    match ended(alloc, words, shelf, out, steps) {
         Ok(()) => 0,
         Err(fault) => {
             let _ = fault.write_note(notes);

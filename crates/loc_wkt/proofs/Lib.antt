@@ -1,11 +1,14 @@
 pub mod PieceLemmas
 pub mod NumberLemmas
-pub mod PointLemmas
 pub mod MemberLemmas
 pub mod WordLemmas
 pub mod FrontLemmas
+pub mod PassLemmas
+pub mod TagLemmas
+pub mod Narrowing
+pub mod Outcome
 pub mod ListLemmas
-pub mod RingLemmas
+pub mod LoopLemmas
 pub mod TokenSteps
 pub mod TokenLongest
 pub mod TokenFront

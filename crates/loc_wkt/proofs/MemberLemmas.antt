@@ -1,6 +1,5 @@
 -- The members of a list in parentheses, read one by one from the left.
 use Rattle.std.proofs.Common.{◌≡◌, ℕ, zero, suc, ◌<◌, ◌≤◌, List, [], ◌∷◌, ◌++◌, length, Option, Some, None, option_map, option_and_then, refl, sym, ◌∙◌, ap, arith, append_assoc}
-use Rattle.std.proofs.lemmas.Option.{some_pair_parts}
 use Rattle.loc_spec_text.specs.Geometry.{Piece, close_mark, comma}
 use Rattle.loc_spec_text.specs.Reader.{Reader, onto, next, members_at}
 
@@ -58,22 +57,3 @@ module _ {X : Type 0} (read : Reader X) (start : List Piece) (xs : List X) (rest
       go : (k : ℕ) → members_at read (length start) start ≡ option_map (onto_all xs) (members_at read k rest) → members_at read (length start) start ≡ None
       go zero gives = gives
       go (suc k) gives = gives ∙ ap (option_map (onto_all xs)) (after k x ps e ∙ none (members_at read k))
-
--- such a list has a member
-next_some : {X : Type 0} (more : Reader (List X)) (x : X) (ps rest : List Piece) → next more x ps ≡ Some ([], rest) → ⊥
-next_some more x (close_mark ∷ ps) rest e = let p = some_pair_parts (x ∷ []) [] ps rest e in let q = p.0 in cc
-next_some {X = X} more x (comma ∷ ps) rest e = go (more ps) e
-  where
-    go : (o : Option (List X × List Piece)) → option_map (onto x) o ≡ Some ([], rest) → ⊥
-    go None e = cc
-    go (Some r) e = let p = some_pair_parts (x ∷ r.0) [] r.1 rest e in let q = p.0 in cc
-next_some more x _ rest e = cc
-
--- a list that is read is not empty
-pub members_some : {X : Type 0} (read : Reader X) (k : ℕ) (ps rest : List Piece) → members_at read k ps ≡ Some ([], rest) → ⊥
-members_some read zero ps rest e = cc
-members_some {X = X} read (suc k) ps rest e = go (read ps) e
-  where
-    go : (o : Option (X × List Piece)) → option_and_then (λ p. next (members_at read k) p.0 p.1) o ≡ Some ([], rest) → ⊥
-    go None e = cc
-    go (Some p) e = next_some (members_at read k) p.0 p.1 rest e

@@ -39,7 +39,7 @@ no_word text k h k_le = let w : ℕ = prefix_len is_ascii_alphabetic text in
     (ap is_ascii_alphabetic (get_or-take k text w 0 h) ∙ prefix_len_stops is_ascii_alphabetic text 0 (omega arith)))
 
 -- a letter begins no number
-no_number : (b : ℕ) (text : List ℕ) → is_ascii_alphabetic b ≡ true → is_number (b ∷ text) ≡ false
+pub no_number : (b : ℕ) (text : List ℕ) → is_ascii_alphabetic b ≡ true → is_number (b ∷ text) ≡ false
 no_number b text h = start_stops b text (no_digit b (λ l r. grind (arith, nat_tests))) (λ e. grind (arith, nat_tests)) (λ e. grind (arith, nat_tests))
 
 -- nor is it one byte

@@ -1,13 +1,11 @@
--- What stands at the front of a text's pieces: marks, and the parts of a ring text.
-use Rattle.std.specs.Prelude.{ℕ, Bool, true, false, List, [], ◌∷◌, codes, length, if◌then◌else◌, Option, Some, None, option_and_then}
+-- What stands at the front of a text's pieces.
+use Rattle.std.specs.Prelude.{ℕ, Bool, true, false, List, [], ◌∷◌, codes, if◌then◌else◌, Option, Some, None}
 use Rattle.std.specs.Str.{byte, bytes_eq}
-use Rattle.loc_spec_plane.specs.Points.{Point}
-use Rattle.loc_spec_text.specs.Geometry.{Piece, word, open_mark, close_mark, comma}
-use Rattle.loc_spec_text.specs.Reader.{Reader, members_at}
-use Rattle.loc_wkt.specs.Whole.{whole_point_at}
+use Rattle.loc_spec_text.specs.Geometry.{Piece, word, number, open_mark, close_mark, comma}
+use Rattle.loc_spec_text.specs.Reader.{Reader}
 
 -- the byte of the mark at the front, and the pieces behind it
-unfoldable pub mark_at : List Piece → Option (ℕ × List Piece)
+unfoldable pub mark_at : Reader ℕ
 mark_at (open_mark ∷ ps) = Some (byte "(", ps)
 mark_at (close_mark ∷ ps) = Some (byte ")", ps)
 mark_at (comma ∷ ps) = Some (byte ",", ps)
@@ -18,21 +16,33 @@ abbrev pub is_word : List ℕ → Piece → Bool
 is_word name (word w) = bytes_eq w name
 is_word name _ = false
 
+-- the number text at the front
+unfoldable pub number_at : Reader (List ℕ)
+number_at (number text ∷ ps) = Some (text, ps)
+number_at _ = None
+
+-- whether a comma or a close mark stands behind a member, so whether more members follow, and the pieces behind it
+unfoldable pub goes_on_at : Reader Bool
+goes_on_at (comma ∷ ps) = Some (true, ps)
+goes_on_at (close_mark ∷ ps) = Some (false, ps)
+goes_on_at _ = None
+
 -- what follows an open mark
 unfoldable pub open_at : List Piece → Option (List Piece)
 open_at (open_mark ∷ ps) = Some ps
 open_at _ = None
 
--- what follows the word POLYGON and two open marks
-unfoldable pub front_at : List Piece → Option (List Piece)
-front_at (p ∷ ps) = if is_word (codes "POLYGON") p then option_and_then open_at (open_at ps) else None
-front_at [] = None
+-- what follows the word EMPTY
+unfoldable pub empty_at : List Piece → Option (List Piece)
+empty_at (word w ∷ ps) = if bytes_eq w (codes "EMPTY") then Some ps else None
+empty_at _ = None
 
--- the points of a list behind its open mark, and what follows its close mark
-unfoldable pub points_at : Reader (List Point)
-points_at ps = members_at whole_point_at (length ps) ps
+-- what follows the word POINT and an open mark
+unfoldable pub point_mark_at : List Piece → Option (List Piece)
+point_mark_at (word w ∷ open_mark ∷ ps) = if bytes_eq w (codes "POINT") then Some ps else None
+point_mark_at _ = None
 
 -- a close mark and nothing behind it
-unfoldable pub is_ring_end : List Piece → Bool
-is_ring_end (close_mark ∷ []) = true
-is_ring_end _ = false
+unfoldable pub is_end : List Piece → Bool
+is_end (close_mark ∷ []) = true
+is_end _ = false

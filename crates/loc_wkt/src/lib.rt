@@ -1,100 +1,201 @@
 //! Well-known text (OGC 06-103r4): its tokens, its number texts at any scale and grid values in print, and the readers of geometry texts
-//! and of point lines. For now the readers read the narrow texts: one ring of whole numbers, and points of two whole numbers.
+//! and of point lines.
 #![tactic(auto)]
 
+mod geometry;
 mod grid_numbers;
 mod grid_texts;
+mod lists;
 mod marks;
 mod numbers;
 mod points;
-mod ring_texts;
 mod tokens;
+mod values;
 
+pub use geometry::read_geometry;
 pub use grid_numbers::{GridNumber, grid_number, is_number};
 pub use grid_texts::print_grid;
 pub use loc_spec_text::TextFault;
 pub use marks::is_blank;
-pub use points::read_whole_point;
-pub use ring_texts::read_ring;
+pub use points::read_point;
 pub use tokens::{Token, Tokens};
 
 #[cfg(test)]
 mod tests {
     use super::*;
+    use loc_geom::Point;
+
+    const LIMIT: i64 = 1_000_000_000_000_000_000;
+
+    type Row = &'static [(i64, i64)];
+
+    // A text at a scale, and how many polygons it has with the points of their rings, or its fault.
+    type TextRow = (&'static [u8], u8, Result<(u32, &'static [Row]), TextFault>);
+
+    const SQUARE: Row = &[(0, 0), (4, 0), (4, 4), (0, 4), (0, 0)];
+
+    const TEXTS: [TextRow; 36] = [
+        (b"POLYGON((0 0,4 0,4 4,0 4,0 0))", 0, Ok((1, &[SQUARE]))),
+        (
+            b" mUltipolygon\t(( ( 0 0,4. 0 ,4 +4,0\n40e-1,0 -0 ) ) )\r",
+            0,
+            Ok((1, &[SQUARE])),
+        ),
+        (
+            b"POLYGON ((0 0, 4 0, 4 4, 0 4, 0 0), (1 1, 1 2, 2 2, 1 1))",
+            0,
+            Ok((1, &[SQUARE, &[(1, 1), (1, 2), (2, 2), (1, 1)]])),
+        ),
+        (
+            b"MULTIPOLYGON (((0 0, 4 0, 4 4, 0 4, 0 0)), EMPTY, ((0 0, 4 0, 4 4, 0 4, 0 0)))",
+            0,
+            Ok((3, &[SQUARE, SQUARE])),
+        ),
+        (b"POLYGON EMPTY", 0, Ok((1, &[]))),
+        (b"MULTIPOLYGON empty", 0, Ok((0, &[]))),
+        (
+            b"POLYGON ((0 0, .5 0, 0.50 1.5e-1, 0.0 0e9))",
+            2,
+            Ok((1, &[&[(0, 0), (50, 0), (50, 15), (0, 0)]])),
+        ),
+        (
+            b"POLYGON ((1000000000000000000 0, 4 -1000000000000000000, 4 4, 1e18 0))",
+            0,
+            Ok((1, &[&[(LIMIT, 0), (4, -LIMIT), (4, 4), (LIMIT, 0)]])),
+        ),
+        (b"", 0, Err(TextFault::Syntax)),
+        (b"(0 0)", 0, Err(TextFault::Syntax)),
+        (b"LINESTRING (0 0, 1 1)", 0, Err(TextFault::Tag)),
+        (b"POLYGONZ ((0 0, 4 0, 4 4, 0 0))", 0, Err(TextFault::Tag)),
+        (b"POLYGONEMPTY", 0, Err(TextFault::Tag)),
+        (
+            b"POLYGON Z ((0 0 1, 4 0 1, 4 4 1, 0 0 1))",
+            0,
+            Err(TextFault::Dimension),
+        ),
+        (b"POLYGON zm", 0, Err(TextFault::Dimension)),
+        (
+            b"POLYGON ((0 0, 4 0 1, 4 4, 0 0))",
+            0,
+            Err(TextFault::Dimension),
+        ),
+        (b"POLYGON ((0 .5 0 1))", 0, Err(TextFault::Dimension)),
+        (b"POLYGON ((0 0 0 0 0))", 0, Err(TextFault::Syntax)),
+        (
+            b"POLYGON ((0 0, 4 0, 4 4, 0 0)) x",
+            0,
+            Err(TextFault::Syntax),
+        ),
+        (b"POLYGON ((0 0 1)) x", 0, Err(TextFault::Syntax)),
+        (b"POLYGON (EMPTY)", 0, Err(TextFault::Syntax)),
+        (b"POLYGON ()", 0, Err(TextFault::Syntax)),
+        (b"POLYGON (())", 0, Err(TextFault::Syntax)),
+        (b"POLYGON ((0 0, 4", 0, Err(TextFault::Syntax)),
+        (b"POLYGON ((0 0,))", 0, Err(TextFault::Syntax)),
+        (b"POLYGON ((0 1-2))", 0, Err(TextFault::Syntax)),
+        (
+            b"MULTIPOLYGON ((0 0, 4 0, 4 4, 0 0))",
+            0,
+            Err(TextFault::Syntax),
+        ),
+        (b"POLYGON", 0, Err(TextFault::Syntax)),
+        (
+            b"POLYGON ((0 0, 4 0.5, 4 1e30, 0 .5))",
+            0,
+            Err(TextFault::OffGrid { number: 4 }),
+        ),
+        (
+            b"POLYGON ((0 0, 4 1e30, 4 0.5, 0 .5), (0 0))",
+            0,
+            Err(TextFault::Range { number: 4 }),
+        ),
+        (
+            b"POLYGON ((1000000000000000001 0))",
+            0,
+            Err(TextFault::Range { number: 1 }),
+        ),
+        (
+            b"POLYGON ((0 0, 4 0, 4 4, 0 4, 1 1))",
+            0,
+            Err(TextFault::RingOpen { ring: 1 }),
+        ),
+        (
+            b"POLYGON ((0 0, 4 0, 0 0))",
+            0,
+            Err(TextFault::RingShort { ring: 1 }),
+        ),
+        (
+            b"POLYGON ((0 0, 4 0, 1 1))",
+            0,
+            Err(TextFault::RingShort { ring: 1 }),
+        ),
+        (
+            b"MULTIPOLYGON (((0 0, 4 0, 4 4, 0 4, 0 0)), ((0 0, 4 0, 4 4, 0 4, 1 1), (0 0)))",
+            0,
+            Err(TextFault::RingOpen { ring: 2 }),
+        ),
+        (
+            b"POLYGON ((0 0, 1000.000000000000001 0, 4 4, 0 4, 0.0 -0))",
+            15,
+            Err(TextFault::Range { number: 3 }),
+        ),
+    ];
+
+    fn same_points(ring: &[Point], row: &[(i64, i64)]) -> bool {
+        ring.len() == row.len()
+            && ring
+                .iter()
+                .zip(row)
+                .all(|(p, corner)| (p.x(), p.y()) == *corner)
+    }
 
     #[test]
-    fn reads_ring_texts(rt: HostRuntime) {
-        let square: [(i64, i64); 5] = [(0, 0), (4, 0), (4, 4), (0, 4), (0, 0)];
-        let diamond: [(i64, i64); 5] = [(0, 0), (2, -2), (4, 0), (2, 2), (0, 0)];
-        let limit = 1_000_000_000_000_000_000;
-        let large: [(i64, i64); 4] = [(limit, 0), (4, -limit), (4, 4), (limit, 0)];
-        let table: [(&[u8], &[(i64, i64)]); 18] = [
-            (b"POLYGON ((0 0, 4 0, 4 4, 0 4, 0 0))", &square),
-            (b"POLYGON((0 0,2 -2,4 0,2 2,0 0))", &diamond),
-            (b" pOlygon\t(( 0 0,4 0 ,4 4,0\n4,0 0 ) )\r", &square),
-            (
-                b"polygon((-0 +0,4 0,+4 4,0 004,00000000000000000000000000000000000000 0))",
-                &square,
-            ),
-            (
-                b"POLYGON ((1000000000000000000 0, 4 -1000000000000000000, 4 4, 0000000000001000000000000000000 0))",
-                &large,
-            ),
-            (
-                b"POLYGON ((1000000000000000001 0, 4 0, 4 4, 1000000000000000001 0))",
-                &[],
-            ),
-            (b"POLYGON ((0 0, 4", &[]),
-            (b"POLYGON ((0 0, 4 0, 4 4, 0 4, 1 1))", &[]),
-            (b"POLYGON ((0 0, 4 0, 0 0))", &[]),
-            (b"POLYGON ((0 0, 4 0, 4 4.0, 0 0))", &[]),
-            (b"POLYGON ((0 0, 4 0, 4 1e0, 0 0))", &[]),
-            (b"MULTIPOLYGON (((0 0, 4 0, 4 4, 0 0)))", &[]),
-            (b"POLYGON EMPTY", &[]),
-            (b"POLYGON ((0 0, 4 0, 4 4, 0 0), (1 1, 1 3, 3 3, 1 1))", &[]),
-            (b"POLYGON ((0 0, 4 0, 4 4, 0 0)))", &[]),
-            (b"POLYGON ((0 0, 4 0, 4 4, 0 0)) x", &[]),
-            (b"POLYGON ((0 0, 4 0 1, 4 4, 0 0))", &[]),
-            (b"", &[]),
-        ];
-        for (text, want) in table {
-            match read_ring(rt.alloc(), text) {
-                Ok(rings) => {
-                    assert_eq!(rt; rings.len(), 1);
-                    let ring = rings.ring(0);
-                    assert_eq!(rt; ring.len(), want.len());
-                    for (point, corner) in ring.iter().zip(want) {
-                        assert_eq!(rt; (point.x(), point.y()), *corner);
+    fn reads_geometry_texts(rt: HostRuntime) {
+        for (text, scale, want) in TEXTS {
+            assert!(rt; scale <= 15 && text.len() < 1000);
+            match (read_geometry(rt.alloc(), text, scale), want) {
+                (Ok(rings), Ok((polygons, rows))) => {
+                    assert_eq!(rt; rings.polygons(), polygons);
+                    assert_eq!(rt; rings.len(), rows.len());
+                    for (n, row) in rows.iter().enumerate() {
+                        assert!(rt; n < rings.len() && same_points(rings.ring(n), row));
                     }
                 }
-                Err(fault) => {
-                    assert_eq!(rt; fault, TextFault::Syntax);
-                    assert!(rt; want.is_empty());
-                }
+                (Err(fault), Err(wanted)) => assert_eq!(rt; fault, wanted),
+                _ => assert!(rt; false),
             }
         }
     }
 
+    const POINTS: [(&[u8], u8, Option<(i64, i64)>); 18] = [
+        (b"2 2", 0, Some((2, 2))),
+        (b" -1\t+4 \r", 0, Some((-1, 4))),
+        (b"0.5 .5", 1, Some((5, 5))),
+        (b"point(1 2.50)", 1, Some((10, 25))),
+        (b" POINT ( 1e1 0.0 ) ", 0, Some((10, 0))),
+        (b"-1000000000000000000 007", 0, Some((-LIMIT, 7))),
+        (b"1000000000000000001 0", 0, None),
+        (b"1.00000000000000001 0", 3, None),
+        (b"1 2 3", 0, None),
+        (b"1-2", 0, None),
+        (b"1", 0, None),
+        (b"", 0, None),
+        (b" ", 0, None),
+        (b"POINT 1 2", 0, None),
+        (b"POINT (1 2", 0, None),
+        (b"POINT (1 2) x", 0, None),
+        (b"POINTS (1 2)", 0, None),
+        (b"(1 2)", 0, None),
+    ];
+
     #[test]
     fn reads_point_lines(rt: HostRuntime) {
-        let table: [(&[u8], Option<(i64, i64)>); 9] = [
-            (b"2 2", Some((2, 2))),
-            (b" -1\t+4 \r", Some((-1, 4))),
-            (
-                b"-1000000000000000000 007",
-                Some((-1_000_000_000_000_000_000, 7)),
-            ),
-            (b"1000000000000000001 0", None),
-            (b"1 2 3", None),
-            (b"1-2", None),
-            (b"1.0 2", None),
-            (b"POINT (1 2)", None),
-            (b" ", None),
-        ];
-        for (line, want) in table {
-            let read = read_whole_point(line).map(|p| (p.x(), p.y()));
+        for (line, scale, want) in POINTS {
+            assert!(rt; scale <= 15);
+            let read = read_point(line, scale).map(|p| (p.x(), p.y()));
             assert_eq!(rt; read, want);
         }
+        assert!(rt; read_point(&[b'0'; 5000], 0).is_none());
         assert!(rt; is_blank(b" \t\r\n") && !is_blank(b" x"));
     }
 }

@@ -1,11 +1,16 @@
-// White space, and the marks between the numbers of a text.
+// White space, and what stands at the front of a text: marks, numbers and words.
 
-ghost use Rattle.std.specs.Prelude.{◌≡◌, ◌<◌, length, IfSome, Some, None, MatchOption};
-ghost use Rattle.loc_spec_text.specs.Bytes.{drop_while, is_blank as is_blank_text, is_white as is_white_byte};
-ghost use Rattle.loc_spec_text.specs.Geometry.{pieces};
-ghost use Rattle.loc_wkt.specs.Fronts.{mark_at};
+ghost use Rattle.std.specs.Prelude.{◌≡◌, ◌+◌, ◌<◌, ◌≤◌, [], codes, length, true, IfSome, Some, None, MatchOption};
+ghost use Rattle.std.specs.Char.{is_ascii_alphabetic};
+ghost use Rattle.std.specs.List.{list_all};
+ghost use Rattle.std.specs.Str.{bytes_eq};
+ghost use Rattle.loc_spec_text.specs.Bytes.{capitals, drop_while, is_blank as is_blank_text, is_white as is_white_byte};
+ghost use Rattle.loc_spec_text.specs.Geometry.{piece_of, pieces};
+ghost use Rattle.loc_spec_text.specs.Number.{is_number as is_number_text};
+ghost use Rattle.loc_wkt.specs.Fronts.{empty_at, goes_on_at, is_word, mark_at, number_at, open_at};
 
-use crate::tokens::{is_mark, is_white, white_length};
+use crate::grid_numbers::is_number;
+use crate::tokens::{is_mark, is_white, next_piece, white_length};
 
 /// Whether a text is white space alone, or nothing.
 pub fn is_blank(text: &[u8]) -> bool
@@ -15,7 +20,7 @@ pub fn is_blank(text: &[u8]) -> bool
 }
 
 /// The text behind the white space at its front.
-fn skip_white(text: &[u8]) -> &[u8]
+pub(crate) fn skip_white(text: &[u8]) -> &[u8]
     ensures { result.now ≡ drop_while is_white_byte text.now }
 {
     &text[white_length(text)..]
@@ -29,5 +34,65 @@ pub(crate) fn next_mark(text: &[u8]) -> Option<(u8, &[u8])>
     match skip_white(text) {
         [] => None,
         [b, more @ ..] => { if is_mark(*b) { Some((*b, more)) } else { None } }
+    }
+}
+
+/// What follows an open mark at the front of a text.
+pub(crate) fn behind_open(text: &[u8]) -> Option<&[u8]>
+    ensures found { MatchOption result (open_at (pieces text.now) ≡ None) (λ rest. open_at (pieces text.now) ≡ Some (pieces rest.now)) }
+    ensures shorter { IfSome result (λ rest. length rest.now < length text.now) }
+{
+    let (mark, rest) = next_mark(text)?;
+    if mark == b'(' { Some(rest) } else { None }
+}
+
+/// Whether more members of a list follow behind one of them, and what follows the comma or the close mark that tells it.
+pub(crate) fn goes_on(text: &[u8]) -> Option<(bool, &[u8])>
+    ensures found { MatchOption result (goes_on_at (pieces text.now) ≡ None) (λ r. goes_on_at (pieces text.now) ≡ Some (r.0, pieces r.1.now)) }
+    ensures shorter { IfSome result (λ r. length r.1.now < length text.now) }
+{
+    let (mark, rest) = next_mark(text)?;
+    match mark {
+        b',' => Some((true, rest)),
+        b')' => Some((false, rest)),
+        _ => None,
+    }
+}
+
+/// The number text at the front of a text and what follows it.
+pub(crate) fn next_number(text: &[u8]) -> Option<(&[u8], &[u8])>
+    ensures found { MatchOption result (number_at (pieces text.now) ≡ None) (λ r. number_at (pieces text.now) ≡ Some (r.0.now, pieces r.1.now)) }
+    ensures number { IfSome result (λ r. is_number_text r.0.now ≡ true) }
+    ensures shorter { IfSome result (λ r. length r.1.now < length text.now) }
+    ensures within { IfSome result (λ r. length r.0.now ≤ length text.now) }
+{
+    let (piece, rest) = next_piece(text)?;
+    if is_number(piece) {
+        Some((piece, rest))
+    } else {
+        None
+    }
+}
+
+/// Whether a run is this word in any ASCII case.
+pub(crate) fn is_this_word(run: &[u8], name: &[u8]) -> bool
+    requires letters { list_all is_ascii_alphabetic name.now ≡ true }
+    requires capitals { capitals name.now ≡ name.now }
+    ensures letters { result ≡ bytes_eq (capitals run.now) name.now }
+    ensures piece { result ≡ is_word name.now (piece_of run.now) }
+{
+    run.eq_ignore_ascii_case(name)
+}
+
+/// What follows the word EMPTY at the front of a text.
+pub(crate) fn behind_empty(text: &[u8]) -> Option<&[u8]>
+    ensures found { MatchOption result (empty_at (pieces text.now) ≡ None) (λ rest. empty_at (pieces text.now) ≡ Some (pieces rest.now)) }
+    ensures shorter { IfSome result (λ rest. length rest.now < length text.now) }
+{
+    let (word, rest) = next_piece(text)?;
+    if is_this_word(word, b"EMPTY") {
+        Some(rest)
+    } else {
+        None
     }
 }

@@ -1,41 +1,104 @@
-// The reader of points of two whole numbers.
+// The reader of point lines.
 
-ghost use Rattle.std.specs.Prelude.{◌≡◌, ◌<◌, length, IfSome, MatchOption, Some, None};
+ghost use Rattle.std.specs.Prelude.{◌≡◌, ◌≤◌, ◌<◌, ◌^◌, length, true, if◌then◌else◌, IfSome, MatchOption, Some, None};
+ghost use Rattle.loc_spec_plane.specs.Points.{OnGrid};
 ghost use Rattle.loc_spec_text.specs.Geometry.{pieces};
-ghost use Rattle.loc_spec_text.specs.RingText.{whole_point_of};
-ghost use Rattle.loc_wkt.specs.Whole.{whole_point_at};
+ghost use Rattle.loc_spec_text.specs.Number.{grid_value as grid_value_of, is_number as is_number_text};
+ghost use Rattle.loc_spec_text.specs.Points.{is_grid_number, point_of, point_texts};
+ghost use Rattle.loc_spec_text.specs.Reader.{point_at};
+ghost use Rattle.loc_wkt.specs.Fronts.{is_end, point_mark_at};
 
-use crate::numbers::whole_number;
+use crate::grid_numbers::{GridNumber, grid_number};
+use crate::marks::{behind_open, is_this_word, next_mark, next_number};
 use crate::tokens::next_piece;
 use loc_geom::Point;
 
 /// The longest line that is read as a point.
 const MOST_BYTES: usize = 4096;
 
-/// The point of two whole numbers in range at the front of a text, and what follows it.
-pub(crate) fn next_point(text: &[u8]) -> Option<(Point, &[u8])>
-    ensures found { MatchOption result (whole_point_at (pieces text.now) ≡ None) (λ r. whole_point_at (pieces text.now) ≡ Some (r.0, pieces r.1.now)) }
-    ensures shorter { IfSome result (λ r. length r.1.now < length text.now) }
+/// Two number texts at the front of a text, and what follows them.
+fn next_pair(text: &[u8]) -> Option<(&[u8], &[u8], &[u8])>
+    ensures found { MatchOption result (point_at (pieces text.now) ≡ None) (λ r. point_at (pieces text.now) ≡ Some ((r.0.now, r.1.now), pieces r.2.now)) }
+    ensures first { IfSome result (λ r. (is_number_text r.0.now ≡ true) × (length r.0.now ≤ length text.now)) }
+    ensures second { IfSome result (λ r. (is_number_text r.1.now ≡ true) × (length r.1.now ≤ length text.now)) }
 {
-    let (x, rest) = next_piece(text)?;
-    let (y, rest) = next_piece(rest)?;
-    let point = Point::new(whole_number(x)?, whole_number(y)?)?;
-    Some((point, rest))
+    let (x, rest) = next_number(text)?;
+    let (y, rest) = next_number(rest)?;
+    Some((x, y, rest))
 }
 
-/// The point of a line of two whole numbers of at most 10^18 either way, and white space. Any other line has none, nor has one of more
-/// than 4096 bytes.
-pub fn read_whole_point(line: &[u8]) -> Option<Point>
-    ensures { result ≡ whole_point_of line.now }
+/// What follows the word POINT and an open mark at the front of a text.
+fn behind_point_mark(text: &[u8]) -> Option<&[u8]>
+    ensures found { MatchOption result (point_mark_at (pieces text.now) ≡ None) (λ rest. point_mark_at (pieces text.now) ≡ Some (pieces rest.now)) }
+    ensures shorter { IfSome result (λ rest. length rest.now < length text.now) }
 {
-    if line.len() > MOST_BYTES {
+    let (word, rest) = next_piece(text)?;
+    if is_this_word(word, b"POINT") {
+        behind_open(rest)
+    } else {
+        None
+    }
+}
+
+/// Whether a text is a close mark, but for white space.
+fn is_close_mark(text: &[u8]) -> bool
+    ensures { result ≡ is_end (pieces text.now) }
+{
+    match next_mark(text) {
+        Some((mark, rest)) => mark == b')' && next_piece(rest).is_none(),
+        None => false,
+    }
+}
+
+/// The number texts of a point line: two alone, or two behind the word POINT in parentheses.
+fn point_numbers(text: &[u8]) -> Option<(&[u8], &[u8])>
+    ensures found { MatchOption result (point_texts (pieces text.now) ≡ None) (λ r. point_texts (pieces text.now) ≡ Some (r.0.now, r.1.now)) }
+    ensures first { IfSome result (λ r. (is_number_text r.0.now ≡ true) × (length r.0.now ≤ length text.now)) }
+    ensures second { IfSome result (λ r. (is_number_text r.1.now ≡ true) × (length r.1.now ≤ length text.now)) }
+{
+    match behind_point_mark(text) {
+        Some(inside) => {
+            let (x, y, rest) = next_pair(inside)?;
+            if is_close_mark(rest) {
+                Some((x, y))
+            } else {
+                None
+            }
+        }
+        None => {
+            let (x, y, rest) = next_pair(text)?;
+            if next_piece(rest).is_none() {
+                Some((x, y))
+            } else {
+                None
+            }
+        }
+    }
+}
+
+/// The grid value of a number text, unless it is off the grid or out of range.
+fn grid_value(text: &[u8], scale: u8) -> Option<i64>
+    requires number { is_number_text text.now ≡ true }
+    requires length { length text.now ≤ 2 ^ 28 }
+    requires scale { scale ≤ 15 }
+    ensures value { result ≡ (if is_grid_number scale text.now then Some (grid_value_of scale text.now) else None) }
+    ensures bound { IfSome result (λ value. OnGrid value) }
+{
+    match grid_number(text, scale) {
+        GridNumber::OnGrid(value) => Some(value),
+        _ => None,
+    }
+}
+
+/// The point of a line at a scale: two numbers on its grid and in range, alone or as a well-known text. Any other line has none, nor has
+/// one of more than 4096 bytes.
+pub fn read_point(text: &[u8], scale: u8) -> Option<Point>
+    requires { scale ≤ 15 }
+    ensures { result ≡ point_of scale text.now }
+{
+    if text.len() > MOST_BYTES {
         return None;
     }
-    match next_point(line) {
-        None => None,
-        Some((point, rest)) => match next_piece(rest) {
-            Some(_) => None,
-            None => Some(point),
-        },
-    }
+    let (x, y) = point_numbers(text)?;
+    Point::new(grid_value(x, scale)?, grid_value(y, scale)?)
 }

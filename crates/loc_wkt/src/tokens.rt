@@ -6,7 +6,7 @@ mod iterator;
 mod lengths;
 mod pieces;
 
-pub use lengths::{is_white, white_length};
+pub use lengths::{is_white, white_length, word_length};
 pub use pieces::{is_mark, next_piece};
 
 /// A token and the place at which it begins.

@@ -68,7 +68,7 @@ fn number_length(text: &[u8]) -> usize
 }
 
 /// The number of letters at the front of a text.
-fn word_length(text: &[u8]) -> usize
+pub fn word_length(text: &[u8]) -> usize
     ensures { result ≡ prefix_len is_ascii_alphabetic text.now }
 {
     text.iter().take_while(|b| b.is_ascii_alphabetic()).count()

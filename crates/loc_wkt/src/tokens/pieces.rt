@@ -49,6 +49,7 @@ fn piece_length(text: &[u8]) -> usize
 pub fn next_piece(text: &[u8]) -> Option<(&[u8], &[u8])>
     ensures found { IfSome result (λ p. pieces text.now ≡ piece_of p.0.now ∷ pieces p.1.now) }
     ensures shorter { IfSome result (λ p. length p.1.now < length text.now) }
+    ensures within { IfSome result (λ p. length p.0.now ≤ length text.now) }
     ensures none { IfNone result (pieces text.now ≡ []) }
 {
     let white = white_length(text);

@@ -1,3 +1,4 @@
+use Rattle.loc_spec_text.specs.Reading.{all_rings}
 use Rattle.std.proofs.Common.{◌≡◌, ◌+◌, List, [], ◌∷◌, ◌++◌, take, get_or, sym, ◌∙◌, ap, subst, inl, inr, arith}
 use Rattle.std.proofs.lemmas.Bool.{cases_lt}
 use Rattle.std.proofs.lemmas.List.{take_more, flat_map_more}
@@ -8,7 +9,7 @@ use Rattle.loc_edges.proofs.segments.add_rings.Goals as goal
 
 pub loop-n-preserved : goal.loop-n-preserved
 loop-n-preserved c =
-    let rings : List Ring = c.args.rings.now in
+    let rings : List Ring = (all_rings c.args.rings.now) in
     let ring : Ring = c.ring.result.now in
     let one_more : take (c.loop-n.n + 1) rings ≡ take c.loop-n.n rings ++ ring ∷ [] =
     take_more rings c.loop-n.n ring (slice_get_within rings c.loop-n.n ring c.ring.ensures.value) ∙ ap (λ (r : Ring). take c.loop-n.n rings ++ r ∷ []) (get_or_from_slice_get rings c.loop-n.n ring ring c.ring.ensures.value) in (

@@ -1,14 +1,15 @@
-use Rattle.std.proofs.Common.{rules, sym, length, ◌<◌}
-use Rattle.loc_edges.specs.Conflicts.{IsFirstConflict}
+use Rattle.std.proofs.Common.{◌≡◌, ◌∙◌, ap, rules, sym, length, ◌<◌, arith}
+use Rattle.loc_edges.specs.Conflicts.{IsFirstConflict, edges_of}
+use Rattle.loc_top.specs.Located.{table_in}
 use Rattle.loc_top.proofs.Shown.{second_inside, shows}
 use Rattle.loc_top.proofs.plane.Plane.conflict.Goals as goal
 
-pub index-requires-2 : goal.index-requires-2
-index-requires-2 c =
-    let is : IsFirstConflict c.self.inside.edges.items c.in_ok-shown.shown = rw (sym c.deref.ensures.value) c.in_ok-shown.ensures.shown in
-    let inside : c.in_ok-shown.shown.second < length c.self.inside.edges.items = second_inside _ c.in_ok-shown.shown is in
-    search rules
+pub bounds-edges-shown-2 : goal.bounds-edges-shown-2
+bounds-edges-shown-2 c = second_inside _ c.in_ok-shown.shown c.in_ok-shown.ensures.shown
+
+pub offset_bounds-edges-shown-2 : goal.offset_bounds-edges-shown-2
+offset_bounds-edges-shown-2 c = let fits : c.in_ok-shown.shown.second < length c.edges-edges.result.now = second_inside _ c.in_ok-shown.shown c.in_ok-shown.ensures.shown in omega (arith, fits, c.edges-edges.ensures.within)
 
 pub returns : goal.returns
-returns c = shows _ c.self.inside.edges.items c.in_ok-shown.shown _ _ (search rules) (rw (sym c.deref.ensures.value) c.in_ok-shown.ensures.some) (rw (sym c.deref.ensures.value) c.in_ok-shown.ensures.shown) c.index.ensures c.index-2.ensures
-    (λ d. (rw (sym c.deref.ensures.value) (c.in_ok-shown.ensures.lesser_first (search rules) d)))
+returns c = shows _ c.edges-edges.result.now c.in_ok-shown.shown _ _ (c.edges-edges.ensures.value ∙ ap edges_of (c.self.invariant ∙ ap table_in c.self.view_is)) c.in_ok-shown.ensures.some c.in_ok-shown.ensures.shown c.index-edges-shown.is c.index-edges-shown-2.is
+    (c.in_ok-shown.ensures.lesser_first c.edges-edges.ensures.in_order)

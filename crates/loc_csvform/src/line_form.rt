@@ -1,0 +1,44 @@
+// A layer text in form lines.
+
+ghost use Rattle.std.specs.Prelude.{◌≡◌, ◌≤◌, ◌^◌, [], length, Ok, IfOk, IfErr};
+ghost use Rattle.std.specs.Fmt.{decimal};
+ghost use Rattle.loc_spec_text.specs.Reading.{reading};
+ghost use Rattle.loc_csvform.specs.Layer.{features_from, line_rows};
+ghost use Rattle.loc_csvform.specs.Faults.{IsFaultOf};
+
+use crate::rows::add_row;
+use crate::{LayerFault, next_line};
+use itoa::Buffer;
+use loc_rings::Layer;
+use loc_wkt::is_blank;
+use std::alloc::{AllocError, Global};
+
+// The number of a line in decimal, which is the feature's id.
+fn id_of(alloc: Global, row: u32) -> Result<Vec<u8>, AllocError>
+    ensures value { IfOk result (λ id. id.items ≡ decimal row) }
+    ensures short { IfOk result (λ id. length id.items ≤ 200) }
+{
+    let mut buffer = Buffer::new();
+    Vec::from_slice(alloc, buffer.format(row).as_bytes())
+}
+
+/// The layer of a text in form lines: each line that is not blank is a row, and its number from 1 is the feature's id.
+pub(crate) fn read_lines(alloc: Global, text: &[u8], scale: u8) -> Result<Layer, LayerFault>
+    requires scale { scale ≤ 15 }
+    requires size { length text.now ≤ 2 ^ 28 }
+    ensures ok { IfOk result (λ layer. features_from (reading scale) (line_rows text.now) [] ≡ Ok layer) }
+    ensures err { IfErr result (IsFaultOf (features_from (reading scale) (line_rows text.now) [])) }
+{
+    let mut layer = Layer::new(alloc);
+    let mut rest = text;
+    let mut row = 0u32;
+    while let Some((line, more)) = next_line(rest) {
+        row += 1;
+        if !is_blank(line) {
+            let id = id_of(alloc, row)?;
+            add_row(alloc, &mut layer, row, id, line, scale)?;
+        }
+        rest = more;
+    }
+    Ok(layer)
+}

@@ -1,0 +1,4 @@
+pub mod Cornerless
+pub mod FoundPlace
+pub mod Highest
+pub mod OnePlace

@@ -1,0 +1,120 @@
+// A layer: its features, within the limits.
+
+ghost use Rattle.std.specs.Prelude.{◌≡◌, ◌^◌, ◌+◌, ◌<◌, ◌≤◌, [], ◌∷◌, ◌++◌, length, slice_get, sum_by, nat_le, Some, IfSome, MatchOption, OnOk, OnErr};
+ghost use Rattle.loc_spec_text.specs.Reading.{all_rings};
+ghost use Rattle.loc_rings.specs.Layers.{IsLayer, point_count, points_of};
+
+use crate::features::Feature;
+use crate::rings::Rings;
+use std::alloc::{AllocError, Global};
+use std::marker::Model;
+
+const MAX_FEATURES: usize = 1 << 18;
+
+const MAX_POINTS: usize = 1 << 20;
+
+/// Features in the order in which they were added: at most 2^18, with at most 2^20 written ring points together.
+#[derive(Drop)]
+pub struct Layer {
+    features: Vec<Feature>,
+    // The written ring points of all features.
+    points: usize,
+}
+
+impl Model for Layer {
+    ghost use Rattle.std.specs.Prelude.{◌≡◌, List};
+    ghost use Rattle.loc_rings.specs.Values.{Feature as FeatureValue};
+    ghost use Rattle.loc_rings.specs.Layers.{IsLayer, points_of};
+
+    ghost Value = { List FeatureValue };
+
+    ghost view = { λ l. l.features.items };
+
+    ghost invariant = { λ l. IsLayer l.features.items × (l.points ≡ points_of l.features.items) };
+}
+
+// How many points there are with those of these rings, unless they pass the limit.
+fn points_with(before: usize, rings: &Rings) -> Option<usize>
+    requires { before ≤ 2 ^ 20 }
+    ensures count { MatchOption result (2 ^ 20 < before + sum_by length (all_rings rings.now)) (λ points. points ≡ before + sum_by length (all_rings rings.now)) }
+    ensures within { IfSome result (λ points. points ≤ 2 ^ 20) }
+{
+    let mut points = before;
+    for n in 0..rings.len() {
+        let count = rings.ring(n).len();
+        if count > MAX_POINTS - points {
+            return None;
+        }
+        points += count;
+    }
+    Some(points)
+}
+
+impl Layer {
+    /// No features.
+    pub fn new(alloc: Global) -> Layer
+        ensures { result ≡ [] }
+    {
+        Layer {
+            features: Vec::new(alloc),
+            points: 0,
+        }
+    }
+
+    /// Whether the layer has as many features as it may.
+    pub fn is_full(&self) -> bool
+        ensures { result ≡ nat_le (2 ^ 18) (length self.now) }
+    {
+        self.features.len() >= MAX_FEATURES
+    }
+
+    /// Whether the layer stays within its limit of ring points with this feature.
+    pub fn has_room(&self, feature: &Feature) -> bool
+        ensures { result ≡ nat_le (points_of self.now + point_count feature.now) (2 ^ 20) }
+    {
+        points_with(self.points, feature.rings()).is_some()
+    }
+
+    /// Appends a feature. A refusal drops it, and leaves the layer as it was.
+    pub fn add(&mut self, feature: Feature) -> Result<(), AllocError>
+        requires few_features { length self.old < 2 ^ 18 }
+        requires few_points { points_of self.old + point_count feature ≤ 2 ^ 20 }
+        ensures ok { OnOk result (self.new ≡ self.old ++ feature ∷ []) }
+        ensures err { OnErr result (self.new ≡ self.old) }
+    {
+        let points = points_with(self.points, feature.rings()).unwrap();
+        self.features.push(feature)?;
+        self.points = points;
+        Ok(())
+    }
+
+    /// How many features there are.
+    pub fn len(&self) -> usize
+        ensures { result ≡ length self.now }
+    {
+        self.features.len()
+    }
+
+    /// How many written ring points the features have together.
+    pub fn points(&self) -> usize
+        ensures { result ≡ points_of self.now }
+    {
+        self.points
+    }
+
+    /// Feature n.
+    pub fn feature(&self, n: usize) -> &Feature
+        requires { n < length self.now }
+        ensures { slice_get self.now n ≡ Some result.now }
+    {
+        &self.features[n]
+    }
+
+    /// All features.
+    pub fn features(&self) -> &[Feature]
+        ensures value { result.now ≡ self.now }
+        ensures within { IsLayer result.now }
+    {
+        self.features.as_slice()
+    }
+}

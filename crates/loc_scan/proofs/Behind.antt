@@ -1,0 +1,34 @@
+-- Where a point stands among the corners of a table.
+use Rattle.std.proofs.Common.{◌≡◌, ◌≢◌, ℕ, ◌<◌, ◌≤◌, true, length, sym, ◌∙◌, subst, inl, inr, arith}
+use Rattle.std.specs.Prelude.{nat_lt}
+use Rattle.std.proofs.lemmas.Bool.{and_left, and_right, cases_eq, cases_lt, lt-ltb, le-ltb, not_from_false}
+use Rattle.loc_spec_plane.specs.Points.{Point, before, same_point}
+use Rattle.loc_spec_plane.specs.Tables.{Table, IsTable, corner}
+use Rattle.loc_spec_plane.specs.Places.{is_corner_of}
+use Rattle.loc_laws_order.proofs.Sides.{before_trans, before-asym_test, before-differ, same_point_sym}
+use Rattle.loc_laws_order.proofs.TableOrder.{corner_before}
+use Rattle.loc_scan.specs.Standing.{IsBehind}
+
+module _ (t : Table) (ok : IsTable t) (p : Point) where
+  -- a point that comes before a corner comes before each later one
+  pub before_later : (n : ℕ) → before p (corner t n) ≡ true → (c : ℕ) → n ≤ c → c < length t.corners → before p (corner t c) ≡ true
+  before_later n ahead c from fits = elim (cases_eq n c) [
+    | inl same ↦ subst (λ k. before p (corner t k) ≡ true) same ahead
+    | inr other ↦ before_trans p (corner t n) (corner t c) ahead (corner_before t ok n c (let differ : n ≢ c = other in omega arith) fits)
+  ]
+
+  -- the first n corners come before p, and p before the others
+  pub stands_behind : (n : ℕ) → ((c : ℕ) → c < n → before (corner t c) p ≡ true) → ((c : ℕ) → n ≤ c → c < length t.corners → before p (corner t c) ≡ true) → IsBehind t p n
+  stands_behind n passed ahead = record {
+    cornerless = λ c. not_from_false (is_corner_of t p c) (elim (cases_lt c (length t.corners)) [
+      | inr past ↦ and_left (nat_lt c (length t.corners)) (same_point (corner t c) p) (le-ltb c (length t.corners) past)
+      | inl fits ↦ and_right (nat_lt c (length t.corners)) (same_point (corner t c) p) (elim (cases_lt c n) [
+        | inl less ↦ before-differ (corner t c) p (passed c less)
+        | inr from ↦ same_point_sym (corner t c) p (before-differ p (corner t c) (ahead c from fits))
+      ])
+    ]);
+    passed = λ c fits. elim (cases_lt c n) [
+      | inl less ↦ passed c less ∙ sym (lt-ltb c n less)
+      | inr from ↦ before-asym_test p (corner t c) (ahead c from fits) ∙ sym (le-ltb c n from)
+    ];
+  }

@@ -1,0 +1,11 @@
+mod Walking
+mod Cuts
+mod Onward
+mod Backward
+mod Distinct
+mod Level
+mod Parses
+mod Commands
+mod Meets
+mod Numbers
+mod Named

@@ -1,0 +1,60 @@
+-- Numbers by their digits.
+use Rattle.std.proofs.Common.{◌≡◌, ◌==◌, ◌^◌, ℕ, ◌<◌, ◌≤◌, true, false, [], ◌∷◌, length, Some, None, Result, Ok, Err, nat_lt, nat_le, refl, ◌∙◌, ap, arith, inl, inr}
+use Rattle.std.specs.Char.{is_ascii_digit}
+use Rattle.std.specs.List.{list_all}
+use Rattle.std.specs.Int.{IsInRange}
+use Rattle.std.specs.Result.{OkIff, result_ok}
+use Rattle.std.specs.Str.Parse.{IsNumeral, ParsesUnsigned, digits_value, without_leading_plus}
+use Rattle.std.proofs.lemmas.Bool.{and_parts, cases_Bool, ne_eqb, leb-true, le-leb, lt-ltb, ltb-true}
+use Rattle.std.proofs.lemmas.Str.Parse.{IsDigitsTest, numerals_by_value}
+use Rattle.loc_words.specs.Words.{Text, number_word}
+
+digit_range : (c : ℕ) → is_ascii_digit c ≡ true → IsInRange 48 57 c
+digit_range c h = let two = and_parts (nat_le 48 c) (nat_le c 57) h in (leb-true 48 c two.0, leb-true c 57 two.1)
+
+range_digit : (c : ℕ) → IsInRange 48 57 c → is_ascii_digit c ≡ true
+range_digit c h = let low = le-leb 48 c h.0 in let high = le-leb c 57 h.1 in simp (low, high)
+
+ascii_digits : IsDigitsTest (λ ds. list_all is_ascii_digit ds ≡ true)
+ascii_digits = record {
+  empty = refl;
+  parts = λ c cs h. let two = and_parts (is_ascii_digit c) (list_all is_ascii_digit cs) h in (digit_range c two.0, two.1);
+  more = λ c cs r h. let here = range_digit c r in simp (here, h);
+}
+
+no_plus : (ds : Text) → list_all is_ascii_digit ds ≡ true → without_leading_plus ds ≡ ds
+no_plus [] h = refl
+no_plus (c ∷ cs) h =
+    let range = digit_range c (and_parts (is_ascii_digit c) (list_all is_ascii_digit cs) h).0 in
+    let other : (c == 43) ≡ false = ne_eqb c 43 (λ e. not_plus c range e) in
+    simp other
+  where
+    not_plus : (c : ℕ) → IsInRange 48 57 c → c ≡ 43 → ⊥
+    not_plus c r e = omega (arith, r.0, e)
+
+-- the number that was parsed of digits
+pub parsed : {E : Type 0} (ds : Text) (r : Result ℕ E) → 0 < length ds → length ds ≤ 20 → list_all is_ascii_digit ds ≡ true → ParsesUnsigned 64 10 ds r → result_ok r ≡ number_word ds
+parsed {E = E} ds r some most digits parses =
+    let numeral : IsNumeral 10 ds = (some, (numerals_by_value (λ l. list_all is_ascii_digit l ≡ true) ascii_digits).to ds digits) in
+    let plain = no_plus ds digits in
+    let bare : OkIff r (IsNumeral 10 ds × (digits_value 10 ds < 2 ^ 64)) (digits_value 10 ds) = rw plain at parses in
+    answered r numeral bare
+  where
+    tested : nat_lt 0 (length ds) ≡ true
+    tested = lt-ltb 0 (length ds) some
+
+    below : nat_le (length ds) 20 ≡ true
+    below = le-leb (length ds) 20 most
+
+    is_number : nat_lt (digits_value 10 ds) (2 ^ 64) ≡ true → Some (digits_value 10 ds) ≡ number_word ds
+    is_number fits = simp (tested, below, digits, fits)
+
+    is_none : nat_lt (digits_value 10 ds) (2 ^ 64) ≡ false → None ≡ number_word ds
+    is_none large = simp (tested, below, digits, large)
+
+    answered : (r : Result ℕ E) → IsNumeral 10 ds → OkIff r (IsNumeral 10 ds × (digits_value 10 ds < 2 ^ 64)) (digits_value 10 ds) → result_ok r ≡ number_word ds
+    answered (Ok x) numeral p = ap Some p.1 ∙ is_number (lt-ltb (digits_value 10 ds) (2 ^ 64) p.0.1)
+    answered (Err e) numeral p = elim (cases_Bool (nat_lt (digits_value 10 ds) (2 ^ 64))) [
+      | inl fits ↦ absurd (p (numeral, ltb-true (digits_value 10 ds) (2 ^ 64) fits))
+      | inr large ↦ is_none large
+    ]

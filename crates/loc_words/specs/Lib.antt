@@ -1,0 +1,4 @@
+pub mod Apps
+pub mod Tested
+pub mod Usage
+pub mod Words

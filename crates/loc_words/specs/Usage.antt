@@ -1,0 +1,7 @@
+-- What is written where words are no command.
+use Rattle.std.specs.Prelude.{List, ℕ, [], ◌∷◌, ◌++◌, codes}
+
+-- the usage text, a line for each command
+abbrev pub usage_text : List ℕ
+usage_text = codes "usage: locate query LAYER POINTS --scale K [--form lines|csv]" ++ 10 ∷ []
+    ++ codes "       locate check LAYER --scale K [--form lines|csv]" ++ 10 ∷ []

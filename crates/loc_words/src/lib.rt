@@ -1,0 +1,21 @@
+//! The words of a command line: the command that they are, or that they are none.
+//!
+//! `command_of` answers by the definition in specs/, over `clap`. Each command is a simple command of
+//! `clap` for the words after the first.
+#![tactic(auto)]
+
+mod command;
+mod fault;
+mod form;
+mod parser;
+#[cfg(test)]
+mod tests;
+mod usage;
+mod values;
+mod words;
+
+pub use command::{Command, command_of};
+pub use fault::WordsFault;
+pub use form::Form;
+pub use parser::clap_takes_commands;
+pub use usage::usage_text;

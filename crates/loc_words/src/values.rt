@@ -1,0 +1,55 @@
+//! The values of options.
+ghost use Rattle.std.specs.Prelude.{◌≡◌, ◌≤◌, IfSome, option_map};
+ghost use Rattle.std.specs.Char.{is_ascii_digit};
+ghost use Rattle.std.specs.List.{list_all};
+ghost use Rattle.loc_words.specs.Words.{number_word, scale_word, scale_and_form};
+
+use crate::Form;
+
+const MOST_DIGITS: usize = 20;
+
+const MOST_SCALE: u64 = 15;
+
+fn are_digits(bytes: &[u8]) -> bool
+    ensures { result ≡ list_all is_ascii_digit bytes.now }
+{
+    for byte in bytes {
+        if !byte.is_ascii_digit() {
+            return false;
+        }
+    }
+    true
+}
+
+// A number of 1 to 20 digits below 2^64.
+fn number_of(word: &str) -> Option<u64>
+    ensures { result ≡ number_word word.now }
+{
+    if word.is_empty() || word.len() > MOST_DIGITS || !are_digits(word.as_bytes()) {
+        return None;
+    }
+    word.parse::<u64>().ok()
+}
+
+fn scale_of(word: &str) -> Option<u8>
+    ensures value { result ≡ scale_word word.now }
+    ensures bound { IfSome result (λ scale. scale ≤ 15) }
+{
+    match number_of(word) {
+        Some(scale) if scale <= MOST_SCALE => Some(scale as u8),
+        _ => None,
+    }
+}
+
+/// The scale, which is required, and the form, lines where it is left out, of their words.
+pub(crate) fn read_scale_and_form(scale: Option<&str>, form: Option<&str>) -> Option<(u8, Form)>
+    ensures bound { IfSome result (λ values. values.0 ≤ 15) }
+    ensures value { result ≡ scale_and_form (option_map (λ s. s.now) scale.entry) (option_map (λ s. s.now) form.entry) }
+{
+    let scale = scale_of(scale?)?;
+    let form = match form {
+        Some(word) => Form::of_word(word)?,
+        None => Form::Lines,
+    };
+    Some((scale, form))
+}
