@@ -13,20 +13,19 @@ use Rattle.loc_rings.specs.Values.{Feature}
 use Rattle.loc_edges.specs.Conflicts.{has_conflict}
 use Rattle.loc_spec_plane.specs.Tables.{table_by}
 use Rattle.loc_place.specs.Found.{place_at}
-use Rattle.loc_top.specs.Located.{edges_of, located, output_of, table_in}
+use Rattle.loc_top.specs.Located.{counts_of, edges_of, located, output_of, table_in}
 use Rattle.loc_top.specs.Notes.{note_of}
+use Rattle.loc_words.specs.Words.{command_of}
 use Rattle.loc_top.specs.Words.{asked, asked_at}
 use Rattle.loc_top.specs.declared.fault.RunFault.TheVariants as f
 
--- the words of the command, and words that are none
-words : (asked (codes "query" ∷ codes "a" ∷ codes "b" ∷ codes "--scale" ∷ codes "0" ∷ []) ≡ Some (asked_at (codes "a") (codes "b") form.Lines 0))
-    × (asked (codes "query" ∷ codes "a" ∷ codes "b" ∷ codes "--scale" ∷ codes "15" ∷ []) ≡ Some (asked_at (codes "a") (codes "b") form.Lines 15))
+-- the words of the commands, and words that are none
+words : (asked (codes "query" ∷ codes "a" ∷ codes "b" ∷ codes "--scale" ∷ codes "15" ∷ []) ≡ Some (asked_at (codes "a") (Some (codes "b")) form.Lines 15))
+    × (asked (codes "check" ∷ codes "a" ∷ codes "--form=csv" ∷ codes "--scale=6" ∷ []) ≡ Some (asked_at (codes "a") None form.Csv 6))
     × (asked (codes "query" ∷ codes "a" ∷ codes "b" ∷ codes "--scale" ∷ codes "16" ∷ []) ≡ None)
-    × (asked (codes "query" ∷ codes "a" ∷ codes "b" ∷ codes "--scale" ∷ codes "1.5" ∷ []) ≡ None)
-    × (asked (codes "query" ∷ codes "-a" ∷ codes "b" ∷ codes "--scale" ∷ codes "0" ∷ []) ≡ None)
-    × (asked (codes "query" ∷ codes "a" ∷ [] ∷ codes "--scale" ∷ codes "0" ∷ []) ≡ None)
     × (asked (codes "query" ∷ codes "a" ∷ codes "b" ∷ []) ≡ None)
-words = (refl, refl, refl, refl, refl, refl, refl)
+unfolding command_of
+words = (refl, refl, refl, refl)
 
 -- a square from 0 0 to 4 4, and a bow-tie
 abbrev square : Ring
@@ -43,6 +42,10 @@ answers : output_of 0 (layer square) (codes "2 2\n0 0\n4 4\n4 2\n5 2\n-1 4\nx\n2
     ≡ codes "face in \"1\"\ncorner 0 on \"1\" in\ncorner 3 on \"1\" in\nborder 3 on \"1\" in\nface in\nface in\nunread\nface in \"1\"\n"
 unfolding output_of located table_in table_by place_at turn scaled unit digits
 answers = refl
+
+counts : counts_of (layer square) ≡ codes "features 1 corners 4 edges 4\n"
+unfolding counts_of table_in table_by turn digits
+counts = refl
 
 conflicts : (has_conflict (edges_of (layer square)) ≡ false) × (has_conflict (edges_of (layer bow_tie)) ≡ true)
 unfolding table_in table_by turn

@@ -1,5 +1,5 @@
 -- Which status and line a fault comes to, where the texts are told.
-use Rattle.std.proofs.Common.{◌≡◌, ◌≢◌, ◌⊎◌, ℕ, ◌-◌, ◌^◌, ◌<◌, ◌≤◌, List, Option, Some, None, Result, Ok, Err, length, refl, sym, subst, ap, inl, inr, arith, ◌∙◌}
+use Rattle.std.proofs.Common.{◌≡◌, ◌≢◌, ◌⊎◌, ℕ, ◌-◌, ◌^◌, ◌<◌, ◌≤◌, Option, Some, None, Result, Ok, Err, length, refl, sym, subst, ap, inl, inr, arith, ◌∙◌}
 use Rattle.std.proofs.lemmas.Bool.{both_ways, not-true}
 use Rattle.std.specs.Io.KnownBytes.{Keeps}
 use Rattle.loc_io.specs.Causes.{Rose}
@@ -11,12 +11,11 @@ use Rattle.loc_spec_text.specs.declared.Form.{Form}
 use Rattle.loc_csvform.specs.Layer.{LayerRead, layer_of}
 use Rattle.loc_csvform.specs.declared.faults.LayerFault.{LayerFault}
 use Rattle.loc_edges.specs.Conflicts.{has_conflict}
-use Rattle.loc_rings.specs.Values.{Feature}
 use Rattle.loc_top.specs.Located.{edges_of}
 use Rattle.loc_top.specs.Notes.{note_of, status_of}
-use Rattle.loc_top.specs.Query.{limit, Accepts, Conflicts, Refuses, CountsTold, LayerTold, PointsTold, OutTold, defined_output}
-use Rattle.loc_top.specs.Words.{Asked}
-use Rattle.loc_top.specs.Run.{Text, Ended, Ends, ReadsFail, WritesFail, Steady, Wrote, WroteLine, WroteConflict, HasConflict, IsLayerRefusal, RefusesTexts, RefusedOnly, OutGrows, NoCountRose}
+use Rattle.loc_top.specs.Query.{limit, Accepts, Conflicts, Refuses, CountsTold, LayerTold, PointsTold, OutTold, defined_output, points_bytes}
+use Rattle.loc_top.specs.Words.{Asked, Word}
+use Rattle.loc_top.specs.Run.{Text, Ended, Ends, PointsAre, ReadsFail, RefusesWords, WritesFail, Steady, Wrote, WroteLine, WroteConflict, HasConflict, IsLayerRefusal, RefusesTexts, RefusedOnly, OutGrows, NoCountRose}
 use Rattle.loc_top.specs.declared.fault.RunFault.{RunFault}
 use Rattle.loc_top.specs.declared.fault.RunFault.TheVariants as f
 
@@ -131,28 +130,33 @@ module _ (r r' w w' n n' : ℕ) (m m' : Option Text) (form : Form) (scale : ℕ)
   only_points points f.NoMemory told also wrote one short accepts = absurd (omega (arith, one))
 
 -- unless a write failed, out is as before
-out_case : (form : Form) (scale : ℕ) (o o' : Option Text) (layer points : Option Text) (fault : RunFault) → OutTold {T = Unit {0}} form scale (Err fault) layer points o o' → status_of fault ≢ 4 → Keeps o o'
-out_case form scale o o' layer points f.Words told other = told
-out_case form scale o o' layer points f.LayerLong told other = told
-out_case form scale o o' layer points (f.Layer shown e) told other = told
-out_case form scale o o' layer points (f.Conflict shown a b meeting) told other = told
-out_case form scale o o' layer points f.PointsLong told other = told
-out_case form scale o o' layer points f.ReadFault told other = told
-out_case form scale o o' layer points f.WriteFault told other = absurd (other refl)
-out_case form scale o o' layer points f.NoMemory told other = told
+out_case : (asked : Asked) (o o' : Option Text) (layer points : Option Text) (fault : RunFault) → OutTold {T = Unit {0}} asked (Err fault) layer points o o' → status_of fault ≢ 4 → Keeps o o'
+out_case asked o o' layer points f.Words told other = told
+out_case asked o o' layer points f.LayerLong told other = told
+out_case asked o o' layer points (f.Layer shown e) told other = told
+out_case asked o o' layer points (f.Conflict shown a b meeting) told other = told
+out_case asked o o' layer points f.PointsLong told other = told
+out_case asked o o' layer points f.ReadFault told other = told
+out_case asked o o' layer points f.WriteFault told other = absurd (other refl)
+out_case asked o o' layer points f.NoMemory told other = told
 
 -- where a write failed, a front of the output was written
-write_case : (form : Form) (scale : ℕ) (o o' : Option Text) (layer points : Text) (fault : RunFault) → OutTold {T = Unit {0}} form scale (Err fault) (Some layer) (Some points) o o' → status_of fault ≡ 4 → WroteFront o o' (defined_output scale (layer_of form scale layer) points)
-write_case form scale o o' layer points f.Words told four = absurd (omega (arith, four))
-write_case form scale o o' layer points f.LayerLong told four = absurd (omega (arith, four))
-write_case form scale o o' layer points (f.Layer shown e) told four = absurd (omega (arith, four))
-write_case form scale o o' layer points (f.Conflict shown a b meeting) told four = absurd (omega (arith, four))
-write_case form scale o o' layer points f.PointsLong told four = absurd (omega (arith, four))
-write_case form scale o o' layer points f.ReadFault told four = absurd (omega (arith, four))
-write_case form scale o o' layer points f.WriteFault told four = told
-write_case form scale o o' layer points f.NoMemory told four = absurd (omega (arith, four))
+write_case : (asked : Asked) (o o' : Option Text) (layer points : Text) (fault : RunFault) → OutTold {T = Unit {0}} asked (Err fault) (Some layer) (Some points) o o' → status_of fault ≡ 4 → WroteFront o o' (defined_output asked (layer_of asked.form asked.scale layer) points)
+write_case asked o o' layer points f.Words told four = absurd (omega (arith, four))
+write_case asked o o' layer points f.LayerLong told four = absurd (omega (arith, four))
+write_case asked o o' layer points (f.Layer shown e) told four = absurd (omega (arith, four))
+write_case asked o o' layer points (f.Conflict shown a b meeting) told four = absurd (omega (arith, four))
+write_case asked o o' layer points f.PointsLong told four = absurd (omega (arith, four))
+write_case asked o o' layer points f.ReadFault told four = absurd (omega (arith, four))
+write_case asked o o' layer points f.WriteFault told four = told
+write_case asked o o' layer points f.NoMemory told four = absurd (omega (arith, four))
 
--- how a query of these names ended, where the words ask for it
+-- the points' text, as it is told
+points_are : (old : Meaning) (name : Option Word) (points : Text) → PointsAre old name points → points_bytes old name ≡ Some points
+points_are old (Some name) points told = ap bytes_of told
+points_are old None points told = ap Some (sym told)
+
+-- how a command on these files ended, where the words ask for it
 asked_for : (q : Option Asked) (names : Asked) (old new : Meaning) (w w' : ℕ) (o o' : Option Text) (result : Result (Unit {0}) RunFault) → Ends q old new w w' o o' result → q ≡ Some names → Ended names old new w w' o o' result
 asked_for None names old new w w' o o' result ends is = absurd (cc is)
 asked_for (Some asked) names old new w w' o o' result ends is = let same : asked ≡ names = cc is in subst (λ (x : Asked). Ended x old new w w' o o' result) same ends
@@ -164,8 +168,8 @@ module _ (q : Option Asked) (old new : Meaning) (w w' n n' : ℕ) (o o' m m' : O
   layer_told : (names : Asked) (layer : Text) → q ≡ Some names → old.told names.layer ≡ holds layer → LayerTold {T = Unit {0}} names.form names.scale (Some layer) (Err fault)
   layer_told names layer is told = subst (λ t. LayerTold {T = Unit {0}} names.form names.scale (bytes_of t) (Err fault)) told (ended names is).layer_text
 
-  points_told : (names : Asked) (points : Text) → q ≡ Some names → old.told names.points ≡ holds points → PointsTold {T = Unit {0}} (Some points) (Err fault)
-  points_told names points is told = subst (λ t. PointsTold {T = Unit {0}} (bytes_of t) (Err fault)) told (ended names is).points_text
+  points_told : (names : Asked) (points : Text) → q ≡ Some names → PointsAre old names.points points → PointsTold {T = Unit {0}} (Some points) (Err fault)
+  points_told names points is told = subst (λ t. PointsTold {T = Unit {0}} t (Err fault)) (points_are old names.points points told) (ended names is).points_text
 
   pub refuses_texts : RefusesTexts q old new n n' m m' (status_of fault)
   refuses_texts = record {
@@ -181,11 +185,11 @@ module _ (q : Option Asked) (old new : Meaning) (w w' n n' : ℕ) (o o' m m' : O
     points = λ one names layer points is told also short accepts. only_points 0 0 0 0 n n' m m' names.form names.scale layer points fault (layer_told names layer is told) (points_told names points is also) wrote one short accepts;
   }
 
-write_at : (q : Option Asked) (old new : Meaning) (w w' : ℕ) (o o' : Option Text) (fault : RunFault) → Ends {T = Unit {0}} q old new w w' o o' (Err fault) → (names : Asked) (layer points : Text) → q ≡ Some names → old.told names.layer ≡ holds layer → old.told names.points ≡ holds points → status_of fault ≡ 4
-    → WroteFront o o' (defined_output names.scale (layer_of names.form names.scale layer) points)
+write_at : (q : Option Asked) (old new : Meaning) (w w' : ℕ) (o o' : Option Text) (fault : RunFault) → Ends {T = Unit {0}} q old new w w' o o' (Err fault) → (names : Asked) (layer points : Text) → q ≡ Some names → old.told names.layer ≡ holds layer → PointsAre old names.points points → status_of fault ≡ 4
+    → WroteFront o o' (defined_output names (layer_of names.form names.scale layer) points)
 write_at q old new w w' o o' fault ends names layer points is told also =
     let out = (asked_for q names old new w w' o o' (Err fault) ends is).out in
-    write_case names.form names.scale o o' layer points fault (subst (λ t. OutTold {T = Unit {0}} names.form names.scale (Err fault) (Some layer) (bytes_of t) o o') also (subst (λ t. OutTold {T = Unit {0}} names.form names.scale (Err fault) (bytes_of t) (bytes_of (old.told names.points)) o o') told out))
+    write_case names o o' layer points fault (subst (λ t. OutTold {T = Unit {0}} names (Err fault) (Some layer) t o o') (points_are old names.points points also) (subst (λ t. OutTold {T = Unit {0}} names (Err fault) (bytes_of t) (points_bytes old names.points) o o') told out))
 
 same_keeps : (o o' : Option Text) → o' ≡ o → Keeps o o'
 same_keeps None o' e = tt
@@ -194,7 +198,7 @@ same_keeps (Some x) (Some y) e = cc e
 
 kept : (q : Option Asked) (old new : Meaning) (w w' : ℕ) (o o' : Option Text) (fault : RunFault) → Ends {T = Unit {0}} q old new w w' o o' (Err fault) → status_of fault ≢ 4 → Keeps o o'
 kept None old new w w' o o' fault ends other = same_keeps o o' ends.out
-kept (Some names) old new w w' o o' fault ends other = out_case names.form names.scale o o' (bytes_of (old.told names.layer)) (bytes_of (old.told names.points)) fault ends.out other
+kept (Some names) old new w w' o o' fault ends other = out_case names o o' (bytes_of (old.told names.layer)) (points_bytes old names.points) fault ends.out other
 
 -- what out grew by, whatever the fault
 pub out_grows : (q : Option Asked) (old new : Meaning) (w w' : ℕ) (o o' : Option Text) (fault : RunFault) → Ends {T = Unit {0}} q old new w w' o o' (Err fault) → OutGrows q old o o' (status_of fault)
@@ -241,20 +245,43 @@ writes_case r r' w w' f.ReadFault counts below = (λ e. absurd (omega (arith, e)
 writes_case r r' w w' f.WriteFault counts below = (λ e. omega (arith, counts.1, below), λ l. refl)
 writes_case r r' w w' f.NoMemory counts below = (λ e. absurd (omega (arith, e)), λ l. absurd (omega (arith, l, counts.1)))
 
--- a result without a value
-abbrev as_result : Result (Unit {0}) RunFault → Result (Unit {0}) RunFault
-as_result r = r
+-- words that are no command end with status 2, or with 5
+abbrev EndsWords : Result (Unit {0}) RunFault → Type 0
+EndsWords result = (result ≡ Err f.Words) ⊎ (result ≡ Err f.NoMemory)
 
--- words that are no command end with status 2
-two : (fault : RunFault) → as_result (Err fault) ≡ Err f.Words → status_of fault ≡ 2
-two fault is = let same : fault ≡ f.Words = cc is in ap status_of same
+two_or_five : (fault : RunFault) → EndsWords (Err fault) → (status_of fault ≡ 2) ⊎ (status_of fault ≡ 5)
+two_or_five fault (inl is) = let same : fault ≡ f.Words = cc is in inl (ap status_of same)
+two_or_five fault (inr is) = let same : fault ≡ f.NoMemory = cc is in inr (ap status_of same)
+
+no_three : (fault : RunFault) → EndsWords (Err fault) → status_of fault ≡ 3 → ⊥
+no_three fault (inl is) three = let same : fault ≡ f.Words = cc is in let two = ap status_of same in omega (arith, three, two)
+no_three fault (inr is) three = let same : fault ≡ f.NoMemory = cc is in let five = ap status_of same in omega (arith, three, five)
+
+no_four : (fault : RunFault) → EndsWords (Err fault) → status_of fault ≡ 4 → ⊥
+no_four fault (inl is) four = let same : fault ≡ f.Words = cc is in let two = ap status_of same in omega (arith, four, two)
+no_four fault (inr is) four = let same : fault ≡ f.NoMemory = cc is in let five = ap status_of same in omega (arith, four, five)
 
 -- status 3 comes exactly where a read failed
 pub reads_fail : (q : Option Asked) (old new : Meaning) (w w' : ℕ) (o o' : Option Text) (fault : RunFault) → Ends {T = Unit {0}} q old new w w' o o' (Err fault) → ReadsFail old new (status_of fault)
-reads_fail None old new w w' o o' fault ends below = (λ three. absurd (omega (arith, three, two fault ends.words)), λ more. absurd (omega (arith, more, ap (λ (x : Meaning). x.read_faults) ends.shelf)))
+reads_fail None old new w w' o o' fault ends below = (λ three. absurd (no_three fault ends.words three), λ more. absurd (omega (arith, more, ap (λ (x : Meaning). x.read_faults) ends.shelf)))
 reads_fail (Some names) old new w w' o o' fault ends below = reads_case old.read_faults new.read_faults w w' fault ends.counts below
 
 -- status 4 comes exactly where a write on out failed
 pub writes_fail : (q : Option Asked) (old new : Meaning) (w w' : ℕ) (o o' : Option Text) (fault : RunFault) → Ends {T = Unit {0}} q old new w w' o o' (Err fault) → WritesFail w w' (status_of fault)
-writes_fail None old new w w' o o' fault ends below = (λ four. absurd (omega (arith, four, two fault ends.words)), λ more. absurd (omega (arith, more, ends.count)))
+writes_fail None old new w w' o o' fault ends below = (λ four. absurd (no_four fault ends.words four), λ more. absurd (omega (arith, more, ends.count)))
 writes_fail (Some names) old new w w' o o' fault ends below = writes_case old.read_faults new.read_faults w w' fault ends.counts below
+
+counts_two : (r r' w w' : ℕ) (fault : RunFault) → CountsTold {T = Unit {0}} r r' w w' (Err fault) → status_of fault ≡ 2 → ⊥
+counts_two r r' w w' f.Words counts two = counts
+counts_two r r' w w' f.LayerLong counts two = omega (arith, two)
+counts_two r r' w w' (f.Layer shown e) counts two = omega (arith, two)
+counts_two r r' w w' (f.Conflict shown a b meeting) counts two = omega (arith, two)
+counts_two r r' w w' f.PointsLong counts two = omega (arith, two)
+counts_two r r' w w' f.ReadFault counts two = omega (arith, two)
+counts_two r r' w w' f.WriteFault counts two = omega (arith, two)
+counts_two r r' w w' f.NoMemory counts two = omega (arith, two)
+
+-- status 2 comes exactly for words that are no command, want of memory aside
+pub refuses_words : (q : Option Asked) (old new : Meaning) (w w' : ℕ) (o o' : Option Text) (fault : RunFault) → Ends {T = Unit {0}} q old new w w' o o' (Err fault) → RefusesWords q (status_of fault)
+refuses_words None old new w w' o o' fault ends = (λ two. refl, λ none. two_or_five fault ends.words)
+refuses_words (Some names) old new w w' o o' fault ends = (λ two. absurd (counts_two old.read_faults new.read_faults w w' fault ends.counts two), λ none. absurd (cc none))

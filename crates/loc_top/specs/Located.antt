@@ -1,11 +1,12 @@
 -- Where a point lies in a layer, and what is answered to the lines of a points text.
-use Rattle.std.specs.Prelude.{ℕ, ◌+◌, Bool, List, length, map, filter, None}
+use Rattle.std.specs.Prelude.{ℕ, ◌+◌, ◌++◌, Bool, List, codes, length, map, filter, None}
+use Rattle.std.specs.Fmt.{decimal}
 use Rattle.loc_spec_plane.specs.declared.Place.{Place}
 use Rattle.loc_spec_plane.specs.declared.Place.TheVariants.{Corner, Border, Area}
 use Rattle.loc_spec_plane.specs.Points.{Point, Edge}
 use Rattle.loc_spec_plane.specs.Rings.{Rings, touches, covers}
 use Rattle.loc_spec_plane.specs.Tables.{Table, table_of}
-use Rattle.loc_spec_text.specs.Points.{Answer, on_corner, on_border, in_face, output, point_of}
+use Rattle.loc_spec_text.specs.Points.{Answer, on_corner, on_border, ended, in_face, output, point_of}
 use Rattle.loc_rings.specs.Values.{Feature, rings_of}
 use Rattle.loc_edges.specs.Conflicts.{edges_of as edges_of_table}
 use Rattle.loc_edges.specs.Layers.{layer_of}
@@ -40,3 +41,7 @@ located layer p = answer_at (place_at (table_in layer) p) (ids_where (λ rings. 
 -- the answers to all lines of a points text at a scale
 unfoldable pub output_of : ℕ → List Feature → List ℕ → List ℕ
 output_of scale layer points = output (point_of scale) (located layer) points
+
+-- how many features, corners and edges a layer has, as a line
+unfoldable pub counts_of : List Feature → List ℕ
+counts_of layer = ended (codes "features " ++ decimal (length layer) ++ codes " corners " ++ decimal (length (table_in layer).corners) ++ codes " edges " ++ decimal (length (table_in layer).ends))

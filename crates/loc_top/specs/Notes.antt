@@ -11,6 +11,7 @@ use Rattle.loc_csvform.specs.declared.faults.LayerFault.{LayerFault}
 use Rattle.loc_csvform.specs.declared.faults.LayerFault.TheVariants as l
 use Rattle.loc_geom.specs.declared.kinds.Meeting.{Meeting}
 use Rattle.loc_geom.specs.declared.kinds.Meeting.TheVariants as m
+use Rattle.loc_words.specs.Usage.{usage_text}
 use Rattle.loc_top.specs.declared.fault.RunFault.{RunFault}
 use Rattle.loc_top.specs.declared.fault.RunFault.TheVariants as f
 
@@ -81,7 +82,7 @@ conflict_text scale a b meeting = edges_text scale a b ++ meeting_text meeting
 
 -- the line that names a fault
 abbrev pub note_of : RunFault → List ℕ
-note_of f.Words = ended (codes "usage: locate query LAYER POINTS --scale K")
+note_of f.Words = usage_text
 note_of f.LayerLong = ended (codes "layer: too long")
 note_of (f.Layer kind fault) = ended (layer_fault_text kind fault)
 note_of (f.Conflict scale a b meeting) = ended (conflict_text scale a b meeting)

@@ -3,6 +3,7 @@ use Rattle.std.specs.Prelude.{◌≡◌, ℕ, ◌+◌, ◌*◌, ◌<◌, ◌≤�
 use Rattle.std.specs.Io.KnownBytes.{Keeps, Appends}
 use Rattle.loc_io.specs.Causes.{Rose}
 use Rattle.loc_io.specs.Entries.{Entries}
+use Rattle.loc_io.specs.Meaning.{Meaning, bytes_of}
 use Rattle.loc_io.specs.Reading.{WroteFront}
 use Rattle.loc_spec_plane.specs.Points.{Edge, edge_before, conflict, touch, cross}
 use Rattle.loc_spec_text.specs.declared.Form.{Form}
@@ -13,8 +14,8 @@ use Rattle.loc_rings.specs.Values.{Feature}
 use Rattle.loc_csvform.specs.Layer.{LayerRead, layer_of}
 use Rattle.loc_csvform.specs.declared.faults.LayerFault.{LayerFault}
 use Rattle.loc_edges.specs.Conflicts.{has_conflict}
-use Rattle.loc_top.specs.Located.{edges_of, output_of, steps_of}
-use Rattle.loc_top.specs.Words.{Asked}
+use Rattle.loc_top.specs.Located.{counts_of, edges_of, output_of, steps_of}
+use Rattle.loc_top.specs.Words.{Asked, Word}
 use Rattle.loc_top.specs.declared.fault.RunFault.{RunFault}
 use Rattle.loc_top.specs.declared.fault.RunFault.TheVariants as f
 
@@ -52,10 +53,15 @@ Conflicts (Err fault) a b meeting = ⊥
 abbrev pub Refuses : LayerRead → LayerFault → Type 0
 Refuses read fault = read ≡ Err fault
 
--- the defined output: the answers to all lines of the points text, for a layer that reads
-abbrev pub defined_output : ℕ → LayerRead → List ℕ → List ℕ
-defined_output scale (Ok layer) points = output_of scale layer points
-defined_output scale (Err fault) points = []
+-- what a command writes for a layer: the answers to all lines of the points text, or without points the counts
+abbrev pub written_for : Option Word → ℕ → List Feature → List ℕ → List ℕ
+written_for (Some name) scale layer points = output_of scale layer points
+written_for None scale layer points = counts_of layer
+
+-- the defined output, for a layer that reads
+abbrev pub defined_output : Asked → LayerRead → List ℕ → List ℕ
+defined_output asked (Ok layer) points = written_for asked.points asked.scale layer points
+defined_output asked (Err fault) points = []
 
 -- which counts rose: that of reads, and that of writes on out
 abbrev pub CountsTold : {T : Type 0} → ℕ → ℕ → ℕ → ℕ → Result T RunFault → Type 0
@@ -69,21 +75,23 @@ CountsTold r r' w w' (Err (f.Conflict scale a b meeting)) = (r' ≡ r) × (w' �
 CountsTold r r' w w' (Err f.PointsLong) = (r' ≡ r) × (w' ≡ w)
 CountsTold r r' w w' (Err f.NoMemory) = (r' ≡ r) × (w' ≡ w)
 
--- the bytes taken under the layer, and under the points where they were taken up
-abbrev pub LongTold : {T : Type 0} → ℕ → Option ℕ → Result T RunFault → Type 0
-LongTold k None (Err f.LayerLong) = limit < k
-LongTold k (Some j) (Err f.LayerLong) = ⊥
-LongTold k None (Err f.PointsLong) = ⊥
-LongTold k (Some j) (Err f.PointsLong) = (k ≤ limit) × (limit < j)
-LongTold k (Some j) (Err (f.Layer form fault)) = ⊥
-LongTold k (Some j) (Err (f.Conflict scale a b meeting)) = ⊥
-LongTold k None other = k ≤ limit
-LongTold k (Some j) other = (k ≤ limit) × (j ≤ limit)
+-- the bytes taken under the layer and under the points, where they were taken up: the layer is, unless memory was wanting for the words
+abbrev pub LongTold : {T : Type 0} → Option ℕ → Option ℕ → Result T RunFault → Type 0
+LongTold None None (Err f.NoMemory) = ⊤
+LongTold None j other = ⊥
+LongTold (Some k) None (Err f.LayerLong) = limit < k
+LongTold (Some k) (Some j) (Err f.LayerLong) = ⊥
+LongTold (Some k) None (Err f.PointsLong) = ⊥
+LongTold (Some k) (Some j) (Err f.PointsLong) = (k ≤ limit) × (limit < j)
+LongTold (Some k) (Some j) (Err (f.Layer form fault)) = ⊥
+LongTold (Some k) (Some j) (Err (f.Conflict scale a b meeting)) = ⊥
+LongTold (Some k) None other = k ≤ limit
+LongTold (Some k) (Some j) other = (k ≤ limit) × (j ≤ limit)
 
--- the entry of the points, where they were taken up
-abbrev pub reached : List ℕ → Option ℕ → Entries
-reached name None = []
-reached name (Some k) = (name, k) ∷ []
+-- the entry of a file that is named, where it was taken up
+abbrev pub reached : Option Word → Option ℕ → Entries
+reached (Some name) (Some k) = (name, k) ∷ []
+reached _ _ = []
 
 -- the points are taken up only where the layer's text, if it is told, was accepted
 abbrev pub ReachedBy : Form → ℕ → Option (List ℕ) → Option ℕ → Type 0
@@ -93,9 +101,9 @@ ReachedBy form scale (Some layer) (Some j) = (length layer ≤ limit) × Accepts
 
 -- the layer's name was handed to the shelf, and then at most that of the points
 pub record Hands {T : Type 0} (asked : Asked) (told : Option (List ℕ)) (old new : Entries) (result : Result T RunFault) : Type 0 where
-  pub of_layer : ℕ
+  pub of_layer : Option ℕ
   pub of_points : Option ℕ
-  pub entries : new ≡ old ++ (asked.layer, of_layer) ∷ reached asked.points of_points
+  pub entries : new ≡ old ++ reached (Some asked.layer) of_layer ++ reached asked.points of_points
   pub order : ReachedBy asked.form asked.scale told of_points
   pub long : LongTold of_layer of_points result
 
@@ -112,6 +120,11 @@ LayerTold form scale (Some layer) (Err f.ReadFault) = ⊤
 LayerTold form scale (Some layer) (Err f.WriteFault) = (length layer ≤ limit) × Accepts (layer_of form scale layer)
 LayerTold form scale (Some layer) (Err f.NoMemory) = ⊤
 
+-- the bytes of the points' file where it is told; without one there are none
+abbrev pub points_bytes : Meaning → Option Word → Option (List ℕ)
+points_bytes old (Some name) = bytes_of (old.told name)
+points_bytes old None = Some []
+
 -- why it ends so, by the points' text where that is told
 abbrev pub PointsTold : {T : Type 0} → Option (List ℕ) → Result T RunFault → Type 0
 PointsTold None result = ⊤
@@ -126,22 +139,22 @@ PointsTold (Some points) (Err f.ReadFault) = ⊤
 PointsTold (Some points) (Err f.NoMemory) = ⊤
 
 -- out has grown by the defined output, or by a front of it, where both texts are told
-abbrev pub GrewBy : Form → ℕ → (Option (List ℕ) → Option (List ℕ) → List ℕ → Type 0) → Option (List ℕ) → Option (List ℕ) → Option (List ℕ) → Option (List ℕ) → Type 0
-GrewBy form scale grown (Some layer) (Some points) old new = grown old new (defined_output scale (layer_of form scale layer) points)
-GrewBy form scale grown None points old new = ⊤
-GrewBy form scale grown (Some layer) None old new = ⊤
+abbrev pub GrewBy : Asked → (Option (List ℕ) → Option (List ℕ) → List ℕ → Type 0) → Option (List ℕ) → Option (List ℕ) → Option (List ℕ) → Option (List ℕ) → Type 0
+GrewBy asked grown (Some layer) (Some points) old new = grown old new (defined_output asked (layer_of asked.form asked.scale layer) points)
+GrewBy asked grown None points old new = ⊤
+GrewBy asked grown (Some layer) None old new = ⊤
 
 -- what was written on out, where it is told
-abbrev pub OutTold : {T : Type 0} → Form → ℕ → Result T RunFault → Option (List ℕ) → Option (List ℕ) → Option (List ℕ) → Option (List ℕ) → Type 0
-OutTold form scale (Ok x) layer points old new = GrewBy form scale Appends layer points old new
-OutTold form scale (Err f.WriteFault) layer points old new = GrewBy form scale WroteFront layer points old new
-OutTold form scale (Err f.Words) layer points old new = Keeps old new
-OutTold form scale (Err f.LayerLong) layer points old new = Keeps old new
-OutTold form scale (Err (f.Layer shown fault)) layer points old new = Keeps old new
-OutTold form scale (Err (f.Conflict shown a b meeting)) layer points old new = Keeps old new
-OutTold form scale (Err f.PointsLong) layer points old new = Keeps old new
-OutTold form scale (Err f.ReadFault) layer points old new = Keeps old new
-OutTold form scale (Err f.NoMemory) layer points old new = Keeps old new
+abbrev pub OutTold : {T : Type 0} → Asked → Result T RunFault → Option (List ℕ) → Option (List ℕ) → Option (List ℕ) → Option (List ℕ) → Type 0
+OutTold asked (Ok x) layer points old new = GrewBy asked Appends layer points old new
+OutTold asked (Err f.WriteFault) layer points old new = GrewBy asked WroteFront layer points old new
+OutTold asked (Err f.Words) layer points old new = Keeps old new
+OutTold asked (Err f.LayerLong) layer points old new = Keeps old new
+OutTold asked (Err (f.Layer shown fault)) layer points old new = Keeps old new
+OutTold asked (Err (f.Conflict shown a b meeting)) layer points old new = Keeps old new
+OutTold asked (Err f.PointsLong) layer points old new = Keeps old new
+OutTold asked (Err f.ReadFault) layer points old new = Keeps old new
+OutTold asked (Err f.NoMemory) layer points old new = Keeps old new
 
 -- the steps that an answer takes at most, for a layer that reads
 abbrev pub steps_in : LayerRead → ℕ

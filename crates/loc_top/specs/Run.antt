@@ -1,5 +1,5 @@
 -- What a run is, in the words of its user.
-use Rattle.std.specs.Prelude.{◌≡◌, ◌≢◌, ◌⊎◌, ℕ, ◌-◌, ◌^◌, ◌<◌, ◌≤◌, List, ◌∷◌, ◌++◌, length, Option, Some, None, Result, Ok, Err, IsTrue}
+use Rattle.std.specs.Prelude.{◌≡◌, ◌≢◌, ◌⊎◌, ℕ, ◌-◌, ◌^◌, ◌<◌, ◌≤◌, List, [], ◌++◌, length, Option, Some, None, Result, Ok, Err, IsTrue}
 use Rattle.std.specs.Io.KnownBytes.{Keeps, Appends}
 use Rattle.loc_io.specs.Causes.{Rose}
 use Rattle.loc_io.specs.Meaning.{Meaning, KeepsFiles, KeepsMaking, holds, bytes_of}
@@ -7,14 +7,13 @@ use Rattle.loc_io.specs.Reading.{WroteFront}
 use Rattle.loc_spec_plane.specs.Points.{Edge}
 use Rattle.loc_spec_text.specs.declared.Form.{Form}
 use Rattle.loc_geom.specs.declared.kinds.Meeting.{Meeting}
-use Rattle.loc_rings.specs.Values.{Feature}
 use Rattle.loc_csvform.specs.Layer.{LayerRead, layer_of}
 use Rattle.loc_csvform.specs.declared.faults.LayerFault.{LayerFault}
 use Rattle.loc_edges.specs.Conflicts.{has_conflict}
 use Rattle.loc_top.specs.Located.{edges_of}
 use Rattle.loc_top.specs.Notes.{note_of, status_of}
-use Rattle.loc_top.specs.Query.{limit, Accepts, Conflicts, Refuses, defined_output, CountsTold, Hands, LayerTold, PointsTold, OutTold, ReachedBy, reached, StepsTold}
-use Rattle.loc_top.specs.Words.{Asked}
+use Rattle.loc_top.specs.Query.{limit, Accepts, Conflicts, Refuses, defined_output, CountsTold, Hands, LayerTold, PointsTold, OutTold, ReachedBy, points_bytes, reached, StepsTold}
+use Rattle.loc_top.specs.Words.{Asked, Word}
 use Rattle.loc_top.specs.declared.fault.RunFault.{RunFault}
 use Rattle.loc_top.specs.declared.fault.RunFault.TheVariants as f
 
@@ -22,22 +21,27 @@ use Rattle.loc_top.specs.declared.fault.RunFault.TheVariants as f
 abbrev pub Text : Type 0
 Text = List ℕ
 
--- how a query ended
+-- the points' text, where the command names its file; without one it is empty
+abbrev pub PointsAre : Meaning → Option Word → Text → Type 0
+PointsAre old (Some name) points = old.told name ≡ holds points
+PointsAre old None points = points ≡ []
+
+-- how a command ended
 pub record Ended {T : Type 0} (asked : Asked) (old new : Meaning) (w w' : ℕ) (o o' : Option Text) (result : Result T RunFault) : Type 0 where
   pub files : KeepsFiles old new
   pub making : KeepsMaking old new
   pub names : Hands asked (bytes_of (old.told asked.layer)) old.entries new.entries result
   pub counts : CountsTold old.read_faults new.read_faults w w' result
   pub layer_text : LayerTold asked.form asked.scale (bytes_of (old.told asked.layer)) result
-  pub points_text : PointsTold (bytes_of (old.told asked.points)) result
-  pub out : OutTold asked.form asked.scale result (bytes_of (old.told asked.layer)) (bytes_of (old.told asked.points)) o o'
+  pub points_text : PointsTold (points_bytes old asked.points) result
+  pub out : OutTold asked result (bytes_of (old.told asked.layer)) (points_bytes old asked.points) o o'
 
--- the words are no command: no file was handed to the shelf, and nothing was written
+-- the words are no command: no file was handed to the shelf, and nothing was written; or memory was wanting for them
 pub record Untouched {T : Type 0} (old new : Meaning) (w w' : ℕ) (o o' : Option Text) (result : Result T RunFault) : Type 0 where
   pub shelf : new ≡ old
   pub count : w' ≡ w
   pub out : o' ≡ o
-  pub words : result ≡ Err f.Words
+  pub words : (result ≡ Err f.Words) ⊎ (result ≡ Err f.NoMemory)
 
 -- how a run ended, by what its words ask
 abbrev pub Ends : {T : Type 0} → Option Asked → Meaning → Meaning → ℕ → ℕ → Option Text → Option Text → Result T RunFault → Type 0
@@ -56,17 +60,17 @@ Risen before now = (before < 2 ^ 64 - 1) × (before < now)
 -- exactly the defined output.
 abbrev pub Done : Option Asked → Meaning → Option Text → Option Text → ℕ → Type 0
 Done query old o o' status = status ≡ 0 → (names : Asked) (layer points : Text) → query ≡ Some names
-    → old.told names.layer ≡ holds layer → old.told names.points ≡ holds points
-    → Accepts (layer_of names.form names.scale layer) × (length layer ≤ limit) × (length points ≤ limit) × Appends o o' (defined_output names.scale (layer_of names.form names.scale layer) points)
+    → old.told names.layer ≡ holds layer → PointsAre old names.points points
+    → Accepts (layer_of names.form names.scale layer) × (length layer ≤ limit) × (length points ≤ limit) × Appends o o' (defined_output names (layer_of names.form names.scale layer) points)
 
 -- If every layer line is blank or reads, no two edges conflict, neither text is too long and no count rose, the status is 0 and
 -- out has grown by exactly the defined output; or it is 5 and out is as before.
 abbrev pub Succeeds : Option Asked → Meaning → Meaning → ℕ → ℕ → Option Text → Option Text → ℕ → Type 0
 Succeeds query old new w w' o o' status = (names : Asked) (layer points : Text) → query ≡ Some names
-    → old.told names.layer ≡ holds layer → old.told names.points ≡ holds points
+    → old.told names.layer ≡ holds layer → PointsAre old names.points points
     → Accepts (layer_of names.form names.scale layer) → length layer ≤ limit → length points ≤ limit
     → Steady old.read_faults new.read_faults → Steady w w'
-    → ((status ≡ 0) × Appends o o' (defined_output names.scale (layer_of names.form names.scale layer) points)) ⊎ ((status ≡ 5) × Keeps o o')
+    → ((status ≡ 0) × Appends o o' (defined_output names (layer_of names.form names.scale layer) points)) ⊎ ((status ≡ 5) × Keeps o o')
 
 -- status 3 comes exactly where the shelf's count of read faults rose
 abbrev pub ReadsFail : Meaning → Meaning → ℕ → Type 0
@@ -83,9 +87,9 @@ pub record NoCountRose (old new : Meaning) (w w' : ℕ) (status : ℕ) : Type 0 
   pub out : status ≢ 4 → w' ≡ w
   pub files : new.write_faults ≡ old.write_faults
 
--- status 2 comes exactly for other words
+-- status 2 comes exactly for other words, want of memory aside
 abbrev pub RefusesWords : Option Asked → ℕ → Type 0
-RefusesWords query status = (status ≡ 2 → query ≡ None) × (query ≡ None → status ≡ 2)
+RefusesWords query status = (status ≡ 2 → query ≡ None) × (query ≡ None → (status ≡ 2) ⊎ (status ≡ 5))
 
 -- the text was written on notes, or a front of it where the count rose
 abbrev pub Wrote : ℕ → ℕ → Option Text → Option Text → Text → Type 0
@@ -128,7 +132,7 @@ pub record RefusesTexts (query : Option Asked) (old new : Meaning) (n n' : ℕ) 
       → length layer ≤ limit → HasConflict (layer_of names.form names.scale layer) → Steady old.read_faults new.read_faults
       → ((status ≡ 1) × WroteConflict names.scale (layer_of names.form names.scale layer) n n' m m') ⊎ (status ≡ 5)
   -- the layer is accepted, and the points' text is longer than the limit
-  pub points_long : (names : Asked) (layer points : Text) → query ≡ Some names → old.told names.layer ≡ holds layer → old.told names.points ≡ holds points
+  pub points_long : (names : Asked) (layer points : Text) → query ≡ Some names → old.told names.layer ≡ holds layer → PointsAre old names.points points
       → length layer ≤ limit → Accepts (layer_of names.form names.scale layer) → limit < length points → Steady old.read_faults new.read_faults
       → ((status ≡ 1) × Wrote n n' m m' (note_of f.PointsLong)) ⊎ (status ≡ 5)
 
@@ -137,7 +141,7 @@ pub record RefusedOnly (query : Option Asked) (old : Meaning) (n n' : ℕ) (m m'
   -- no other cause is left where the layer is told
   pub layer : status ≡ 1 → (names : Asked) (layer : Text) → query ≡ Some names → old.told names.layer ≡ holds layer → IsLayerRefusal names.form names.scale layer n n' m m'
   -- where the layer is accepted, it is the points' text
-  pub points : status ≡ 1 → (names : Asked) (layer points : Text) → query ≡ Some names → old.told names.layer ≡ holds layer → old.told names.points ≡ holds points
+  pub points : status ≡ 1 → (names : Asked) (layer points : Text) → query ≡ Some names → old.told names.layer ≡ holds layer → PointsAre old names.points points
       → length layer ≤ limit → Accepts (layer_of names.form names.scale layer) → (limit < length points) × Wrote n n' m m' (note_of f.PointsLong)
 
 -- Nothing is written on notes with status 0, and with another the line of the cause.
@@ -154,14 +158,14 @@ pub record OutGrows (query : Option Asked) (old : Meaning) (o o' : Option Text) 
   pub words : status ≡ 2 → Keeps o o'
   pub read : status ≡ 3 → Keeps o o'
   pub memory : status ≡ 5 → Keeps o o'
-  pub write : status ≡ 4 → (names : Asked) (layer points : Text) → query ≡ Some names → old.told names.layer ≡ holds layer → old.told names.points ≡ holds points
-      → WroteFront o o' (defined_output names.scale (layer_of names.form names.scale layer) points)
+  pub write : status ≡ 4 → (names : Asked) (layer points : Text) → query ≡ Some names → old.told names.layer ≡ holds layer → PointsAre old names.points points
+      → WroteFront o o' (defined_output names (layer_of names.form names.scale layer) points)
 
 -- no name but these two is handed to the shelf, each at most once, and none where the words are refused; the points' only where the
 -- layer was accepted
 abbrev pub HandsOnly : Option Asked → Meaning → Meaning → Type 0
 HandsOnly None old new = new.entries ≡ old.entries
-HandsOnly (Some names) old new = (k : ℕ) × (j : Option ℕ) × (new.entries ≡ old.entries ++ (names.layer, k) ∷ reached names.points j) × ReachedBy names.form names.scale (bytes_of (old.told names.layer)) j
+HandsOnly (Some names) old new = (k : Option ℕ) × (j : Option ℕ) × (new.entries ≡ old.entries ++ reached (Some names.layer) k ++ reached names.points j) × ReachedBy names.form names.scale (bytes_of (old.told names.layer)) j
 
 -- the fault as an outcome
 abbrev pub outcome_of : Option RunFault → Result (Unit {0}) RunFault
@@ -193,4 +197,4 @@ Settled query old new w w' o o' status = (fault : Option RunFault) × Ends query
 -- Steps are counted for the places of points alone: at most one for each corner and each edge of the layer, for each line of the points.
 abbrev pub Counts : Option Asked → Meaning → ℕ → ℕ → Type 0
 Counts None old steps steps' = steps' ≡ steps
-Counts (Some names) old steps steps' = StepsTold names.form names.scale (bytes_of (old.told names.layer)) (bytes_of (old.told names.points)) steps steps'
+Counts (Some names) old steps steps' = StepsTold names.form names.scale (bytes_of (old.told names.layer)) (points_bytes old names.points) steps steps'

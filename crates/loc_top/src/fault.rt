@@ -12,6 +12,7 @@ use loc_csvform::LayerFault;
 use loc_geom::{Edge, Meeting};
 use loc_io::{Sink, WriteFault, write_all};
 use loc_spec_text::Form;
+use loc_words::usage_text;
 use std::alloc::AllocError;
 
 /// The cause of a status other than 0.
@@ -90,7 +91,7 @@ impl RunFault {
         ensures cause { HasCause (N.faults notes.old) (N.faults notes.new) result }
     {
         match self {
-            RunFault::Words => write_all(notes, b"usage: locate query LAYER POINTS --scale K\n"),
+            RunFault::Words => write_all(notes, usage_text().as_bytes()),
             RunFault::LayerLong => write_all(notes, b"layer: too long\n"),
             RunFault::Layer { form, fault } => write_layer_note(notes, *form, *fault),
             RunFault::Conflict {

@@ -2,6 +2,7 @@
 #![tactic(auto)]
 
 mod answers;
+mod check;
 mod fault;
 mod notes;
 mod plane;
@@ -10,7 +11,6 @@ mod scale;
 #[cfg(test)]
 mod tests;
 mod top;
-mod words;
 
 use fault::RunFault;
 pub use loc_geom::Steps;

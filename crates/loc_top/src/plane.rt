@@ -1,6 +1,6 @@
 //! A layer with its table.
 
-ghost use Rattle.std.specs.Prelude.{◌≡◌, ◌+◌, ◌≤◌, Ok, IfOk, MatchOption};
+ghost use Rattle.std.specs.Prelude.{◌≡◌, ◌+◌, ◌≤◌, length, Ok, IfOk, MatchOption};
 ghost use Rattle.loc_place.specs.Found.{place_at};
 ghost use Rattle.loc_top.specs.Located.{steps_of, table_in};
 ghost use Rattle.loc_top.specs.Query.{Accepts, Conflicts};
@@ -56,6 +56,20 @@ impl Plane {
         ensures { result.now ≡ self.now }
     {
         self.layer.features()
+    }
+
+    /// How many corners there are.
+    pub fn corner_count(&self) -> usize
+        ensures { result ≡ length (table_in self.now).corners }
+    {
+        self.table.corner_count() as usize
+    }
+
+    /// How many edges there are.
+    pub fn edge_count(&self) -> usize
+        ensures { result ≡ length (table_in self.now).ends }
+    {
+        self.table.edge_count() as usize
     }
 
     /// The place of a point, where no two edges conflict. It looks at every corner and every edge.

@@ -1,6 +1,6 @@
 //! A query, from the bytes in to the bytes out.
 
-ghost use Rattle.std.specs.Prelude.{◌≡◌, ◌≤◌, length};
+ghost use Rattle.std.specs.Prelude.{◌≡◌, ◌≤◌, Some, length};
 ghost use Rattle.loc_csvform.specs.Layer.{layer_of};
 ghost use Rattle.loc_io.specs.Meaning.{KeepsFiles, KeepsMaking, bytes_of};
 ghost use Rattle.loc_top.specs.Layers.{IsPlane, ReadsPlane};
@@ -40,8 +40,8 @@ fn plane_of(alloc: Global, text: &[u8], form: Form, scale: Scale) -> Result<Plan
     }
 }
 
-// The plane of the layer's file.
-fn read_plane<F: Shelf>(
+/// The plane of the layer's file.
+pub fn read_plane<F: Shelf>(
     alloc: Global,
     shelf: &mut F,
     name: &str,
@@ -71,11 +71,11 @@ pub fn query<F: Shelf, O: Sink, L: Ledger>(
 ) -> Result<(), RunFault>
     ensures files { KeepsFiles (F.meaning shelf.old) (F.meaning shelf.new) }
     ensures making { KeepsMaking (F.meaning shelf.old) (F.meaning shelf.new) }
-    ensures names { Hands (asked_at layer_name.now points_name.now form scale) (bytes_of ((F.meaning shelf.old).told layer_name.now)) (F.meaning shelf.old).entries (F.meaning shelf.new).entries result }
+    ensures names { Hands (asked_at layer_name.now (Some points_name.now) form scale) (bytes_of ((F.meaning shelf.old).told layer_name.now)) (F.meaning shelf.old).entries (F.meaning shelf.new).entries result }
     ensures counts { CountsTold (F.meaning shelf.old).read_faults (F.meaning shelf.new).read_faults (O.faults out.old) (O.faults out.new) result }
     ensures layer { LayerTold form scale (bytes_of ((F.meaning shelf.old).told layer_name.now)) result }
     ensures points { PointsTold (bytes_of ((F.meaning shelf.old).told points_name.now)) result }
-    ensures out { OutTold form scale result (bytes_of ((F.meaning shelf.old).told layer_name.now)) (bytes_of ((F.meaning shelf.old).told points_name.now)) (O.written out.old) (O.written out.new) }
+    ensures out { OutTold (asked_at layer_name.now (Some points_name.now) form scale) result (bytes_of ((F.meaning shelf.old).told layer_name.now)) (bytes_of ((F.meaning shelf.old).told points_name.now)) (O.written out.old) (O.written out.new) }
     ensures steps { StepsTold form scale (bytes_of ((F.meaning shelf.old).told layer_name.now)) (bytes_of ((F.meaning shelf.old).told points_name.now)) steps.old steps.new }
 {
     let plane = read_plane(alloc, shelf, layer_name, form, scale)?;

@@ -229,16 +229,82 @@ const ROWS: [Row; 28] = [
     ),
 ];
 
-const USAGE: &[u8] = b"usage: locate query LAYER POINTS --scale K\n";
+const USAGE: &[u8] =
+    b"usage: locate query LAYER POINTS --scale K [--form lines|csv]\n       locate check LAYER --scale K [--form lines|csv]\n";
 
 // Words that are no command.
 const REFUSED: [[&str; 5]; 6] = [
     ["query", "layer", "points", "--scale", "16"],
     ["query", "layer", "points", "--scale", "1.5"],
-    ["query", "layer", "points", "--form", "0"],
+    ["query", "layer", "points", "--form", "csv"],
     ["query", "-layer", "points", "--scale", "0"],
     ["query", "layer", "", "--scale", "0"],
     ["ask", "layer", "points", "--scale", "0"],
+];
+
+const LOTS: &[u8] =
+    b"WKT,id,name\r\n\"POLYGON ((13.3775 52.5165, 13.3785 52.5165, 13.3785 52.5175, 13.3775 52.5165))\",\"Lot 7 \"\"east\"\"\",x\r\n";
+
+// The words, the layer, the status, and what stands on out and on notes.
+type CommandRow = (
+    &'static [&'static str],
+    &'static [u8],
+    u8,
+    &'static [u8],
+    &'static [u8],
+);
+
+const COMMANDS: [CommandRow; 8] = [
+    (
+        &["check", "layer", "--scale", "0"],
+        SQUARE,
+        0,
+        b"features 1 corners 4 edges 4\n",
+        b"",
+    ),
+    (
+        &["check", "layer", "--form=csv", "--scale=6"],
+        LOTS,
+        0,
+        b"features 1 corners 3 edges 3\n",
+        b"",
+    ),
+    (
+        &["query", "layer", "points", "--form", "csv", "--scale", "6"],
+        LOTS,
+        0,
+        b"corner 0 on \"Lot 7 \"\"east\"\"\" in\n",
+        b"",
+    ),
+    (
+        &["query", "layer", "points", "--scale=0"],
+        SQUARE,
+        0,
+        b"unread\n",
+        b"",
+    ),
+    (
+        &["check", "layer", "--scale", "0", "--form", "csv"],
+        b"geom,id\n",
+        1,
+        b"",
+        b"layer: no wkt column\n",
+    ),
+    (
+        &["check", "layer", "--scale", "0", "--form", "csv"],
+        b"wkt,id\nPOLYGON EMPTY,a,b\n",
+        1,
+        b"",
+        b"layer row 1: fields\n",
+    ),
+    (
+        &["check", "layer", "--scale", "1"],
+        BOW_TIE,
+        1,
+        b"",
+        b"layer: edges 0.0 0.0, 4.0 4.0 and 0.0 4.0, 4.0 0.0 cross\n",
+    ),
+    (&["query", "layer", "points"], SQUARE, 2, b"", USAGE),
 ];
 
 // The layer, or none where its file is missing; which call of the shelf, of out and of notes fails, the status, and what stands on out and on notes.
@@ -394,5 +460,30 @@ fn long_lines(rt: HostRuntime) -> Result<(), Fail> {
         out.bytes(),
         b"face in \"1\"\nunread\nunread\nunread\nface in \"1\"\n".as_slice()
     );
+    Ok(())
+}
+
+#[test]
+fn commands(rt: HostRuntime) -> Result<(), Fail> {
+    let alloc = rt.alloc();
+    for (words, layer, want, answers, line) in COMMANDS {
+        let words = words_of(alloc, words)?;
+        let mut shelf = MemShelf::new(alloc, Vec::new(alloc));
+        shelf.put("layer", layer)?;
+        shelf.put("points", b"POINT (13.3775 52.5165)")?;
+        let mut out = MemSink::new(alloc, Vec::new(alloc));
+        let mut notes = MemSink::new(alloc, Vec::new(alloc));
+        let status = status::<Brand>(
+            alloc,
+            words.as_slice(),
+            &mut shelf,
+            &mut out,
+            &mut notes,
+            Blank::new(1),
+        );
+        assert_eq!(rt; status, want);
+        assert_eq!(rt; out.bytes(), answers);
+        assert_eq!(rt; notes.bytes(), line);
+    }
     Ok(())
 }

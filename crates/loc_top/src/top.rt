@@ -4,11 +4,12 @@ ghost use Rattle.loc_io.specs.Meaning.{KeepsFiles};
 ghost use Rattle.loc_top.specs.Words.{asked};
 ghost use Rattle.loc_top.specs.Run.{Ends, Done, Succeeds, ReadsFail, WritesFail, NoCountRose, RefusesWords, RefusesTexts, RefusedOnly, HandsOnly, Notes, OutGrows, Cause, Counts, Settled};
 
-use crate::RunFault;
+use crate::check::check;
 use crate::query::query;
-use crate::words::asked_of;
+use crate::{RunFault, Scale};
 use loc_geom::Steps;
 use loc_io::{Shelf, Sink};
+use loc_words::{Command, WordsFault, command_of};
 use std::alloc::Global;
 use std::sync::ledger::Ledger;
 
@@ -22,18 +23,29 @@ fn ended<F: Shelf, O: Sink, L: Ledger>(
     ensures steps { Counts (asked (map string_bytes words.now)) (F.meaning shelf.old) steps.old steps.new }
     ensures ends { Ends (asked (map string_bytes words.now)) (F.meaning shelf.old) (F.meaning shelf.new) (O.faults out.old) (O.faults out.new) (O.written out.old) (O.written out.new) result }
 {
-    match asked_of(words) {
-        Some(asked) => query(
+    match command_of(alloc, words) {
+        Ok(
+            Command::Query {
+                layer,
+                points,
+                scale,
+                form,
+            },
+        ) => query(
             alloc,
-            asked.layer,
-            asked.points,
-            asked.form,
-            asked.scale,
+            layer,
+            points,
+            form,
+            Scale::new(scale),
             shelf,
             out,
             steps,
         ),
-        None => Err(RunFault::Words),
+        Ok(Command::Check { layer, scale, form }) => {
+            check(alloc, layer, form, Scale::new(scale), shelf, out)
+        }
+        Err(WordsFault::Refused) => Err(RunFault::Words),
+        Err(WordsFault::NoMemory) => Err(RunFault::NoMemory),
     }
 }
 

@@ -7,7 +7,7 @@ use Rattle.clap.specs.Walk.{Row, walk, nothing_held, finished, first_of}
 use Rattle.clap.specs.Takes.{is_given}
 use Rattle.clap.specs.Faults.{check_fault, level_fault, fault_of, entered_fault}
 use Rattle.clap.specs.Simple.{App, built, entered, matches_of}
-use Rattle.loc_words.specs.declared.form.Form.{Form}
+use Rattle.loc_spec_text.specs.declared.Form.{Form}
 use Rattle.loc_words.specs.Words.{Text, Setting, Asked, settings, settings_of, are_of, with_layer, value_in, scale_and_form, layer_options}
 use Rattle.loc_words.specs.Tested.{is_tested}
 use Rattle.loc_words.proofs.Onward.{bare, setting_row}

@@ -2,7 +2,7 @@
 use Rattle.std.specs.Prelude.{◌≡◌, ℕ, List, [], Option, option_map, option_and_then, Bool, true, false, Some, codes}
 use Rattle.clap.specs.Words.{App, Row, Rule, Text, fault_of, first_of, matches_of, new_app, new_rule, with_rule}
 use Rattle.clap.specs.Simple.{on_top}
-use Rattle.loc_words.specs.declared.form.Form.{Form}
+use Rattle.loc_spec_text.specs.declared.Form.{Form}
 use Rattle.loc_words.specs.Words.{Asked, query, check, scale_and_form}
 
 -- a place, which is required

@@ -5,8 +5,8 @@ use Rattle.std.specs.Char.{is_ascii_digit}
 use Rattle.std.specs.List.{list_all, list_any, before_first, after_first}
 use Rattle.std.specs.Str.{bytes_eq, byte}
 use Rattle.std.specs.Str.Parse.{digits_value}
-use Rattle.loc_words.specs.declared.form.Form.{Form}
-use Rattle.loc_words.specs.declared.form.Form.TheVariants.{Lines, Csv}
+use Rattle.loc_spec_text.specs.declared.Form.{Form}
+use Rattle.loc_spec_text.specs.declared.Form.TheVariants.{Lines, Csv}
 use Rattle.loc_words.specs.declared.command.Command.{Command}
 use Rattle.loc_words.specs.declared.command.Command.TheVariants.{Query, Check}
 

@@ -6,7 +6,6 @@
 
 mod command;
 mod fault;
-mod form;
 mod parser;
 #[cfg(test)]
 mod tests;
@@ -16,6 +15,6 @@ mod words;
 
 pub use command::{Command, command_of};
 pub use fault::WordsFault;
-pub use form::Form;
+pub use loc_spec_text::Form;
 pub use parser::clap_takes_commands;
 pub use usage::usage_text;

@@ -2,7 +2,7 @@
 ghost use Rattle.std.specs.Prelude.{◌≡◌, ◌≤◌, IfSome, option_map};
 ghost use Rattle.std.specs.Char.{is_ascii_digit};
 ghost use Rattle.std.specs.List.{list_all};
-ghost use Rattle.loc_words.specs.Words.{number_word, scale_word, scale_and_form};
+ghost use Rattle.loc_words.specs.Words.{form_word, number_word, scale_word, scale_and_form};
 
 use crate::Form;
 
@@ -41,6 +41,17 @@ fn scale_of(word: &str) -> Option<u8>
     }
 }
 
+// The form of this name.
+fn form_of(word: &str) -> Option<Form>
+    ensures { result ≡ form_word word.now }
+{
+    match word {
+        "lines" => Some(Form::Lines),
+        "csv" => Some(Form::Csv),
+        _ => None,
+    }
+}
+
 /// The scale, which is required, and the form, lines where it is left out, of their words.
 pub(crate) fn read_scale_and_form(scale: Option<&str>, form: Option<&str>) -> Option<(u8, Form)>
     ensures bound { IfSome result (λ values. values.0 ≤ 15) }
@@ -48,7 +59,7 @@ pub(crate) fn read_scale_and_form(scale: Option<&str>, form: Option<&str>) -> Op
 {
     let scale = scale_of(scale?)?;
     let form = match form {
-        Some(word) => Form::of_word(word)?,
+        Some(word) => form_of(word)?,
         None => Form::Lines,
     };
     Some((scale, form))

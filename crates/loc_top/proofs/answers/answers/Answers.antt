@@ -1,5 +1,4 @@
-use Rattle.std.proofs.Common.{◌≡◌, ◌≤◌, ◌+◌, ◌*◌, ◌++◌, length, rules, sym, ap, arith}
-use Rattle.loc_spec_text.specs.Bytes.{lines}
+use Rattle.std.proofs.Common.{◌≡◌, ◌++◌, rules, sym, arith}
 use Rattle.loc_top.specs.Located.{output_of, steps_of}
 use Rattle.loc_top.proofs.Outputs.{answer_line, at_end, counted_more, step}
 use Rattle.loc_top.proofs.answers.answers.Goals as goal

@@ -1,6 +1,6 @@
 use Rattle.std.proofs.Common.{Some, None, refl, rules}
 use Rattle.loc_top.proofs.Handing.{hands_only, hands_when, keeps_files}
-use Rattle.loc_top.proofs.Refusals.{refuses_texts, refused_only, no_count_rose, out_grows, reads_fail, writes_fail}
+use Rattle.loc_top.proofs.Refusals.{refuses_texts, refused_only, no_count_rose, out_grows, reads_fail, refuses_words, writes_fail}
 use Rattle.loc_top.proofs.top.run.Goals as goal
 
 pub returns-in-Err-clause-refuses_texts : goal.returns-in-Err-clause-refuses_texts
@@ -40,3 +40,6 @@ returns-in-Err-clause-names g c = hands_only _ _ _ _ _ _ _ c.ended.result c.ende
 
 pub returns-in-Err-clause-files : goal.returns-in-Err-clause-files
 returns-in-Err-clause-files g c = keeps_files _ _ _ _ _ _ _ c.ended.result c.ended.ensures.ends
+
+pub returns-in-Err-clause-refuses_words : goal.returns-in-Err-clause-refuses_words
+returns-in-Err-clause-refuses_words g c = rw c.status.ensures (refuses_words _ _ _ _ _ _ _ c.in-Err.fault (rw c.in-Err.is at c.ended.ensures.ends))

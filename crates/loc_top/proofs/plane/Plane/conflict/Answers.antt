@@ -1,5 +1,5 @@
-use Rattle.std.proofs.Common.{◌≡◌, ◌∙◌, ap, rules, sym, length, ◌<◌, arith}
-use Rattle.loc_edges.specs.Conflicts.{IsFirstConflict, edges_of}
+use Rattle.std.proofs.Common.{◌∙◌, ap, length, ◌<◌, arith}
+use Rattle.loc_edges.specs.Conflicts.{edges_of}
 use Rattle.loc_top.specs.Located.{table_in}
 use Rattle.loc_top.proofs.Shown.{second_inside, shows}
 use Rattle.loc_top.proofs.plane.Plane.conflict.Goals as goal
