@@ -52,10 +52,6 @@ Ends (Some names) old new w w' o o' result = Ended names old new w w' o o' resul
 abbrev pub Steady : ℕ → ℕ → Type 0
 Steady before now = (before < 2 ^ 64 - 1) × (now ≡ before)
 
--- the count stood below its last value, and rose
-abbrev pub Risen : ℕ → ℕ → Type 0
-Risen before now = (before < 2 ^ 64 - 1) × (before < now)
-
 -- With status 0 every layer line is blank or reads, no two edges conflict, neither text is too long, and out has grown by
 -- exactly the defined output.
 abbrev pub Done : Option Asked → Meaning → Option Text → Option Text → ℕ → Type 0

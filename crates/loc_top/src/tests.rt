@@ -307,7 +307,8 @@ const COMMANDS: [CommandRow; 8] = [
     (&["query", "layer", "points"], SQUARE, 2, b"", USAGE),
 ];
 
-// The layer, or none where its file is missing; which call of the shelf, of out and of notes fails, the status, and what stands on out and on notes.
+// The layer, empty where a missing file is asked for; which call of the shelf, of out and of notes fails, the status, and what stands on
+// out and on notes.
 const FAILING: [(&[u8], u64, u64, u64, u8, &[u8], &[u8]); 13] = [
     (b"", 0, 0, 0, 3, b"", b"read failed\n"),
     (SQUARE, 1, 0, 0, 3, b"", b"read failed\n"),
@@ -341,6 +342,15 @@ fn words_of(alloc: Global, words: &[&str]) -> Result<Vec<String>, Fail> {
     Ok(all)
 }
 
+// A shelf with a layer and points, and which of its calls fails.
+fn shelf_of(alloc: Global, layer: &[u8], points: &[u8], failing: u64) -> Result<MemShelf, Fail> {
+    let mut shelf = MemShelf::new(alloc, calls(alloc, failing)?);
+    shelf.put("layer", layer)?;
+    shelf.put("points", points)?;
+    Ok(shelf)
+}
+
+// The status of a run whose steps are counted in a ledger that is blank.
 fn status<L: Ledger>(
     alloc: Global,
     words: &[String],
@@ -357,27 +367,46 @@ fn status<L: Ledger>(
     run(alloc, words, shelf, out, notes, &mut steps)
 }
 
+// What a run leaves: its status, and what stands on out and on notes.
+#[derive(Drop)]
+struct Outcome {
+    status: u8,
+    out: MemSink,
+    notes: MemSink,
+}
+
+// What the words leave, run over a shelf where one call of out and one of notes fails.
+fn outcome_of(
+    alloc: Global,
+    words: &[&str],
+    mut shelf: MemShelf,
+    out_call: u64,
+    notes_call: u64,
+) -> Result<Outcome, Fail> {
+    let words = words_of(alloc, words)?;
+    let mut out = MemSink::new(alloc, calls(alloc, out_call)?);
+    let mut notes = MemSink::new(alloc, calls(alloc, notes_call)?);
+    let status = status::<Brand>(
+        alloc,
+        &words,
+        &mut shelf,
+        &mut out,
+        &mut notes,
+        Blank::new(1),
+    );
+    Ok(Outcome { status, out, notes })
+}
+
 #[test]
 fn worked_layers(rt: HostRuntime) -> Result<(), Fail> {
     let alloc = rt.alloc();
-    for (layer, points, scale, want, answers, line) in ROWS {
-        let words = words_of(alloc, &["query", "layer", "points", "--scale", scale])?;
-        let mut shelf = MemShelf::new(alloc, Vec::new(alloc));
-        shelf.put("layer", layer)?;
-        shelf.put("points", points)?;
-        let mut out = MemSink::new(alloc, Vec::new(alloc));
-        let mut notes = MemSink::new(alloc, Vec::new(alloc));
-        let status = status::<Brand>(
-            alloc,
-            words.as_slice(),
-            &mut shelf,
-            &mut out,
-            &mut notes,
-            Blank::new(1),
-        );
-        assert_eq!(rt; status, want);
-        assert_eq!(rt; out.bytes(), answers);
-        assert_eq!(rt; notes.bytes(), line);
+    for (layer, points, scale, status, out, notes) in ROWS {
+        let shelf = shelf_of(alloc, layer, points, 0)?;
+        let words = ["query", "layer", "points", "--scale", scale];
+        let outcome = outcome_of(alloc, &words, shelf, 0, 0)?;
+        assert_eq!(rt; outcome.status, status);
+        assert_eq!(rt; outcome.out.bytes(), out);
+        assert_eq!(rt; outcome.notes.bytes(), notes);
     }
     Ok(())
 }
@@ -385,22 +414,11 @@ fn worked_layers(rt: HostRuntime) -> Result<(), Fail> {
 #[test]
 fn refused_words(rt: HostRuntime) -> Result<(), Fail> {
     let alloc = rt.alloc();
-    for row in REFUSED {
-        let words = words_of(alloc, &row)?;
-        let mut shelf = MemShelf::new(alloc, Vec::new(alloc));
-        let mut out = MemSink::new(alloc, Vec::new(alloc));
-        let mut notes = MemSink::new(alloc, Vec::new(alloc));
-        let status = status::<Brand>(
-            alloc,
-            words.as_slice(),
-            &mut shelf,
-            &mut out,
-            &mut notes,
-            Blank::new(1),
-        );
-        assert_eq!(rt; status, 2);
-        assert_eq!(rt; out.bytes().len(), 0);
-        assert_eq!(rt; notes.bytes(), USAGE);
+    for words in REFUSED {
+        let outcome = outcome_of(alloc, &words, MemShelf::new(alloc, Vec::new(alloc)), 0, 0)?;
+        assert_eq!(rt; outcome.status, 2);
+        assert_eq!(rt; outcome.out.bytes().len(), 0);
+        assert_eq!(rt; outcome.notes.bytes(), USAGE);
     }
     Ok(())
 }
@@ -408,26 +426,18 @@ fn refused_words(rt: HostRuntime) -> Result<(), Fail> {
 #[test]
 fn failing_calls(rt: HostRuntime) -> Result<(), Fail> {
     let alloc = rt.alloc();
-    let words = words_of(alloc, &["query", "layer", "points", "--scale", "0"])?;
-    for (layer, shelf_call, out_call, notes_call, want, answers, line) in FAILING {
-        let mut shelf = MemShelf::new(alloc, calls(alloc, shelf_call)?);
-        if !layer.is_empty() {
-            shelf.put("layer", layer)?;
-        }
-        shelf.put("points", b"2 2\n")?;
-        let mut out = MemSink::new(alloc, calls(alloc, out_call)?);
-        let mut notes = MemSink::new(alloc, calls(alloc, notes_call)?);
-        let status = status::<Brand>(
-            alloc,
-            words.as_slice(),
-            &mut shelf,
-            &mut out,
-            &mut notes,
-            Blank::new(1),
+    for (layer, shelf_call, out_call, notes_call, status, out, notes) in FAILING {
+        let name = if layer.is_empty() { "absent" } else { "layer" };
+        let words = ["query", name, "points", "--scale", "0"];
+        let shelf = shelf_of(alloc, layer, b"2 2\n", shelf_call)?;
+        let outcome = outcome_of(alloc, &words, shelf, out_call, notes_call)?;
+        assert_eq!(rt;
+            outcome.status,
+            status,
+            "at {shelf_call} {out_call} {notes_call}"
         );
-        assert_eq!(rt; status, want, "at {shelf_call} {out_call} {notes_call}");
-        assert_eq!(rt; out.bytes(), answers);
-        assert_eq!(rt; notes.bytes(), line);
+        assert_eq!(rt; outcome.out.bytes(), out);
+        assert_eq!(rt; outcome.notes.bytes(), notes);
     }
     Ok(())
 }
@@ -435,29 +445,18 @@ fn failing_calls(rt: HostRuntime) -> Result<(), Fail> {
 #[test]
 fn long_lines(rt: HostRuntime) -> Result<(), Fail> {
     let alloc = rt.alloc();
-    let words = words_of(alloc, &["query", "layer", "points", "--scale", "3"])?;
     let mut points = Vec::new(alloc);
     points.extend_from_slice(b"2 2\n\n0.12345678901234567 1\n")?;
     for _ in 0..5000 {
         points.push(b'a')?;
     }
     points.extend_from_slice(b"\n2 2")?;
-    let mut shelf = MemShelf::new(alloc, Vec::new(alloc));
-    shelf.put("layer", SQUARE)?;
-    shelf.put("points", &points)?;
-    let mut out = MemSink::new(alloc, Vec::new(alloc));
-    let mut notes = MemSink::new(alloc, Vec::new(alloc));
-    let status = status::<Brand>(
-        alloc,
-        words.as_slice(),
-        &mut shelf,
-        &mut out,
-        &mut notes,
-        Blank::new(1),
-    );
-    assert_eq!(rt; status, 0);
+    let shelf = shelf_of(alloc, SQUARE, &points, 0)?;
+    let words = ["query", "layer", "points", "--scale", "3"];
+    let outcome = outcome_of(alloc, &words, shelf, 0, 0)?;
+    assert_eq!(rt; outcome.status, 0);
     assert_eq!(rt;
-        out.bytes(),
+        outcome.out.bytes(),
         b"face in \"1\"\nunread\nunread\nunread\nface in \"1\"\n".as_slice()
     );
     Ok(())
@@ -466,24 +465,12 @@ fn long_lines(rt: HostRuntime) -> Result<(), Fail> {
 #[test]
 fn commands(rt: HostRuntime) -> Result<(), Fail> {
     let alloc = rt.alloc();
-    for (words, layer, want, answers, line) in COMMANDS {
-        let words = words_of(alloc, words)?;
-        let mut shelf = MemShelf::new(alloc, Vec::new(alloc));
-        shelf.put("layer", layer)?;
-        shelf.put("points", b"POINT (13.3775 52.5165)")?;
-        let mut out = MemSink::new(alloc, Vec::new(alloc));
-        let mut notes = MemSink::new(alloc, Vec::new(alloc));
-        let status = status::<Brand>(
-            alloc,
-            words.as_slice(),
-            &mut shelf,
-            &mut out,
-            &mut notes,
-            Blank::new(1),
-        );
-        assert_eq!(rt; status, want);
-        assert_eq!(rt; out.bytes(), answers);
-        assert_eq!(rt; notes.bytes(), line);
+    for (words, layer, status, out, notes) in COMMANDS {
+        let shelf = shelf_of(alloc, layer, b"POINT (13.3775 52.5165)", 0)?;
+        let outcome = outcome_of(alloc, words, shelf, 0, 0)?;
+        assert_eq!(rt; outcome.status, status);
+        assert_eq!(rt; outcome.out.bytes(), out);
+        assert_eq!(rt; outcome.notes.bytes(), notes);
     }
     Ok(())
 }
