@@ -5,6 +5,7 @@ use Rattle.loc_rb.specs.Nodes.{Nodes, Within, KeepsItems}
 pub keeps-trans : (n m p : Nodes) → KeepsItems n m → KeepsItems m p → KeepsItems n p
 keeps-trans n m p a b l x e = let o = b l x e in let q = a o.0 o.1 o.2 in (q.0, q.1, q.2, q.3 ∙ o.3)
 
+-- counts of two runs of calls add up
 pub within-trans : (k j k' j' : ℕ) (n m p : Nodes) → Within k j n m → Within k' j' m p → Within (k + k') (j + j') n p
 within-trans k j k' j' n m p a b = record {
   made = (let x = a.made in let y = b.made in omega (arith, x, y));
@@ -14,5 +15,6 @@ within-trans k j k' j' n m p a b = record {
   items = keeps-trans n m p a.items b.items;
 }
 
+-- fewer changes are within more
 pub within-more : (k j i : ℕ) (n m : Nodes) → Within k j n m → j ≤ i → Within k i n m
 within-more k j i n m a h = record { made = a.made; changed = (let x = a.changed in omega (arith, x, h)); spare = (let x = a.spare in omega (arith, x, h)); kept = a.kept; items = a.items }

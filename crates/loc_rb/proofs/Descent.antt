@@ -15,12 +15,14 @@ use Rattle.loc_rb.specs.Steps.{LeftmostPath}
 use Rattle.loc_rb.proofs.Trees.{fits-end, plug-snoc}
 use Rattle.loc_rb.proofs.OneChange.{pushed, frame_of, some-link}
 
+-- a tree of black height h has at least 2 ^ h - 1 items
 pub size-black-height : (t : Tree) (h : ℕ) → HasBlackHeight t h → 2 ^ h ≤ length (items t) + 1
 size-black-height leaf h p = subst (λ (n : ℕ). 2 ^ n ≤ 1) (sym p) (omega arith)
 size-black-height (node l a x Red b) h p = let q = size-black-height a p.2.0 p.2.2 in let n = length-append (items a) (x ∷ items b) in let e = p.2.1 in let e' : h ≡ p.2.0 = omega (arith, e) in subst (λ (i : ℕ). 2 ^ i ≤ length (items a ++ x ∷ items b) + 1) (sym e') (omega (arith, q, n))
 size-black-height (node l a x Black b) h p = let q = size-black-height a p.2.0 p.2.2 in let r = size-black-height b p.2.0 p.2.3 in let n = length-append (items a) (x ∷ items b) in let w = pow-suc 2 p.2.0 in let e = p.2.1 in let e' : h ≡ suc p.2.0 = omega (arith, e) in
     subst (λ (i : ℕ). 2 ^ i ≤ length (items a ++ x ∷ items b) + 1) (sym e') (omega (arith, q, r, n, w))
 
+-- no way down is longer than twice the black height, and one more under a red top
 pub depth-black-height : (t : Tree) (h : ℕ) → HasBlackHeight t h → (depth t ≤ 2 * h + 1) × (IsBlackTop t → depth t ≤ 2 * h)
 depth-black-height leaf h p = (omega arith, λ _. omega arith)
 depth-black-height (node l a x Red b) h p = let q = (depth-black-height a p.2.0 p.2.2).1 p.0 in let r = (depth-black-height b p.2.0 p.2.3).1 p.1 in let e = p.2.1 in (omega (arith, q, r, e), λ f. absurd f)
@@ -62,50 +64,55 @@ depth-plug (fr ∷ C) t = let q = depth-plug C t in let r = depth-under fr.turn 
 abbrev pub leftmost-start : (n : Nodes) (es : List (Link × Turn)) (C : List Frame) (t : Tree) (l : Link) → Spot n es C t → top t ≡ Some l → LeftmostPath n es C t l
 leftmost-start n es C t l sp e = record { frames = C; tree = t; spot = sp; here = e; same = refl; low = refl; high = refl }
 
--- a tree with a top
-pub record Topped (l : Link) (t : Tree) : Type 0 where
-  pub left : Tree
-  pub x : ℕ
-  pub c : Colour
-  pub right : Tree
-  pub is : t ≡ node l left x c right
+-- a tree with a top, seen from a side
+pub record Sided (turn : Turn) (l : Link) (t : Tree) : Type 0 where
+  pub near : Tree
+  pub item : ℕ
+  pub colour : Colour
+  pub far : Tree
+  pub is : t ≡ node_at turn l near item colour far
 
-pub topped : (l : Link) (t : Tree) → top t ≡ Some l → Topped l t
-topped l leaf e = cc
-topped l (node m a x c b) e = record { left = a; x = x; c = c; right = b; is = λ i. node (some-link m l e i) a x c b }
+pub sided : (turn : Turn) (l : Link) (t : Tree) → top t ≡ Some l → Sided turn l t
+sided turn l leaf e = cc
+sided Left l (node m a x c b) e = record { near = a; item = x; colour = c; far = b; is = λ i. node (some-link m l e i) a x c b }
+sided Right l (node m a x c b) e = record { near = b; item = x; colour = c; far = a; is = λ i. node (some-link m l e i) a x c b }
 
-pub topped-fits : (n : Nodes) (es : List (Link × Turn)) (C : List Frame) (t : Tree) (l : Link) → Spot n es C t → (k : Topped l t) → Fits (live n) (node l k.left k.x k.c k.right)
-topped-fits n es C t l sp k = subst (λ (z : Tree). Fits (live n) z) k.is (fits-end (live n) C t sp.fits)
+pub sided-fits : (n : Nodes) (es : List (Link × Turn)) (C : List Frame) (t : Tree) (turn : Turn) (l : Link) → Spot n es C t → (s : Sided turn l t) → Fits (live n) (node_at turn l s.near s.item s.colour s.far)
+sided-fits n es C t turn l sp s = subst (λ (z : Tree). Fits (live n) z) s.is (fits-end (live n) C t sp.fits)
 
+-- a step down to a left child leaves the items before as they are
 pub before-left : (C : List Frame) (l : Link) (x : ℕ) (c : Colour) (o : Tree) → before (C ++ frame_of (l, Left) x c o ∷ []) ≡ before C
 before-left [] l x c o = refl
 before-left (gr ∷ C) l x c o = ap (λ z. lower gr.turn gr.item gr.other ++ z) (before-left C l x c o)
 
+-- and puts the node and its right tree in front of those after
 pub after-left : (C : List Frame) (l : Link) (x : ℕ) (c : Colour) (o : Tree) → after (C ++ frame_of (l, Left) x c o ∷ []) ≡ (x ∷ items o) ++ after C
 after-left [] l x c o = sym (append-nil (x ∷ items o))
 after-left (gr ∷ C) l x c o = let hi = higher gr.turn gr.item gr.other in ap (λ z. z ++ hi) (after-left C l x c o) ∙ append_assoc (x ∷ items o) (after C) hi
 
+-- a step down to a right child puts the left tree and the node behind the items before
 pub before-right : (C : List Frame) (l : Link) (x : ℕ) (c : Colour) (o : Tree) → before (C ++ frame_of (l, Right) x c o ∷ []) ≡ before C ++ (items o ++ x ∷ [])
 before-right [] l x c o = append-nil (items o ++ x ∷ [])
 before-right (gr ∷ C) l x c o = let lo = lower gr.turn gr.item gr.other in ap (λ z. lo ++ z) (before-right C l x c o) ∙ sym (append_assoc lo (before C) (items o ++ x ∷ []))
 
+-- and leaves those after as they are
 pub after-right : (C : List Frame) (l : Link) (x : ℕ) (c : Colour) (o : Tree) → after (C ++ frame_of (l, Right) x c o ∷ []) ≡ after C
 after-right [] l x c o = refl
 after-right (gr ∷ C) l x c o = ap (λ z. z ++ higher gr.turn gr.item gr.other) (after-right C l x c o)
 
 -- one node further down
-abbrev pub leftmost-step : (n : Nodes) (ps es : List (Link × Turn)) (C : List Frame) (t : Tree) (at next : Link) → (d : LeftmostPath n es C t at) → (k : Topped at d.tree) → top k.left ≡ Some next → ps ≡ es ++ (at, Left) ∷ [] → LeftmostPath n ps C t next
+abbrev pub leftmost-step : (n : Nodes) (ps es : List (Link × Turn)) (C : List Frame) (t : Tree) (at next : Link) → (d : LeftmostPath n es C t at) → (k : Sided Left at d.tree) → top k.near ≡ Some next → ps ≡ es ++ (at, Left) ∷ [] → LeftmostPath n ps C t next
 leftmost-step n ps es C t at next d k e q =
-    let fr = frame_of (at, Left) k.x k.c k.right in
+    let fr = frame_of (at, Left) k.item k.colour k.far in
     let sp = subst (λ (z : Tree). Spot n es d.frames z) k.is d.spot in
     record {
       frames = d.frames ++ fr ∷ [];
-      tree = k.left;
-      spot = subst (λ (z : List (Link × Turn)). Spot n z (d.frames ++ fr ∷ []) k.left) (sym q) (pushed n es (at, Left) d.frames k.left k.x k.c k.right sp);
+      tree = k.near;
+      spot = subst (λ (z : List (Link × Turn)). Spot n z (d.frames ++ fr ∷ []) k.near) (sym q) (pushed n es (at, Left) d.frames k.near k.item k.colour k.far sp);
       here = e;
-      same = plug-snoc d.frames fr k.left ∙ ap (λ z. plug d.frames z) (sym k.is) ∙ d.same;
-      low = before-left d.frames at k.x k.c k.right ∙ d.low;
-      high = ap (λ z. items k.left ++ z) (after-left d.frames at k.x k.c k.right) ∙ sym (append_assoc (items k.left) (k.x ∷ items k.right) (after d.frames)) ∙ ap (λ z. items z ++ after d.frames) (sym k.is) ∙ d.high;
+      same = plug-snoc d.frames fr k.near ∙ ap (λ z. plug d.frames z) (sym k.is) ∙ d.same;
+      low = before-left d.frames at k.item k.colour k.far ∙ d.low;
+      high = ap (λ z. items k.near ++ z) (after-left d.frames at k.item k.colour k.far) ∙ sym (append_assoc (items k.near) (k.item ∷ items k.far) (after d.frames)) ∙ ap (λ z. items z ++ after d.frames) (sym k.is) ∙ d.high;
     }
 
 -- no top, no tree
@@ -113,5 +120,6 @@ pub no-tree : (t : Tree) → top t ≡ None → t ≡ leaf
 no-tree leaf e = refl
 no-tree (node l a x c b) e = cc
 
-pub leftmost-end : (at : Link) (t : Tree) → (k : Topped at t) → top k.left ≡ None → t ≡ node at leaf k.x k.c k.right
-leftmost-end at t k e = k.is ∙ ap (λ z. node at z k.x k.c k.right) (no-tree k.left e)
+-- where the node has no left child, it is the first of the tree
+pub leftmost-end : (at : Link) (t : Tree) → (k : Sided Left at t) → top k.near ≡ None → t ≡ node at leaf k.item k.colour k.far
+leftmost-end at t k e = k.is ∙ ap (λ z. node at z k.item k.colour k.far) (no-tree k.near e)

@@ -6,20 +6,13 @@ use Rattle.std.specs.List.{AllByRecursion}
 use Rattle.loc_pool.specs.declared.Link.{Link}
 use Rattle.loc_pool.specs.declared.Turn.{Turn}
 use Rattle.loc_pool.specs.declared.Turn.TheVariants.{Left, Right}
-use Rattle.loc_pool.specs.Same.{same}
-use Rattle.loc_pool.proofs.Same.{same-eq, same-refl}
 use Rattle.loc_rb.specs.Trees.{Row, Reading, with_child, child_of, links_of, next, Once, Leads, Carried}
 use Rattle.loc_rb.specs.Nodes.{Nodes, live, IsLive, IsOld, KeepsItems, StandsFor, StandFor, CanChange}
 use Rattle.loc_rb.specs.Exchanges.{Exchanges, InPlace, Copies}
 use Rattle.loc_rb.proofs.Counts.{keeps-trans}
+use Rattle.loc_rb.proofs.Trees.{apart-all}
 use Rattle.loc_rb.proofs.OneChange.{live-rows, is-live, some-link, not-new}
-
-differ : (l m : Link) → same l m ≡ false → l ≢ m
-differ l m e q = let r : true ≡ false = sym (same-refl m) ∙ ap (λ k. same k m) (sym q) ∙ e in cc
-
--- a link is this one or another
-pub by-link : (P : Type 0) (l m : Link) → (l ≡ m → P) → (l ≢ m → P) → P
-by-link P l m here other = (elim (same l m) as (λ b. same l m ≡ b → P) [ true ↦ λ e. here (same-eq l m e) | false ↦ λ e. other (differ l m e) ]) refl
+pub use Rattle.loc_rb.proofs.OneChange.{by-link}
 
 some-row : (x y : Row) → Some x ≡ Some y → x ≡ y
 some-row x y e = cc
@@ -53,6 +46,7 @@ leads-end f (e ∷ es) at l = leads-end f es at l.1
 item-old : (n m : Nodes) (at r l : Link) (turn : Turn) (to : Option Link) (x y : Row) → n.rows at ≡ Some x → m.rows r ≡ Some (with_child turn to x) → l ≡ r → m.rows l ≡ Some y → IsOld n y.item
 item-old n m at r l turn to x y p h s e = let w = some-row y (with_child turn to x) (sym e ∙ ap m.rows s ∙ h) in (at, x, p, sym (item-same turn x to) ∙ sym (ap (λ (z : Row). z.item) w))
 
+-- a pointer written in place is such an exchange
 pub in-place : (n m : Nodes) (es : List (Link × Turn)) (at : Link) (turn : Turn) (to : Option Link) → InPlace n m at turn to → CanChange n es at to → Exchanges n m es es at at turn to
 in-place n m es at turn to d k =
     let row = leads-end (live n) es at k.leads in let p = live-rows n at row.0 row.1 in
@@ -136,10 +130,6 @@ leads-kept : (f g : Reading) (es : List (Link × Turn)) (at : Link) → AllByRec
 leads-kept f g [] at k l = (l.0, k.0 l.0 l.1)
 leads-kept f g (e ∷ es) at k l = ((l.0.0, k.1.0 l.0.0 l.0.1, l.0.2), leads-kept f g es at (k.0, k.1.1) l.1)
 
-all-map : (P Q : Link → Type 0) → ((l : Link) → P l → Q l) → (ls : List Link) → AllByRecursion P ls → AllByRecursion Q ls
-all-map P Q k [] a = tt
-all-map P Q k (l ∷ ls) a = (k l a.0, all-map P Q k ls a.1)
-
 -- a link without a row is none of the path's
 not-on : (f : Reading) (r : Link) (es : List (Link × Turn)) (at : Link) → f r ≡ None → Leads f es at → AllByRecursion (λ l. r ≢ l) (at ∷ links_of es)
 not-on f r [] at z l = ((λ s. let w : None ≡ Some l.0 = sym z ∙ ap f s ∙ l.1 in cc), tt)
@@ -153,11 +143,11 @@ pub can-go-up : (n m : Nodes) (es : List (Link × Turn)) (e : Link × Turn) (at 
 can-go-up n m es e at r turn to d k =
     let apart = all-up (λ l. at ≢ l) es e k.once.0 in let x = leads-end (live n) (es ++ e ∷ []) at k.leads in
     record {
-      leads = leads-kept (live n) (live m) es e.0 (all-map (λ l. at ≢ l) (λ l. (x : Row) → live n l ≡ Some x → live m l ≡ Some x) (λ l o y q. copied-live n m at r turn to d l (λ s. o (sym s)) y q) (e.0 ∷ links_of es) apart) (leads-up (live n) es e at k.leads);
+      leads = leads-kept (live n) (live m) es e.0 (apart-all (λ l. at ≢ l) (λ l. (x : Row) → live n l ≡ Some x → live m l ≡ Some x) (λ l o y q. copied-live n m at r turn to d l (λ s. o (sym s)) y q) (e.0 ∷ links_of es) apart) (leads-up (live n) es e at k.leads);
       once = once-up es e k.once.1;
       from = elim k.from as (λ _. (m.root ≡ Some (next es e.0)) ⊎ AllByRecursion (λ l. m.root ≢ Some l) (e.0 ∷ links_of es)) [
         | inl q ↦ inl (d.root ∙ q ∙ ap Some (next-snoc es e at))
-        | inr a ↦ inr (all-map (λ l. n.root ≢ Some l) (λ l. m.root ≢ Some l) (λ l o q. o (sym d.root ∙ q)) (e.0 ∷ links_of es) (all-up (λ l. n.root ≢ Some l) es e a.1))
+        | inr a ↦ inr (apart-all (λ l. n.root ≢ Some l) (λ l. m.root ≢ Some l) (λ l o q. o (sym d.root ∙ q)) (e.0 ∷ links_of es) (all-up (λ l. n.root ≢ Some l) es e a.1))
       ];
       to = λ l q. subst (λ (i : Link). IsLive m i) (some-link r l q) (_, copied-here n m at r turn to d x.0 x.1);
     }
@@ -182,7 +172,7 @@ copied-up n m p es es' up up' side at r turn to d k x =
     let apart = all-up (λ l. at ≢ l) es e k.once.0 in
     let off = not-on (live n) r es up (no-live n r d.fresh) (leads-up (live n) es e at k.leads) in
     let off' = not-new m r (with_child turn to row.0) r_row (up ∷ links_of es) (up' ∷ links_of es') x.stand_for off in
-    let kept = all-map (λ l. at ≢ l) (λ l. (y : Row) → live n l ≡ Some y → live m l ≡ Some y) (λ l o y q. copied-live n m at r turn to d l (λ s. o (sym s)) y q) (up ∷ links_of es) apart in
+    let kept = apart-all (λ l. at ≢ l) (λ l. (y : Row) → live n l ≡ Some y → live m l ≡ Some y) (λ l o y q. copied-live n m at r turn to d l (λ s. o (sym s)) y q) (up ∷ links_of es) apart in
     let fresh : (l : Link) → m.rows l ≡ None → n.rows l ≡ None = λ l z. sym (d.others l (λ s. (let w : None ≡ Some (with_child turn to row.0) = sym z ∙ ap m.rows s ∙ r_row in cc))) ∙ z in
     record {
       here = λ y q. let z = live-rows m r (with_child turn to y) (copied-here n m at r turn to d y q) in is-live p r (with_child turn to y) (x.others r off' (with_child turn to y) z.0) (x.current r off z.1);
@@ -192,7 +182,7 @@ copied-up n m p es es' up up' side at r turn to d k x =
       others = λ l a y q. x.others l (all-up (λ i. l ≢ i) es' e' a.1) y (d.others l a.0 ∙ q);
       current = λ l a q. x.current l (all-up (λ i. l ≢ i) es e a.1) (d.current l a.0 q);
       from_root = λ q. x.from_root (d.root ∙ q ∙ ap Some (next-snoc es e at)) ∙ ap Some (sym (next-snoc es' e' r));
-      other_root = λ a. x.other_root (all-map (λ l. n.root ≢ Some l) (λ l. m.root ≢ Some l) (λ l o q. o (sym d.root ∙ q)) (up ∷ links_of es) (all-up (λ l. n.root ≢ Some l) es e a.1)) ∙ d.root;
+      other_root = λ a. x.other_root (apart-all (λ l. n.root ≢ Some l) (λ l. m.root ≢ Some l) (λ l o q. o (sym d.root ∙ q)) (up ∷ links_of es) (all-up (λ l. n.root ≢ Some l) es e a.1)) ∙ d.root;
       items = keeps-trans n m p (copied-items n m at r turn to row.0 d at_row.0) x.items;
     }
 

@@ -9,16 +9,17 @@ use Rattle.loc_rb.specs.Nodes.{Nodes}
 use Rattle.loc_rb.specs.Places.{Spot}
 use Rattle.loc_rb.specs.Steps.{Replaced}
 use Rattle.loc_rb.proofs.Trees.{items-plug}
-use Rattle.loc_rb.proofs.OneChange.{frame_of, entries-snoc}
+use Rattle.loc_rb.proofs.OneChange.{frame_of, entries-snoc, unpushed}
 use Rattle.loc_rb.proofs.Rotations.{to_turn, turned_tree}
-use Rattle.loc_rb.proofs.Recolouring.{unpushed}
 
+-- links play no part in the items before
 pub before-SameButLinks : (C D : List Frame) → SameButLinks C D → before D ≡ before C
 before-SameButLinks [] [] s = refl
 before-SameButLinks [] (gr ∷ D) s = absurd s
 before-SameButLinks (fr ∷ C) [] s = absurd s
 before-SameButLinks (fr ∷ C) (gr ∷ D) s = λ i. lower (s.0 i) (s.1 i) (s.3 i) ++ before-SameButLinks C D s.4 i
 
+-- nor in those after
 pub after-SameButLinks : (C D : List Frame) → SameButLinks C D → after D ≡ after C
 after-SameButLinks [] [] s = refl
 after-SameButLinks [] (gr ∷ D) s = absurd s
@@ -29,10 +30,12 @@ after-SameButLinks (fr ∷ C) (gr ∷ D) s = λ i. after-SameButLinks C D s.4 i 
 pub items-alike : (C D : List Frame) (t u : Tree) → SameButLinks C D → items u ≡ items t → items (plug D u) ≡ items (plug C t)
 items-alike C D t u s e = items-plug D u ∙ (λ i. before-SameButLinks C D s i ++ (e i ++ after-SameButLinks C D s i)) ∙ sym (items-plug C t)
 
+-- nor do links and colours in the items of a node
 pub items-under : (side : Turn) (l m : Link) (t u : Tree) (x : ℕ) (c d : Colour) (o p : Tree) → items u ≡ items t → items p ≡ items o → items (node_at side m u x d p) ≡ items (node_at side l t x c o)
 items-under Left l m t u x c d o p e q = λ i. e i ++ x ∷ q i
 items-under Right l m t u x c d o p e q = λ i. q i ++ x ∷ e i
 
+-- a rotation leaves the items in their order
 pub items-turned : (turn : Turn) (at child low high : Link) (x y : ℕ) (cx cy dx dy : Colour) (a b d : Tree) → items (turned_tree turn low high x y dx dy a b d) ≡ items (to_turn turn at child x y cx cy a b d)
 items-turned Left at child low high x y cx cy dx dy a b d = sym (append_assoc (items d) (y ∷ items b) (x ∷ items a))
 items-turned Right at child low high x y cx cy dx dy a b d = append_assoc (items a) (x ∷ items b) (y ∷ items d)
@@ -54,12 +57,12 @@ last-alike (kr ∷ C) fr (gr ∷ D) s = let q = last-alike C fr D s.4 in record 
 
 -- a moved path, seen above its last entry
 pub record ReplacedUp (n : Nodes) (ps : List (Link × Turn)) (C : List Frame) (side : Turn) (x : ℕ) (c : Colour) (other t : Tree) : Type 0 where
-  pub es : List (Link × Turn)
+  pub above : List (Link × Turn)
   pub up : Link
-  pub entry : ps ≡ es ++ (up, side) ∷ []
+  pub entry : ps ≡ above ++ (up, side) ∷ []
   pub frames : List Frame
   pub alike : SameButLinks C frames
-  pub spot : Spot n es frames (node_at side up t x c other)
+  pub spot : Spot n above frames (node_at side up t x c other)
 
 pub replaced-up : (n : Nodes) (ps : List (Link × Turn)) (C : List Frame) (l : Link) (side : Turn) (x : ℕ) (c : Colour) (other t : Tree) → Replaced n ps (C ++ frame_of (l, side) x c other ∷ []) t → ReplacedUp n ps C side x c other t
 replaced-up n ps C l side x c other t m =
@@ -69,7 +72,7 @@ replaced-up n ps C l side x c other t m =
     let low = unpushed n ps (entries k.front) (gr.link, gr.turn) k.front t gr.item gr.colour gr.other sp refl in
     let at = subst (λ (z : Turn × ℕ × Colour × Tree). Spot n (entries k.front) k.front (node_at z.0 gr.link t z.1 z.2 z.3)) (λ i. (k.last.0 i, k.last.1 i, k.last.2 i, k.last.3 i)) low in
     record {
-      es = entries k.front;
+      above = entries k.front;
       up = gr.link;
       entry = sym sp.path ∙ entries-snoc k.front gr ∙ ap (λ z. entries k.front ++ (gr.link, z) ∷ []) k.last.0;
       frames = k.front;

@@ -13,13 +13,9 @@ use Rattle.loc_rb.specs.Nodes.{Nodes, live, CanChange, Changes, Makes, Within, I
 use Rattle.loc_rb.specs.Places.{Spot}
 use Rattle.loc_rb.specs.Steps.{CanTransplant, NodeAt}
 use Rattle.loc_rb.proofs.ReadCalls.{child-is, colour-is}
-use Rattle.loc_rb.proofs.Trees.{stays, avoids-count, change-tree, node-row, count-plug, count-node_at, fits-end}
-use Rattle.loc_rb.proofs.OneChange.{occurs, others-live, apart-new, in-row, top-live}
+use Rattle.loc_rb.proofs.Trees.{count-leaf, stays, avoids-count, change-tree, node-row, count-plug, count-node_at, fits-end}
+use Rattle.loc_rb.proofs.OneChange.{occurs, by-link, others-live, apart-new, in-row, top-live}
 use Rattle.loc_rb.proofs.InsertionSteps.{make-spot, make-fits, new-nowhere}
-
-count-leaf : (l : Link) → count l leaf ≡ 0
-unfolding count
-count-leaf l = refl
 
 top-counts : (l : Link) (t : Tree) → top t ≡ Some l → 1 ≤ count l t
 unfolding count
@@ -56,6 +52,7 @@ pub record Beside (m : Nodes) (es : List (Link × Turn)) (C : List Frame) (t : T
   pub none : count r (plug C t) ≡ 0
   pub fits : Fits (live m) u
 
+-- a change of the tree beside leaves the tree as it is
 pub beside-changed : (n m : Nodes) (es es' : List (Link × Turn)) (C : List Frame) (t : Tree) (l r : Link) (turn : Turn) (s v : Tree) (x : ℕ) (c : Colour) (other : Tree) (o : Option Link)
     → Spot n es C t → count l (plug C t) ≡ 0 → Fits (live n) (node_at turn l s x c other) → Fits (live n) v → count l v ≡ 0 → count l other ≡ 0 → o ≡ top v → Changes n m [] es' l r turn o
     → Beside m es C t r (node_at turn r v x c other)
@@ -64,9 +61,9 @@ beside-changed n m es es' C t l r turn s v x c other o sp z f fv zv zo e ch =
     let R = λ (k : Link). count k (plug C t) in
     let A = apart-new n m [] es' l r turn o R ch (λ k h. in-row (live n) k (plug C t) sp.fits h) (λ k. lone l k (count k (plug C t)) (λ q. subst (λ (i : Link). count i (plug C t) ≡ 0) q z) (sp.apart k)) in
     record {
-      spot = record { path = sp.path; fits = stays (live n) (live m) (l ∷ []) oth (plug C t) (avoids-count (l ∷ []) (plug C t) (z, tt)) sp.fits; apart = sp.apart; root = ch.other_root (not-root n es C t l sp z) ∙ sp.root };
+      spot = record { path = sp.path; fits = stays (live n) (live m) (l ∷ []) oth (plug C t) (avoids-count (l ∷ []) (plug C t) (z, tt)) sp.fits; apart = sp.apart; root = ch.rows.other_root (not-root n es C t l sp z) ∙ sp.root };
       none = head-none r (links_of es') (count r (plug C t)) (A r);
-      fits = (change-tree (live n) (live m) [] es' l r turn x c other s v (subst (λ (i : Option Link). (y : Row) → live n l ≡ Some y → live m r ≡ Some (with_child turn i y)) e ch.here) ch.above oth f tt
+      fits = (change-tree (live n) (live m) [] es' l r turn x c other s v (subst (λ (i : Option Link). (y : Row) → live n l ≡ Some y → live m r ≡ Some (with_child turn i y)) e ch.rows.here) ch.rows.above oth f tt
           (avoids-count (l ∷ []) other (zo, tt)) (avoids-count (l ∷ []) v (zv, tt)) fv).0;
     }
 
@@ -100,6 +97,7 @@ can-left n m es none at p item bare o h z r =
     subst (λ (i : List (Link × Turn)). CanChange m i bare o) (sym z)
     (can-change-beside m es p.frames (tree_at n es at p) bare Left leaf p.left item p.colour leaf o h.spot h.none h.fits (fits-end (live m) p.frames (tree_at n es at p) h.spot.fits).1 (child-is n Left at p.left p.item p.colour p.right o (node-fits n es at p) r))
 
+-- it has the left tree
 pub new-left : (n m k : Nodes) (es none none' : List (Link × Turn)) (at : Link) (p : NodeAt n es at) (item : ℕ) (bare half : Link) (o : Option Link) → NewBeside m n es at p bare item leaf leaf → none ≡ [] → ((y : Row) → n.rows at ≡ Some y → o ≡ child_of Left y)
     → Changes m k none none' bare half Left o → NewBeside k n es at p half item p.left leaf
 new-left n m k es none none' at p item bare half o h z r ch =
@@ -113,6 +111,7 @@ can-right n m es none at p item half o h z r =
     subst (λ (i : List (Link × Turn)). CanChange m i half o) (sym z)
     (can-change-beside m es p.frames (tree_at n es at p) half Right leaf p.right item p.colour p.left o h.spot h.none h.fits (fits-end (live m) p.frames (tree_at n es at p) h.spot.fits).2 (child-is n Right at p.right p.item p.colour p.left o (node-fits n es at p) r))
 
+-- it has both trees
 pub new-right : (n m k : Nodes) (es none none' : List (Link × Turn)) (at : Link) (p : NodeAt n es at) (item : ℕ) (half new : Link) (o : Option Link) → NewBeside m n es at p half item p.left leaf → none ≡ [] → ((y : Row) → n.rows at ≡ Some y → o ≡ child_of Right y)
     → Changes m k none none' half new Right o → NewBeside k n es at p new item p.left p.right
 new-right n m k es none none' at p item half new o h z r ch =
@@ -137,24 +136,33 @@ can-replace-at m new item es C at a x c b h = record {
 pub can-replace : (n m : Nodes) (es : List (Link × Turn)) (at : Link) (p : NodeAt n es at) (item : ℕ) (new : Link) → NewBeside m n es at p new item p.left p.right → CanTransplant m es p.frames (tree_at n es at p) (node new p.left item p.colour p.right) (Some new)
 can-replace n m es at p item new h = can-replace-at m new item es p.frames at p.left p.item p.colour p.right h
 
+-- the calls together: the new node with both trees can take the place
+pub new-placed : (n m k q : Nodes) (es none none' rest rest' : List (Link × Turn)) (at : Link) (p : NodeAt n es at) (item : ℕ) (c : Colour) (bare half new : Link) (left right : Option Link) → Makes n m item c bare → ((y : Row) → n.rows at ≡ Some y → c ≡ y.colour)
+    → none ≡ [] → ((y : Row) → n.rows at ≡ Some y → left ≡ child_of Left y) → Changes m k none none' bare half Left left → rest ≡ [] → ((y : Row) → n.rows at ≡ Some y → right ≡ child_of Right y) → Changes k q rest rest' half new Right right
+    → CanTransplant q es p.frames (tree_at n es at p) (node new p.left item p.colour p.right) (Some new)
+new-placed n m k q es none none' rest rest' at p item c bare half new left right makes its none_is left_is lefts rest_is right_is rights =
+    let h = new-left n m k es none none' at p item bare half left (new-bare n m es at p item c bare makes its) none_is left_is lefts in
+    can-replace n q es at p item new (new-right n k q es rest rest' at p item half new right h rest_is right_is rights)
+
+-- one call of `make`, with an old item
 pub within-makes : (n m : Nodes) (item : ℕ) (k : Colour) (r : Link) → Makes n m item k r → IsOld n item → Within 1 0 n m
 within-makes n m item k r d o = record {
   made = d.made;
   changed = (let e = d.changed in omega (arith, e));
   spare = (let e = d.spare in omega (arith, e));
   kept = d.kept;
-  items = λ l y e. (elim (same l r) as (λ b. same l r ≡ b → IsOld n y.item) [
-    | true ↦ λ s. let q : Some y ≡ Some (record { item = item; left = None; right = None; colour = k }) = sym e ∙ ap m.rows (same-eq l r s) ∙ d.here in let w : y ≡ record { item = item; left = None; right = None; colour = k } = cc in
-        (o.0, o.1, o.2, o.3 ∙ sym (ap (λ (z : Row). z.item) w))
-    | false ↦ λ s. (l, y, sym (d.others l (λ q. (let t : true ≡ false = sym (same-refl r) ∙ ap (λ z. same z r) (sym q) ∙ s in cc))) ∙ e, refl)
-  ]) refl;
+  items = λ l y e. by-link (IsOld n y.item) l r
+      (λ s. let q : Some y ≡ Some (record { item = item; left = None; right = None; colour = k }) = sym e ∙ ap m.rows s ∙ d.here in let w : y ≡ record { item = item; left = None; right = None; colour = k } = cc in
+      (o.0, o.1, o.2, o.3 ∙ sym (ap (λ (z : Row). z.item) w)))
+      (λ s. (l, y, sym (d.others l s) ∙ e, refl));
 }
 
+-- one call of `change`
 pub within-changes : (n m : Nodes) (es es' : List (Link × Turn)) (at r : Link) (turn : Turn) (o : Option Link) → Changes n m es es' at r turn o → Within 0 1 n m
 within-changes n m es es' at r turn o d = record {
   made = (let e = d.made in omega (arith, e));
   changed = (let e = d.changed in omega (arith, e));
   spare = (let e = d.spare in omega (arith, e));
   kept = d.kept;
-  items = d.items;
+  items = d.rows.items;
 }

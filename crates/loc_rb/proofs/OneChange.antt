@@ -43,6 +43,13 @@ spine-occurs l (fr ∷ C) = ap (λ z. cond (same fr.link l) 1 0 + z) (spine-occu
 pub not-same : (l m : Link) → l ≢ m → same l m ≡ false
 not-same l m d = (elim (same l m) as (λ b. same l m ≡ b → b ≡ false) [ true ↦ λ e. absurd (d (same-eq l m e)) | false ↦ λ e. refl ]) refl
 
+pub apart-same : (l m : Link) → same l m ≡ false → l ≢ m
+apart-same l m e q = let r : true ≡ false = sym (same-refl m) ∙ ap (λ k. same k m) (sym q) ∙ e in cc
+
+-- a link is this one or another
+pub by-link : (P : Type 0) (l m : Link) → (l ≡ m → P) → (l ≢ m → P) → P
+by-link P l m here other = (elim (same l m) as (λ b. same l m ≡ b → P) [ true ↦ λ e. here (same-eq l m e) | false ↦ λ e. other (apart-same l m e) ]) refl
+
 pub occurs-not : (l : Link) (ks : List Link) → AllByRecursion (λ k. l ≢ k) ks → occurs l ks ≡ 0
 unfolding occurs
 occurs-not l [] h = refl
@@ -79,6 +86,7 @@ not-one n l k k' x e s d = λ q. (elim s as (λ _. ⊥) [
   | inr i ↦ let r : None ≡ Some x = sym i ∙ ap n.rows (sym q) ∙ e in cc
 ])
 
+-- nor one of those that stand for others
 pub not-new : (n : Nodes) (l : Link) (x : Row) → n.rows l ≡ Some x → (ks ks' : List Link) → StandFor n ks ks' → AllByRecursion (λ k. l ≢ k) ks → AllByRecursion (λ k. l ≢ k) ks'
 not-new n l x e [] [] s a = tt
 not-new n l x e [] (k' ∷ ks') s a = absurd s
@@ -111,8 +119,8 @@ either-one (suc i) j h = inl (omega arith)
 pub apart-new : (n m : Nodes) (es es' : List (Link × Turn)) (at r : Link) (turn : Turn) (to : Option Link) (R : Link → ℕ) → Changes n m es es' at r turn to
     → ((l : Link) → 1 ≤ R l → IsLive n l) → ((l : Link) → occurs l (at ∷ links_of es) + R l ≤ 1) → (l : Link) → occurs l (r ∷ links_of es') + R l ≤ 1
 apart-new n m es es' at r turn to R d live_R apart l = elim (none-or (R l)) as (λ _. occurs l (r ∷ links_of es') + R l ≤ 1) [
-  | inl z ↦ let o = once-occurs l (r ∷ links_of es') d.once in omega (arith, o, z)
-  | inr z ↦ let h = has-row n l (live_R l z) in let q = fewer n l h.0 h.1 (at ∷ links_of es) (r ∷ links_of es') d.stand_for in let a = apart l in omega (arith, q, a)
+  | inl z ↦ let o = once-occurs l (r ∷ links_of es') d.rows.once in omega (arith, o, z)
+  | inr z ↦ let h = has-row n l (live_R l z) in let q = fewer n l h.0 h.1 (at ∷ links_of es) (r ∷ links_of es') d.rows.stand_for in let a = apart l in omega (arith, q, a)
 ]
 
 in-row-node : (f : Reading) (l k : Link) (s t : Tree) → (y : Row) × (f k ≡ Some y) → (1 ≤ count l s → (y : Row) × (f l ≡ Some y)) → (1 ≤ count l t → (y : Row) × (f l ≡ Some y)) → 1 ≤ cond (same k l) 1 0 + (count l s + count l t) → (y : Row) × (f l ≡ Some y)
@@ -127,12 +135,14 @@ unfolding count
 in-row f l leaf p h = let z : 1 ≤ 0 = h in absurd (let q : ⊥ = omega (arith, z) in q)
 in-row f l (node k a x c b) p h = in-row-node f l k a b (_, p.0) (in-row f l a p.1) (in-row f l b p.2) h
 
+-- a live link that is not on the path stays live
 pub others-live : (n m : Nodes) (es es' : List (Link × Turn)) (at r : Link) (turn : Turn) (to : Option Link) → Changes n m es es' at r turn to
     → (l : Link) → AllByRecursion (λ k. l ≢ k) (at ∷ links_of es) → (y : Row) → live n l ≡ Some y → live m l ≡ Some y
 others-live n m es es' at r turn to d l a y e =
     let p = live-rows n l y e in
-    is-live m l y (d.others l (not-new n l y p.0 (at ∷ links_of es) (r ∷ links_of es') d.stand_for a) y p.0) (d.current l a p.1)
+    is-live m l y (d.rows.others l (not-new n l y p.0 (at ∷ links_of es) (r ∷ links_of es') d.rows.stand_for a) y p.0) (d.rows.current l a p.1)
 
+-- a carried path has the same frames but for the links
 pub SameButLinks-rename : (f g : Reading) (C : List Frame) (es : List (Link × Turn)) (r : Link) → Carried f g (entries C) es r → SameButLinks C (rename C es)
 SameButLinks-rename f g [] [] r k = tt
 SameButLinks-rename f g [] (e ∷ es) r k = absurd k
@@ -182,9 +192,9 @@ child-replaced-by n m es' at r turn C x c other s v d sp q apart =
     let es = entries C in let D = rename C es' in
     let T = node_at turn at s x c other in
     let clear = at-clear C turn at v x c other apart in
-    let on = change-tree (live n) (live m) C es' at r turn x c other s v d.here d.above (others-live n m es es' at r turn (top v) d) sp.fits clear.0 clear.1 clear.2 q in
+    let on = change-tree (live n) (live m) C es' at r turn x c other s v d.rows.here d.rows.above (others-live n m es es' at r turn (top v) d) sp.fits clear.0 clear.1 clear.2 q in
     let R : Link → ℕ = λ l. sides l C + (count l v + count l other) in
-    let alike = SameButLinks-rename (live n) (live m) C es' r d.above in
+    let alike = SameButLinks-rename (live n) (live m) C es' r d.rows.above in
     let live_R : (l : Link) → 1 ≤ R l → IsLive n l = λ l h.
     elim (none-or (count l v)) as (λ _. IsLive n l) [
       | inl z ↦ let k = count-at l C turn at s x c other in in-row (live n) l (plug C T) sp.fits (let h' : 1 ≤ sides l C + (count l v + count l other) = h in omega (arith, z, k, h'))
@@ -198,7 +208,7 @@ child-replaced-by n m es' at r turn C x c other s v d sp q apart =
         fits = on.0;
         apart = λ l. let k = count-at l D turn r v x c other in let a : occurs l (r ∷ links_of es') + (sides l C + (count l v + count l other)) ≤ 1 = A l in let i = sides-SameButLinks l C D alike in
             let j : occurs l (r ∷ links_of (entries D)) ≡ occurs l (r ∷ links_of es') = ap (λ (z : List (Link × Turn)). occurs l (r ∷ links_of z)) on.2 in omega (arith, k, a, i, j);
-        root = d.from_root (sp.root ∙ top-plug C T at (top-node_at turn at s x c other)) ∙ sym on.1;
+        root = d.rows.from_root (sp.root ∙ top-plug C T at (top-node_at turn at s x c other)) ∙ sym on.1;
       },
     )
 
@@ -233,6 +243,7 @@ can-change-by n C turn at s x c other o sp t =
       to = t;
     }
 
+-- the same by the path
 pub can-change : (n : Nodes) (es : List (Link × Turn)) (C : List Frame) (turn : Turn) (at : Link) (s : Tree) (x : ℕ) (c : Colour) (other : Tree) (o : Option Link)
     → Spot n es C (node_at turn at s x c other) → IsLiveOrNone n o → CanChange n es at o
 can-change n es C turn at s x c other o sp t =
@@ -255,20 +266,20 @@ pub record Popped (n : Nodes) (es : List (Link × Turn)) (e : Link × Turn) (C :
   pub is : C ≡ front ++ frame_of e item colour other ∷ []
   pub spot : Spot n es front (node_at e.1 e.0 t item colour other)
 
+-- the same tree at the same root, by other frames
+spot-by : (n : Nodes) (es ps : List (Link × Turn)) (C D : List Frame) (t u : Tree) → plug C t ≡ plug D u → entries D ≡ ps → Spot n es C t → Spot n ps D u
+spot-by n es ps C D t u e q sp = record { path = q; fits = subst (λ (z : Tree). Fits (live n) z) e sp.fits; apart = subst (λ (z : Tree). IsApart z) e sp.apart; root = sp.root ∙ ap top e }
+
+-- the last entry comes off, where its frame is known
+pub unpushed : (n : Nodes) (ps es : List (Link × Turn)) (e : Link × Turn) (C : List Frame) (t : Tree) (x : ℕ) (c : Colour) (other : Tree) → Spot n ps (C ++ frame_of e x c other ∷ []) t → entries C ≡ es → Spot n es C (node_at e.1 e.0 t x c other)
+unpushed n ps es e C t x c other sp q = let fr = frame_of e x c other in spot-by n ps es (C ++ fr ∷ []) C t (under fr t) (plug-snoc C fr t) q sp
+
+-- the last entry comes off a path
 pub popped : (n : Nodes) (ps es : List (Link × Turn)) (e : Link × Turn) (C : List Frame) (t : Tree) → Spot n ps C t → ps ≡ es ++ e ∷ [] → Popped n es e C t
 popped n ps es e C t sp q =
     let k = split-last C es e (sp.path ∙ q) in let fr = k.frame in
-    let same_tree : plug C t ≡ plug k.front (under fr t) = ap (λ D. plug D t) k.is ∙ plug-snoc k.front fr t in
     let F : Link × Turn → Type 0 = λ d. (C ≡ k.front ++ frame_of d fr.item fr.colour fr.other ∷ []) × Spot n es k.front (node_at d.1 d.0 t fr.item fr.colour fr.other) in
-    let there : F (fr.link, fr.turn) = (
-      k.is,
-      record {
-        path = k.remaining;
-        fits = subst (λ (z : Tree). Fits (live n) z) same_tree sp.fits;
-        apart = subst (λ (z : Tree). IsApart z) same_tree sp.apart;
-        root = sp.root ∙ ap top same_tree;
-      },
-    ) in
+    let there : F (fr.link, fr.turn) = (k.is, spot-by n ps es C k.front t (under fr t) (ap (λ D. plug D t) k.is ∙ plug-snoc k.front fr t) k.remaining sp) in
     let r = subst F k.entry there in
     record { front = k.front; item = fr.item; colour = fr.colour; other = fr.other; is = r.0; spot = r.1 }
 
@@ -279,23 +290,12 @@ entries-snoc (gr ∷ C) fr = ap (λ z. (gr.link, gr.turn) ∷ z) (entries-snoc C
 -- a path with one more entry
 pub pushed : (n : Nodes) (es : List (Link × Turn)) (e : Link × Turn) (C : List Frame) (t : Tree) (x : ℕ) (c : Colour) (other : Tree) → Spot n es C (node_at e.1 e.0 t x c other) → Spot n (es ++ e ∷ []) (C ++ frame_of e x c other ∷ []) t
 pushed n es e C t x c other sp =
-    let fr = frame_of e x c other in let same_tree = plug-snoc C fr t in
-    record {
-      path = entries-snoc C fr ∙ ap (λ z. z ++ e ∷ []) sp.path;
-      fits = subst (λ (z : Tree). Fits (live n) z) (sym same_tree) sp.fits;
-      apart = subst (λ (z : Tree). IsApart z) (sym same_tree) sp.apart;
-      root = sp.root ∙ ap top (sym same_tree);
-    }
+    let fr = frame_of e x c other in spot-by n es (es ++ e ∷ []) C (C ++ fr ∷ []) (under fr t) t (sym (plug-snoc C fr t)) (entries-snoc C fr ∙ ap (λ z. z ++ e ∷ []) sp.path) sp
 
+-- an entry goes back on a path that was replaced
 pub pushed-replaced : (n : Nodes) (es : List (Link × Turn)) (l l' : Link) (turn : Turn) (C : List Frame) (t : Tree) (x : ℕ) (c : Colour) (other : Tree) → Replaced n es C (node_at turn l' t x c other) → Replaced n (es ++ (l', turn) ∷ []) (C ++ frame_of (l, turn) x c other ∷ []) t
 pushed-replaced n es l l' turn C t x c other m =
     (m.0 ++ frame_of (l', turn) x c other ∷ [], SameButLinks-snoc C m.0 (frame_of (l, turn) x c other) (frame_of (l', turn) x c other) m.1 (refl, refl, refl, refl, tt), pushed n es (l', turn) m.0 t x c other m.2)
-
-pub length-SameButLinks : (C D : List Frame) → SameButLinks C D → length (entries D) ≡ length (entries C)
-length-SameButLinks [] [] p = refl
-length-SameButLinks [] (gr ∷ D) p = absurd p
-length-SameButLinks (fr ∷ C) [] p = absurd p
-length-SameButLinks (fr ∷ C) (gr ∷ D) p = let q = length-SameButLinks C D p.4 in omega (arith, q)
 
 -- a path has as many entries under its new links
 pub length-carried : (f g : Reading) (es es' : List (Link × Turn)) (r : Link) → Carried f g es es' r → length es' ≡ length es

@@ -1,5 +1,5 @@
 -- What a pool's calls do to the store that its rows stand for.
-use Rattle.std.proofs.Common.{◌≡◌, ℕ, true, false, cond, ◌||◌, List, [], ◌∷◌, ◌++◌, refl, sym, ap, ◌∙◌, subst, Option, Some, None, ◌+◌, ◌≤◌, length, length-append, arith}
+use Rattle.std.proofs.Common.{◌≡◌, ℕ, Bool, true, false, cond, ◌||◌, List, [], ◌∷◌, ◌++◌, refl, sym, ap, ◌∙◌, subst, Option, Some, None, ◌+◌, ◌≤◌, length, length-append, arith}
 use Rattle.std.specs.Prelude.{◌≢◌, is_none}
 use Rattle.loc_pool.specs.declared.Link.{Link}
 use Rattle.loc_pool.specs.declared.Extra.{Extra}
@@ -14,7 +14,7 @@ use Rattle.loc_rb.specs.Trees.{Row, with_child, child_of}
 use Rattle.loc_rb.specs.Nodes.{live, IsLive, Makes, Colours, CanChange, Changes}
 use Rattle.loc_rb.specs.Exchanges.{InPlace, Copies, Exchanges}
 use Rattle.loc_rb.proofs.Exchanging.{by-link, leads-end, in-place, copied-top, can-go-up, copied-up, not-top}
-use Rattle.loc_rb.proofs.OneChange.{some-link}
+use Rattle.loc_rb.proofs.OneChange.{some-link, not-same}
 use Rattle.loc_rb.specs.InMemory.{found, plain_row, row_found, is_unstamped, is_there, is_root, store}
 
 -- what is found is the row, where there is one
@@ -33,9 +33,6 @@ found-none rows l h = found-is rows l ∙ ap (λ b. cond b (Some (pool.row rows 
 pub has-found : (rows : Map pool.Row) (l : Link) → found rows l ≢ None → has rows l ≡ true
 has-found rows l h = (elim (has rows l) as (λ b. has rows l ≡ b → has rows l ≡ true) [ true ↦ λ e. e | false ↦ λ e. absurd (h (found-none rows l e)) ]) refl
 
-differ : (l m : Link) → l ≢ m → same l m ≡ false
-differ l m d = (elim (same l m) as (λ b. same l m ≡ b → b ≡ false) [ true ↦ λ e. absurd (d (same-eq l m e)) | false ↦ λ e. refl ]) refl
-
 pub found-append-new : (rows : Map pool.Row) (r : Link) (x : pool.Row) → found rows r ≡ None → found (rows ++ (r, x) ∷ []) r ≡ Some x
 unfolding found
 found-append-new [] r x h = ap (λ b. cond b (Some x) None) (same-refl r)
@@ -43,7 +40,7 @@ found-append-new (c ∷ cs) r x h = (elim (same c.0 r) as (λ b. cond b (Some c.
 
 pub found-append-other : (rows : Map pool.Row) (r l : Link) (x : pool.Row) → l ≢ r → found (rows ++ (r, x) ∷ []) l ≡ found rows l
 unfolding found
-found-append-other [] r l x d = ap (λ b. cond b (Some x) None) (differ r l (λ s. d (sym s)))
+found-append-other [] r l x d = ap (λ b. cond b (Some x) None) (not-same r l (λ s. d (sym s)))
 found-append-other (c ∷ cs) r l x d = ap (λ z. cond (same c.0 l) (Some c.1) z) (found-append-other cs r l x d)
 
 pub found-put-here : (rows : Map pool.Row) (l : Link) (x : pool.Row) → found rows l ≢ None → found (put rows l x) l ≡ Some x
@@ -58,7 +55,7 @@ pub found-put-other : (rows : Map pool.Row) (l k : Link) (x : pool.Row) → k �
 unfolding found put
 found-put-other [] l k x d = refl
 found-put-other (c ∷ cs) l k x d = (elim (same c.0 l) as (λ b. same c.0 l ≡ b → found (cond b ((c.0, x) ∷ cs) (c ∷ put cs l x)) k ≡ cond (same c.0 k) (Some c.1) (found cs k)) [
-  | true ↦ λ e. let z = differ c.0 k (λ s. d (sym s ∙ same-eq c.0 l e)) in ap (λ b. cond b (Some x) (found cs k)) z ∙ sym (ap (λ b. cond b (Some c.1) (found cs k)) z)
+  | true ↦ λ e. let z = not-same c.0 k (λ s. d (sym s ∙ same-eq c.0 l e)) in ap (λ b. cond b (Some x) (found cs k)) z ∙ sym (ap (λ b. cond b (Some c.1) (found cs k)) z)
   | false ↦ λ e. ap (λ z. cond (same c.0 k) (Some c.1) z) (found-put-other cs l k x d)
 ]) refl
 
@@ -105,18 +102,22 @@ pool-makes rows root made changed room room' r item colour h s =
 some-found : (rows : Map pool.Row) (l : Link) (x : pool.Row) → found rows l ≡ Some x → found rows l ≢ None
 some-found rows l x e z = let w : None ≡ Some x = sym z ∙ e in cc
 
+-- what a new row has in common with the old one is found alike
+read-put : (A : Type 0) (F : Option pool.Row → A) (rows : Map pool.Row) (at : Link) (x : pool.Row) → has rows at ≡ true → F (Some x) ≡ F (Some (pool.row rows at)) → (l : Link) → F (found (put rows at x) l) ≡ F (found rows l)
+read-put A F rows at x h e l = by-link (F (found (put rows at x) l) ≡ F (found rows l)) l at
+    (λ s. ap (λ i. F (found (put rows at x) i)) s ∙ ap F (found-put-here rows at x (some-found rows at (pool.row rows at) (found-row rows at h))) ∙ e ∙ sym (ap F (found-row rows at h)) ∙ sym (ap (λ i. F (found rows i)) s))
+    (λ o. ap F (found-put-other rows at l x o))
+
 -- a row with the same stamp leaves the same links current
 current-put : (rows : Map pool.Row) (at : Link) (x : pool.Row) → has rows at ≡ true → x.extra ≡ (pool.row rows at).extra → (l : Link) → is_unstamped (found (put rows at x) l) ≡ is_unstamped (found rows l)
-current-put rows at x h e l = by-link (is_unstamped (found (put rows at x) l) ≡ is_unstamped (found rows l)) l at
-    (λ s. ap (λ i. is_unstamped (found (put rows at x) i)) s ∙ ap is_unstamped (found-put-here rows at x (some-found rows at (pool.row rows at) (found-row rows at h))) ∙ ap is_none e ∙ sym (ap is_unstamped (found-row rows at h)) ∙ sym (ap (λ i. is_unstamped (found rows i)) s))
-    (λ o. ap is_unstamped (found-put-other rows at l x o))
+current-put rows at x h e l = read-put Bool is_unstamped rows at x h (ap is_none e) l
 
+-- nor does it unseat the newest root
 pub root-put : (rows : Map pool.Row) (at : Link) (x : pool.Row) (root : Option Link) → has rows at ≡ true → x.extra ≡ (pool.row rows at).extra → is_root (put rows at x) root ≡ is_root rows root
 root-put rows at x None h e = refl
-root-put rows at x (Some l) h e = by-link (is_there (found (put rows at x) l) ≡ is_there (found rows l)) l at
-    (λ s. ap (λ i. is_there (found (put rows at x) i)) s ∙ ap is_there (found-put-here rows at x (some-found rows at (pool.row rows at) (found-row rows at h))) ∙ ap is_none e ∙ sym (ap is_there (found-row rows at h)) ∙ sym (ap (λ i. is_there (found rows i)) s))
-    (λ o. ap is_there (found-put-other rows at l x o))
+root-put rows at x (Some l) h e = read-put Bool is_there rows at x h (ap is_none e) l
 
+-- a colour written in place
 pub pool-colours : (rows : Map pool.Row) (root : Option Link) (made changed room : ℕ) (at : Link) (k : Colour) → has rows at ≡ true
     → Colours (store rows root made changed room) (store (put rows at (record (pool.row rows at) { colour = k })) root made changed room) at k
 pool-colours rows root made changed room at k h =
@@ -230,6 +231,7 @@ there-extra rows l t =
 some-pool-row : (x y : pool.Row) → Some x ≡ Some y → x ≡ y
 some-pool-row x y e = cc
 
+-- what the test of the root's stamp leads to
 pub top-copied : (rows : Map pool.Row) (root : Option Link) (at r : Link) (turn : Turn) (to o : Option Link) → has rows r ≡ false → has rows at ≡ true → (pool.row rows at).extra ≡ None → is_root rows root ≡ true
     → (root ≡ None → o ≡ None) → ((l : Link) → root ≡ Some l → (pool.row (copied rows at r turn to) l).extra ≡ None → o ≡ root) → ((l : Link) → root ≡ Some l → (pool.row (copied rows at r turn to) l).extra ≢ None → o ≡ Some r)
     → TopCopied rows root at r turn to o
@@ -248,15 +250,17 @@ top-copied rows root at r turn to o z h e t none same_root new_root =
 pub changes-of : (rows rows' : Map pool.Row) (root root' : Option Link) (made changed room room' : ℕ) (es es' : List (Link × Turn)) (at r : Link) (turn : Turn) (to : Option Link)
     → Exchanges (store rows root 0 0 0) (store rows' root' 0 0 0) es es' at r turn to → room ≤ room' + 45 → Changes (store rows root made changed room) (store rows' root' made (changed + 1) room') es es' at r turn to
 changes-of rows rows' root root' made changed room room' es es' at r turn to x s = record {
-  here = x.here;
-  above = x.above;
-  stand_for = x.stand_for;
-  once = x.once;
-  others = x.others;
-  current = x.current;
-  from_root = x.from_root;
-  other_root = x.other_root;
-  items = x.items;
+  rows = record {
+    here = x.here;
+    above = x.above;
+    stand_for = x.stand_for;
+    once = x.once;
+    others = x.others;
+    current = x.current;
+    from_root = x.from_root;
+    other_root = x.other_root;
+    items = x.items;
+  };
   made = refl;
   changed = refl;
   spare = s;

@@ -1,17 +1,17 @@
 -- A node takes another colour.
-use Rattle.std.proofs.Common.{◌≡◌, ℕ, List, [], ◌∷◌, ◌++◌, refl, sym, ap, ◌∙◌, subst, Some, ◌+◌, cond, true, false, arith}
+use Rattle.std.proofs.Common.{◌≡◌, ℕ, List, [], ◌∷◌, ◌++◌, refl, sym, ap, ◌∙◌, subst, Some, ◌+◌, cond, arith}
 use Rattle.std.specs.Prelude.{◌≢◌}
 use Rattle.loc_pool.specs.declared.Link.{Link}
 use Rattle.loc_pool.specs.declared.Turn.{Turn}
 use Rattle.loc_pool.specs.declared.Turn.TheVariants.{Left, Right}
 use Rattle.loc_pool.specs.declared.Colour.{Colour}
 use Rattle.loc_pool.specs.Same.{same}
-use Rattle.loc_pool.proofs.Same.{same-refl, same-eq}
-use Rattle.loc_rb.specs.Trees.{Row, Reading, Tree, top, Fits, Frame, node_at, plug, count, IsApart, entries, flip}
+use Rattle.loc_pool.proofs.Same.{same-refl}
+use Rattle.loc_rb.specs.Trees.{Row, Reading, Tree, top, Fits, Frame, node_at, plug, count, IsApart, flip}
 use Rattle.loc_rb.specs.Nodes.{Nodes, live, IsLive, Colours, Within, IsOld}
 use Rattle.loc_rb.specs.Places.{Spot}
-use Rattle.loc_rb.proofs.Trees.{stays, fits-end, inner, top-node_at, count-node_at, count-plug, spine, sides, avoids-count, none-here, plug-snoc}
-use Rattle.loc_rb.proofs.OneChange.{live-rows, is-live, has-row, pushed, frame_of}
+use Rattle.loc_rb.proofs.Trees.{stays, fits-end, inner, top-node_at, count-node_at, count-plug, spine, sides, avoids-count, none-here}
+use Rattle.loc_rb.proofs.OneChange.{live-rows, is-live, has-row, by-link, pushed, unpushed, frame_of}
 use Rattle.loc_rb.proofs.Rotations.{node_at-flip}
 
 keep-step : (f g : Reading) (turn : Turn) (l : Link) (s s' : Tree) (x : ℕ) (c : Colour) (other : Tree) → ((y : Row) → f l ≡ Some y → g l ≡ Some y) → top s' ≡ top s → Fits g s' → Fits g other → Fits f (node_at turn l s x c other) → Fits g (node_at turn l s' x c other)
@@ -36,6 +36,7 @@ recolour-step : (f g : Reading) (turn : Turn) (l : Link) (s : Tree) (x : ℕ) (c
 recolour-step f g Left l s x c c' other k p o q = (k _ q.0, p, o)
 recolour-step f g Right l s x c c' other k p o q = (k _ q.0, o, p)
 
+-- a colour written in one row changes it in the tree, and nothing else
 pub recoloured : (f g : Reading) (C : List Frame) (turn : Turn) (at : Link) (s : Tree) (x : ℕ) (c c' : Colour) (other : Tree)
     → ((y : Row) → f at ≡ Some y → g at ≡ Some (record y { colour = c' })) → ((l : Link) → l ≢ at → (y : Row) → f l ≡ Some y → g l ≡ Some y)
     → Fits f (plug C (node_at turn at s x c other)) → IsApart (plug C (node_at turn at s x c other))
@@ -57,14 +58,10 @@ colours-here n m at k d y e = let p = live-rows n at y e in is-live m at _ (d.he
 pub colours-others : (n m : Nodes) (at : Link) (k : Colour) → Colours n m at k → (l : Link) → l ≢ at → (y : Row) → live n l ≡ Some y → live m l ≡ Some y
 colours-others n m at k d l o y e = let p = live-rows n l y e in is-live m l y (d.others l o ∙ p.0) (d.current l ∙ p.1)
 
-apart-same : (l m : Link) → same l m ≡ false → l ≢ m
-apart-same l m e q = let r : true ≡ false = sym (same-refl m) ∙ ap (λ k. same k m) (sym q) ∙ e in cc
-
+-- what was live stays so
 pub colours-live : (n m : Nodes) (at : Link) (k : Colour) → Colours n m at k → (l : Link) → IsLive n l → IsLive m l
-colours-live n m at k d l h = (elim (same l at) as (λ b. same l at ≡ b → IsLive m l) [
-  | true ↦ λ e. let q = same-eq l at e in subst (λ (i : Link). IsLive m i) (sym q) (_, colours-here n m at k d h.0 (ap (live n) (sym q) ∙ h.1))
-  | false ↦ λ e. (h.0, colours-others n m at k d l (apart-same l at e) h.0 h.1)
-]) refl
+colours-live n m at k d l h =
+    by-link (IsLive m l) l at (λ q. subst (λ (i : Link). IsLive m i) (sym q) (_, colours-here n m at k d h.0 (ap (live n) (sym q) ∙ h.1))) (λ o. (h.0, colours-others n m at k d l o h.0 h.1))
 
 pub within-colours : (n m : Nodes) (at : Link) (k : Colour) → Colours n m at k → IsLive n at → Within 0 0 n m
 within-colours n m at k d h = record {
@@ -72,13 +69,12 @@ within-colours n m at k d h = record {
   changed = (let e = d.changed in omega (arith, e));
   spare = (let e = d.spare in omega (arith, e));
   kept = d.kept;
-  items = λ l x e. (elim (same l at) as (λ b. same l at ≡ b → IsOld n x.item) [
-    | true ↦ λ s. let q = same-eq l at s in let r = has-row n at h in
-        let z : Some x ≡ Some (record r.0 { colour = k }) = sym e ∙ ap m.rows q ∙ d.here r.0 r.1 in (at, r.0, r.1, (let w : (record r.0 { colour = k }) ≡ x = cc in ap (λ i. i.item) w))
-    | false ↦ λ s. (l, x, sym (d.others l (apart-same l at s)) ∙ e, refl)
-  ]) refl;
+  items = λ l x e. by-link (IsOld n x.item) l at
+      (λ q. let r = has-row n at h in let z : Some x ≡ Some (record r.0 { colour = k }) = sym e ∙ ap m.rows q ∙ d.here r.0 r.1 in (at, r.0, r.1, (let w : (record r.0 { colour = k }) ≡ x = cc in ap (λ i. i.item) w)))
+      (λ o. (l, x, sym (d.others l o) ∙ e, refl));
 }
 
+-- the top of what hangs at the end of a path takes a colour
 pub recolour-spot : (n m : Nodes) (es : List (Link × Turn)) (C : List Frame) (turn : Turn) (at : Link) (s : Tree) (x : ℕ) (c k : Colour) (other : Tree)
     → Colours n m at k → Spot n es C (node_at turn at s x c other) → Spot m es C (node_at turn at s x k other)
 recolour-spot n m es C turn at s x c k other d sp =
@@ -90,16 +86,7 @@ recolour-spot n m es C turn at s x c k other d sp =
       root = d.root ∙ sp.root ∙ sym (top-plug-same C (node_at turn at s x c other) (node_at turn at s x k other) (top-node_at turn at s x k other ∙ sym (top-node_at turn at s x c other)));
     }
 
-pub unpushed : (n : Nodes) (ps es : List (Link × Turn)) (e : Link × Turn) (C : List Frame) (t : Tree) (x : ℕ) (c : Colour) (other : Tree) → Spot n ps (C ++ frame_of e x c other ∷ []) t → entries C ≡ es → Spot n es C (node_at e.1 e.0 t x c other)
-unpushed n ps es e C t x c other sp q =
-    let same_tree = plug-snoc C (frame_of e x c other) t in
-    record {
-      path = q;
-      fits = subst (λ (z : Tree). Fits (live n) z) same_tree sp.fits;
-      apart = subst (λ (z : Tree). IsApart z) same_tree sp.apart;
-      root = sp.root ∙ ap top same_tree;
-    }
-
+-- the child on one side takes a colour
 pub recolour-child : (n m : Nodes) (es : List (Link × Turn)) (C : List Frame) (side : Turn) (up : Link) (turn : Turn) (at : Link) (s : Tree) (x : ℕ) (c k : Colour) (other : Tree) (y : ℕ) (cu : Colour) (o : Tree)
     → Colours n m at k → Spot n es C (node_at side up (node_at turn at s x c other) y cu o) → Spot m es C (node_at side up (node_at turn at s x k other) y cu o)
 recolour-child n m es C side up turn at s x c k other y cu o d sp =

@@ -7,17 +7,16 @@ use Rattle.loc_pool.specs.declared.Colour.{Colour}
 use Rattle.loc_pool.specs.declared.Colour.TheVariants.{Red, Black}
 use Rattle.loc_rb.specs.Trees.{Row, Tree, leaf, node, top, items, Fits, Frame, plug, SameButLinks, count, before, after}
 use Rattle.loc_rb.specs.Nodes.{Nodes, live, IsLive, Colours}
-use Rattle.loc_rb.specs.Balance.{IsBlackTop, MayHang, black, HasBlackHeight, Takes}
+use Rattle.loc_rb.specs.Balance.{IsBlackTop, MayHang, black, HasBlackHeight, Awaits}
 use Rattle.loc_rb.specs.Places.{Spot, Holds}
 use Rattle.loc_rb.specs.Steps.{IsRedTop, Replaced, CanTransplant, LacksBlack, ToSpliceOut, MissesChild, remaining}
 use Rattle.loc_rb.proofs.Trees.{fits-end, count-plug, count-node_at, items-plug}
 use Rattle.loc_rb.proofs.ReadCalls.{no-top, colour-is}
 use Rattle.loc_rb.proofs.Recolouring.{recolour-spot}
-use Rattle.loc_rb.proofs.Balanced.{balanced-parts, taken-by, takes-SameButLinks, black-hangs, holds-of, red-shape, may-hang, may-be-black}
+use Rattle.loc_rb.proofs.Balanced.{balanced-parts, taken-by, awaits-alike, awaits-cut, black-hangs, holds-of, red-shape, red-blackened, zero-black, may-hang, may-be-black}
 use Rattle.loc_rb.proofs.ItemLists.{before-SameButLinks, after-SameButLinks}
 use Rattle.loc_rb.proofs.OneChange.{some-link}
-use Rattle.loc_rb.proofs.InsertionSteps.{zero-black}
-use Rattle.loc_rb.proofs.RemovalSteps.{red-blackened, far-live}
+use Rattle.loc_rb.proofs.InsertionSteps.{red-top-live}
 
 pub remaining-none : (a b : Tree) → top a ≡ None → top b ≡ top (remaining a b)
 remaining-none leaf b e = refl
@@ -43,6 +42,7 @@ items-remaining (node l s x c t) b e = elim e as (λ _. items (node l s x c t) �
   | inr z ↦ sym (append-nil (items (node l s x c t))) ∙ ap (λ u. items (node l s x c t) ++ items u) (sym z)
 ]
 
+-- the child can take the place
 pub can-splice : (n : Nodes) (es : List (Link × Turn)) (at : Link) (L : List ℕ) (o : Option Link) → (q : ToSpliceOut n es at L) → o ≡ top (remaining q.place.left q.place.right) → CanTransplant n es q.place.frames (node at q.place.left q.item q.place.colour q.place.right) (remaining q.place.left q.place.right) o
 can-splice n es at L o q e =
     let p = q.place in let f = fits-end (live n) p.frames (node at p.left q.item p.colour p.right) p.spot.fits in
@@ -61,21 +61,20 @@ splice-list n es at L D t q s e =
     ∙ ap (λ z. before p.frames ++ z) (append_assoc (items p.left) (items p.right) (after p.frames)) ∙ sym (append_assoc (before p.frames) (items p.left) (items p.right ++ after p.frames))
     ∙ (λ i. p.low i ++ p.high i) ∙ q.list
 
+-- a red node leaves a red-black tree
 pub splice-red : (n m : Nodes) (es ps : List (Link × Turn)) (at : Link) (L : List ℕ) → (q : ToSpliceOut n es at L) → Replaced m ps q.place.frames (remaining q.place.left q.place.right) → q.place.colour ≡ Red → Holds m L
 splice-red n m es ps at L q mv e =
     let p = q.place in let T = node at p.left q.item p.colour p.right in let U = remaining p.left p.right in
     let t = taken-by Red p.balanced.1.0 p.frames T p.balanced.0 p.balanced.1.1 in
-    let parts = subst (λ (z : Colour). MayHang z p.left × MayHang z p.right × ((i : ℕ) × (t.k ≡ black z + i) × HasBlackHeight p.left i × HasBlackHeight p.right i)) e (balanced-parts Left at p.left q.item p.colour p.right t.k t.sub) in
-    let z : t.k ≡ parts.2.0 = parts.2.1 ∙ zero-black parts.2.0 in
-    holds-of m ps mv.0 U p.balanced.1.0 t.d t.k L mv.2 (takes-SameButLinks Red p.balanced.1.0 p.frames mv.0 t.d t.k mv.1 t.takes) (black-hangs t.d U (remaining-has IsBlackTop p.left p.right parts.0 parts.1))
+    let parts = subst (λ (z : Colour). MayHang z p.left × MayHang z p.right × ((i : ℕ) × (t.height ≡ black z + i) × HasBlackHeight p.left i × HasBlackHeight p.right i)) e (balanced-parts Left at p.left q.item p.colour p.right t.height t.balanced) in
+    let z : t.height ≡ parts.2.0 = parts.2.1 ∙ zero-black parts.2.0 in
+    holds-of m ps mv.0 U t.height L mv.2 (awaits-alike p.frames mv.0 t.height mv.1 (awaits-cut p.frames T p.balanced t)) (black-hangs t.parent U (remaining-has IsBlackTop p.left p.right parts.0 parts.1))
     (subst (λ (i : ℕ). HasBlackHeight U i) (sym z) (remaining-has (λ u. HasBlackHeight u parts.2.0) p.left p.right parts.2.2 parts.2.3)) (splice-list n es at L mv.0 U q mv.1 refl)
 
 -- what a black node that is cut out leaves
 record BlackSplice (n : Nodes) (es : List (Link × Turn)) (at : Link) (L : List ℕ) (q : ToSpliceOut n es at L) : Type 0 where
-  pub h : ℕ
-  pub d : Colour
-  pub takes : Takes Red h q.place.frames d (1 + 0)
-  pub sub : HasBlackHeight (remaining q.place.left q.place.right) 0
+  pub awaits : Awaits q.place.frames (1 + 0)
+  pub balanced : HasBlackHeight (remaining q.place.left q.place.right) 0
 
 no-height : (a b : Tree) (k : ℕ) → MissesChild a b → HasBlackHeight a k → HasBlackHeight b k → k ≡ 0
 no-height a b k s p q = elim s as (λ _. k ≡ 0) [ inl e ↦ subst (λ (t : Tree). HasBlackHeight t k) e p | inr e ↦ subst (λ (t : Tree). HasBlackHeight t k) e q ]
@@ -84,13 +83,11 @@ black-splice : (n : Nodes) (es : List (Link × Turn)) (at : Link) (L : List ℕ)
 black-splice n es at L q e =
     let p = q.place in let T = node at p.left q.item p.colour p.right in
     let t = taken-by Red p.balanced.1.0 p.frames T p.balanced.0 p.balanced.1.1 in
-    let parts = subst (λ (z : Colour). MayHang z p.left × MayHang z p.right × ((i : ℕ) × (t.k ≡ black z + i) × HasBlackHeight p.left i × HasBlackHeight p.right i)) e (balanced-parts Left at p.left q.item p.colour p.right t.k t.sub) in
+    let parts = subst (λ (z : Colour). MayHang z p.left × MayHang z p.right × ((i : ℕ) × (t.height ≡ black z + i) × HasBlackHeight p.left i × HasBlackHeight p.right i)) e (balanced-parts Left at p.left q.item p.colour p.right t.height t.balanced) in
     let z = no-height p.left p.right parts.2.0 q.spare parts.2.2 parts.2.3 in
     record {
-      h = p.balanced.1.0;
-      d = t.d;
-      takes = subst (λ (i : ℕ). Takes Red p.balanced.1.0 p.frames t.d i) (parts.2.1 ∙ ap (λ i. 1 + i) z) t.takes;
-      sub = subst (λ (i : ℕ). HasBlackHeight (remaining p.left p.right) i) z (remaining-has (λ u. HasBlackHeight u parts.2.0) p.left p.right parts.2.2 parts.2.3);
+      awaits = subst (λ (i : ℕ). Awaits p.frames i) (parts.2.1 ∙ ap (λ i. 1 + i) z) (awaits-cut p.frames T p.balanced t);
+      balanced = subst (λ (i : ℕ). HasBlackHeight (remaining p.left p.right) i) z (remaining-has (λ u. HasBlackHeight u parts.2.0) p.left p.right parts.2.2 parts.2.3);
     }
 
 zero-red : (t : Tree) (l : Link) → HasBlackHeight t 0 → top t ≡ Some l → IsRedTop l t
@@ -98,23 +95,26 @@ zero-red leaf l r e = cc
 zero-red (node m a x Red b) l r e = some-link m l e
 zero-red (node m a x Black b) l r e = let z = r.2.1 in absurd (let q : ⊥ = omega (arith, z) in q)
 
+-- the child of a black one is red
 pub splice-child-live : (n m : Nodes) (es ps : List (Link × Turn)) (at child : Link) (L : List ℕ) → (q : ToSpliceOut n es at L) → Replaced m ps q.place.frames (remaining q.place.left q.place.right) → q.place.colour ≡ Black → top (remaining q.place.left q.place.right) ≡ Some child → IsLive m child
 splice-child-live n m es ps at child L q mv e o =
     let b = black-splice n es at L q e in let U = remaining q.place.left q.place.right in
-    far-live m Left child U (zero-red U child b.sub o) (fits-end (live m) mv.0 U mv.2.fits)
+    red-top-live m child U (zero-red U child b.balanced o) (fits-end (live m) mv.0 U mv.2.fits)
 
+-- and once it is black the tree is red-black
 pub splice-red-child : (n m m' : Nodes) (es ps : List (Link × Turn)) (at child : Link) (L : List ℕ) → (q : ToSpliceOut n es at L) → Replaced m ps q.place.frames (remaining q.place.left q.place.right) → q.place.colour ≡ Black → top (remaining q.place.left q.place.right) ≡ Some child → Colours m m' child Black → Holds m' L
 splice-red-child n m m' es ps at child L q mv e o d =
-    let b = black-splice n es at L q e in let U = remaining q.place.left q.place.right in let r = red-shape Left child U (zero-red U child b.sub o) in
-    let T = node child r.near r.x Black r.far in
-    holds-of m' ps mv.0 T b.h b.d (1 + 0) L (recolour-spot m m' ps mv.0 Left child r.near r.x Red Black r.far d (subst (λ (t : Tree). Spot m ps mv.0 t) r.is mv.2))
-    (takes-SameButLinks Red b.h q.place.frames mv.0 b.d (1 + 0) mv.1 b.takes) (may-hang b.d Left child r.near r.x Black r.far (may-be-black b.d)) (red-blackened Left child U 0 r b.sub)
+    let b = black-splice n es at L q e in let U = remaining q.place.left q.place.right in let r = red-shape Left child U (zero-red U child b.balanced o) in
+    let T = node child r.near r.item Black r.far in
+    holds-of m' ps mv.0 T (1 + 0) L (recolour-spot m m' ps mv.0 Left child r.near r.item Red Black r.far d (subst (λ (t : Tree). Spot m ps mv.0 t) r.is mv.2))
+    (awaits-alike q.place.frames mv.0 (1 + 0) mv.1 b.awaits) (may-hang b.awaits.parent Left child r.near r.item Black r.far (may-be-black b.awaits.parent)) (red-blackened Left child U 0 r b.balanced)
     (splice-list n es at L mv.0 T q mv.1 (ap items (sym r.is)))
 
+-- without a child a black node is lacking
 pub splice-lacks : (n m : Nodes) (es ps : List (Link × Turn)) (at : Link) (L : List ℕ) → (q : ToSpliceOut n es at L) → Replaced m ps q.place.frames (remaining q.place.left q.place.right) → q.place.colour ≡ Black → top (remaining q.place.left q.place.right) ≡ None → LacksBlack m ps L
 splice-lacks n m es ps at L q mv e o =
     let b = black-splice n es at L q e in let U = remaining q.place.left q.place.right in
-    record { frames = mv.0; tree = U; spot = mv.2; h = b.h; c = b.d; k = 0; takes = takes-SameButLinks Red b.h q.place.frames mv.0 b.d (1 + 0) mv.1 b.takes; sub = b.sub; black_top = no-top U o; list = splice-list n es at L mv.0 U q mv.1 refl }
+    record { frames = mv.0; tree = U; spot = mv.2; height = 0; awaits = awaits-alike q.place.frames mv.0 (1 + 0) mv.1 b.awaits; balanced = b.balanced; black_top = no-top U o; list = splice-list n es at L mv.0 U q mv.1 refl }
 
 -- the node that is spliced out stands as its tree says
 pub spliced-fits : (n : Nodes) (es : List (Link × Turn)) (at : Link) (L : List ℕ) → (q : ToSpliceOut n es at L) → Fits (live n) (node at q.place.left q.item q.place.colour q.place.right)
@@ -126,6 +126,7 @@ pub record Spliced (n m : Nodes) (es ps : List (Link × Turn)) (at : Link) (L : 
   pub colour_is : q.place.colour ≡ colour
   pub replaced : Replaced m ps q.place.frames (remaining q.place.left q.place.right)
 
+-- and it is known
 pub spliced : (n m : Nodes) (es ps : List (Link × Turn)) (at : Link) (L : List ℕ) (q : ToSpliceOut n es at L) (child : Option Link) (colour : Colour)
     → ((a : Tree) (x : ℕ) (c : Colour) (b : Tree) → Fits (live n) (node at a x c b) → child ≡ top (remaining a b)) → ((y : Row) → n.rows at ≡ Some y → colour ≡ y.colour)
     → ((C : List Frame) (s v : Tree) → CanTransplant n es C s v child → Replaced m ps C v) → Spliced n m es ps at L q child colour

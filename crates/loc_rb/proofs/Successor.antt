@@ -16,7 +16,7 @@ use Rattle.loc_rb.proofs.Trees.{fits-end, plug-snoc, items-plug}
 use Rattle.loc_rb.proofs.OneChange.{pushed, frame_of, live-rows}
 use Rattle.loc_rb.proofs.Balanced.{taken-by, takes-plug, takes-SameButLinks, may-be, may-hang}
 use Rattle.loc_rb.proofs.ItemLists.{before-SameButLinks, after-SameButLinks}
-use Rattle.loc_rb.proofs.Descent.{at-most-42, bounded, pow_le, depth-plug, before-right, after-right}
+use Rattle.loc_rb.proofs.Descent.{at-most-42, bounded, pow_le, depth-plug, before-right, after-right, no-tree}
 
 -- how many items a tree has, by a place in it
 leads-size : (n : Nodes) (es : List (Link × Turn)) (at : Link) (L : List ℕ) (x : ℕ) (H : List ℕ) → (p : LeadsTo n es at L x H) → length (items (plug p.frames (node at p.left x p.colour p.right))) ≡ length L + length H + 1
@@ -29,6 +29,7 @@ leads-size n es at L x H p =
 leads-deep : (n : Nodes) (es : List (Link × Turn)) (at : Link) (L : List ℕ) (x : ℕ) (H : List ℕ) → (p : LeadsTo n es at L x H) → length es + depth (node at p.left x p.colour p.right) ≤ depth (plug p.frames (node at p.left x p.colour p.right))
 leads-deep n es at L x H p = let m = depth-plug p.frames (node at p.left x p.colour p.right) in let q = ap length p.spot.path in omega (arith, m, q)
 
+-- with fewer than 2 ^ 21 other items the path and the tree at its end have at most 42 nodes
 pub leads-short : (n : Nodes) (es : List (Link × Turn)) (at : Link) (L : List ℕ) (x : ℕ) (H : List ℕ) → (p : LeadsTo n es at L x H) → length L + length H < 2 ^ 21 → length es + depth (node at p.left x p.colour p.right) ≤ 42
 leads-short n es at L x H p h =
     let s = leads-size n es at L x H p in let d = leads-deep n es at L x H p in
@@ -67,8 +68,8 @@ pub leads-row : (n : Nodes) (es : List (Link × Turn)) (at : Link) (L : List ℕ
 leads-row n es at L x H p = node-has-row n Left at p.left x p.colour p.right (fits-end (live n) p.frames (node at p.left x p.colour p.right) p.spot.fits)
 
 -- a path that is cut to its old length is what it was
-pub cut-back : (es ps qs ts rs : List (Link × Turn)) (e : Link × Turn) (k : ℕ) → ps ≡ es ++ e ∷ [] → qs ≡ ps ++ rs → ts ≡ take k qs → k ≡ length es → ts ≡ es
-cut-back es ps qs ts rs e k p q t l = t ∙ ap (λ z. take k z) (q ∙ ap (λ z. z ++ rs) p ∙ append_assoc es (e ∷ []) rs) ∙ take_at es (e ∷ rs) k (sym l)
+pub cut-back : (es ps qs ts : List (Link × Turn)) (e : Link × Turn) (k : ℕ) → ps ≡ es ++ e ∷ [] → (rs : List (Link × Turn)) × (qs ≡ ps ++ rs) → ts ≡ take k qs → k ≡ length es → ts ≡ es
+cut-back es ps qs ts e k p q t l = t ∙ ap (λ z. take k z) (q.1 ∙ ap (λ z. z ++ q.0) p ∙ append_assoc es (e ∷ []) q.0) ∙ take_at es (e ∷ q.0) k (sym l)
 
 -- the node whose item is to be exchanged, after that
 abbrev pub back-node : (n : Nodes) (es ts : List (Link × Turn)) (at : Link) (L : List ℕ) (x : ℕ) (H : List ℕ) → LeadsTo n es at L x H → ts ≡ es → NodeAt n ts at
@@ -81,12 +82,21 @@ back-node n es ts at L x H p e = record {
   spot = subst (λ (z : List (Link × Turn)). Spot n z p.frames (node at p.left x p.colour p.right)) (sym e) p.spot;
 }
 
-pub right-short : (at : Link) (a : Tree) (x : ℕ) (c : Colour) (b : Tree) (i : ℕ) → i + depth (node at a x c b) ≤ 42 → (i + 1) + depth b ≤ 43
-right-short at a x c b i h = omega (arith, h)
+pub right-short : (n : Nodes) (es : List (Link × Turn)) (at : Link) (L : List ℕ) (x : ℕ) (H : List ℕ) → (p : LeadsTo n es at L x H) → length L + length H < 2 ^ 21 → (length es + 1) + depth p.right ≤ 43
+right-short n es at L x H p h = let s = leads-short n es at L x H p h in omega (arith, s)
 
 -- the node to which the path went down
 pub next-row : (n : Nodes) (ps : List (Link × Turn)) (C : List Frame) (t : Tree) (next : Link) (v : ℕ) (c : Colour) (w : Tree) → (d : LeftmostPath n ps C t next) → d.tree ≡ node next leaf v c w → (y : Row) × (n.rows next ≡ Some y) × (y.item ≡ v)
 next-row n ps C t next v c w d e = let f = subst (λ (z : Tree). Fits (live n) z) e (fits-end (live n) d.frames d.tree d.spot.fits) in (_, (live-rows n next _ f.0).0, refl)
+
+-- the search of the next item ends at a node that has it
+pub next-found : (n : Nodes) (es ps qs : List (Link × Turn)) (at right next : Link) (L : List ℕ) (x : ℕ) (H : List ℕ) (answer : Option Link) → (p : LeadsTo n es at L x H) → ((y : Row) → n.rows at ≡ Some y → answer ≡ child_of Right y) → answer ≡ Some right
+    → ps ≡ es ++ (at, Right) ∷ []
+    → ((C : List Frame) (t : Tree) → Spot n ps C t → top t ≡ Some right → (d : LeftmostPath n qs C t next) × (v : ℕ) × (c : Colour) × (w : Tree) × (d.tree ≡ node next leaf v c w))
+    → (d : LeftmostPath n qs (right_frames p.frames at x p.colour p.left) p.right next) × (v : ℕ) × (c : Colour) × (w : Tree) × (d.tree ≡ node next leaf v c w) × (y : Row) × (n.rows next ≡ Some y) × (y.item ≡ v)
+next-found n es ps qs at right next L x H answer p h e q found =
+    let C = right_frames p.frames at x p.colour p.left in let w = right-start n es ps at right L x H answer p h e q in let d = found C p.right w.0 w.1 in
+    let y = next-row n qs C p.right next d.1 d.2 d.3 d.0 d.4 in (d.0, d.1, d.2, d.3, d.4, y.0, y.1, y.2)
 
 tail-of : (a b : ℕ) (xs ys : List ℕ) → a ∷ xs ≡ b ∷ ys → xs ≡ ys
 tail-of a b xs ys e = cc
@@ -94,10 +104,11 @@ tail-of a b xs ys e = cc
 same-shape : (n : Nodes) (es : List (Link × Turn)) (at at' : Link) (L : List ℕ) (x y : ℕ) (H : List ℕ) (D : List Frame) → (p : LeadsTo n es at L x H) → SameButLinks p.frames D → IsRedBlack (plug D (node at' p.left y p.colour p.right))
 same-shape n es at at' L x y H D p s =
     let t = taken-by Red p.balanced.1.0 p.frames (node at p.left x p.colour p.right) p.balanced.0 p.balanced.1.1 in
-    let q = takes-plug Red p.balanced.1.0 D t.d t.k (node at' p.left y p.colour p.right) (takes-SameButLinks Red p.balanced.1.0 p.frames D t.d t.k s t.takes)
-    (may-hang t.d Left at' p.left y p.colour p.right (may-be t.d Left at p.left x p.colour p.right t.may)) t.sub in
+    let q = takes-plug Red p.balanced.1.0 D t.parent t.height (node at' p.left y p.colour p.right) (takes-SameButLinks Red p.balanced.1.0 p.frames D t.parent t.height s t.takes)
+    (may-hang t.parent Left at' p.left y p.colour p.right (may-be t.parent Left at p.left x p.colour p.right t.may)) t.balanced in
     (q.0, (p.balanced.1.0, q.1))
 
+-- with the next item in the place, the node that had it is to be cut out
 pub successor-put : (n m : Nodes) (es ps fs qs : List (Link × Turn)) (at at' next last : Link) (L : List ℕ) (x item : ℕ) (H : List ℕ) → (p : LeadsTo n es at L x H) → (mv : Replaced m fs p.frames (node at' p.left item p.colour p.right))
     → (d : LeftmostPath n ps (right_frames p.frames at x p.colour p.left) p.right next) → (v : ℕ) (c : Colour) (w : Tree) → d.tree ≡ node next leaf v c w → item ≡ v
     → (d' : LeftmostPath m qs (right_frames mv.0 at' item p.colour p.left) p.right last) → (v' : ℕ) (c' : Colour) (w' : Tree) → d'.tree ≡ node last leaf v' c' w' → ToSpliceOut m qs last (L ++ H)
@@ -119,16 +130,13 @@ successor-put n m es ps fs qs at at' next last L x item H p mv d v c w e iv d' v
       list = (λ i. append-nil (before d'.frames) i ++ tail i) ∙ ap (λ z. z ++ remaining) low ∙ append_assoc bf (il ++ item ∷ []) remaining ∙ ap (λ z. bf ++ z) (append_assoc il (item ∷ []) remaining) ∙ sym (append_assoc bf il (item ∷ remaining)) ∙ (λ i. p.low i ++ h1 i);
     }
 
-no-child : (t : Tree) → top t ≡ None → t ≡ leaf
-no-child leaf e = refl
-no-child (node l a x c b) e = cc
-
 pub no-left : (n : Nodes) (es : List (Link × Turn)) (at : Link) (L : List ℕ) (x : ℕ) (H : List ℕ) → (p : LeadsTo n es at L x H) → top p.left ≡ None → ToSpliceOut n es at (L ++ H)
-no-left n es at L x H p e = record { low = L; item = x; high = H; place = p; spare = inl (no-child p.left e); list = refl }
+no-left n es at L x H p e = record { low = L; item = x; high = H; place = p; spare = inl (no-tree p.left e); list = refl }
 
 pub no-right : (n : Nodes) (es : List (Link × Turn)) (at : Link) (L : List ℕ) (x : ℕ) (H : List ℕ) → (p : LeadsTo n es at L x H) → top p.right ≡ None → ToSpliceOut n es at (L ++ H)
-no-right n es at L x H p e = record { low = L; item = x; high = H; place = p; spare = inr (no-child p.right e); list = refl }
+no-right n es at L x H p e = record { low = L; item = x; high = H; place = p; spare = inr (no-tree p.right e); list = refl }
 
+-- the path to the node that is to be cut out is short
 pub splice-short : (n : Nodes) (es : List (Link × Turn)) (at : Link) (K L H : List ℕ) → (q : ToSpliceOut n es at K) → K ≡ L ++ H → length L + length H < 2 ^ 21 → length es ≤ 42
 splice-short n es at K L H q e h =
     let a = ap length (q.list ∙ e) in let b = length-append q.low q.high in let c = length-append L H in

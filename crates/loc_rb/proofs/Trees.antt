@@ -1,5 +1,5 @@
 -- Trees over rows: what fits, what stands where, and how often.
-use Rattle.std.proofs.Common.{◌≡◌, ℕ, List, [], ◌∷◌, ◌++◌, refl, sym, ap, ◌∙◌, append_assoc, append-nil, Some, None, ◌+◌, ◌≤◌, cond, true, arith}
+use Rattle.std.proofs.Common.{◌≡◌, ℕ, List, [], ◌∷◌, ◌++◌, refl, sym, ap, ◌∙◌, append_assoc, append-nil, Some, ◌+◌, ◌≤◌, cond, true, arith}
 use Rattle.std.specs.Prelude.{◌≢◌}
 use Rattle.std.specs.List.{AllByRecursion}
 use Rattle.loc_pool.specs.declared.Link.{Link}
@@ -41,6 +41,7 @@ pub top-node_at : (turn : Turn) (l : Link) (t : Tree) (x : ℕ) (c : Colour) (ot
 top-node_at Left l t x c other = refl
 top-node_at Right l t x c other = refl
 
+-- the two trees of a node fit
 pub inner : (f : Reading) (turn : Turn) (l : Link) (t : Tree) (x : ℕ) (c : Colour) (other : Tree) → Fits f (node_at turn l t x c other) → Fits f t × Fits f other
 inner f Left l t x c other p = (p.1, p.2)
 inner f Right l t x c other p = (p.2, p.1)
@@ -61,6 +62,7 @@ carried f g ls h (fr ∷ C) (e' ∷ es) t u r p k v e q =
       (λ i. (e'.0, sym k.0 i) ∷ on.2 i),
     )
 
+-- so does the tree at the end of a path
 pub fits-end : (f : Reading) (C : List Frame) (t : Tree) → Fits f (plug C t) → Fits f t
 fits-end f [] t p = p
 fits-end f (fr ∷ C) t p = fits-end f C t (inner f fr.turn fr.link (plug C t) fr.item fr.colour fr.other p).0
@@ -84,6 +86,7 @@ change-tree f g C es at r turn x c other s v here above h p clear o a q =
     let on = carried f g ls h C es (node_at turn at s x c other) u r p above clear (top-node_at turn r v x c other) fits in
     on
 
+-- the items of a node, by the side
 pub items-node_at : (turn : Turn) (l : Link) (t : Tree) (x : ℕ) (c : Colour) (other : Tree) → items (node_at turn l t x c other) ≡ lower turn x other ++ (items t ++ higher turn x other)
 items-node_at Left l t x c other = refl
 items-node_at Right l t x c other = ap (λ ys. items other ++ x ∷ ys) (sym (append-nil (items t))) ∙ sym (append_assoc (items other) (x ∷ []) (items t ++ []))
@@ -102,19 +105,13 @@ pub Avoids-nil : (t : Tree) → Avoids [] t
 Avoids-nil leaf = tt
 Avoids-nil (node l s x c t) = (tt, Avoids-nil s, Avoids-nil t)
 
-pub other_link : (f : Reading) (n m : Link) (x : Row) → f n ≡ None → f m ≡ Some x → n ≢ m
-other_link f n m x e q same = let r : None ≡ Some x = sym e ∙ ap f same ∙ q in cc
-
 pub node-row : (f : Reading) (turn : Turn) (l : Link) (t : Tree) (x : ℕ) (c : Colour) (other : Tree) → Fits f (node_at turn l t x c other) → (y : Row) × (f l ≡ Some y)
 node-row f Left l t x c other p = (_, p.0)
 node-row f Right l t x c other p = (_, p.0)
 
--- a link without a row is none of the path's
-pub fresh-path : (f : Reading) (n : Link) (C : List Frame) (t : Tree) → f n ≡ None → Fits f (plug C t) → AllByRecursion (λ m. n ≢ m) (links_of (entries C))
-fresh-path f n [] t e p = tt
-fresh-path f n (fr ∷ C) t e p =
-    let here = node-row f fr.turn fr.link (plug C t) fr.item fr.colour fr.other p in
-    (other_link f n fr.link here.0 e here.1, fresh-path f n C t e (inner f fr.turn fr.link (plug C t) fr.item fr.colour fr.other p).0)
+pub count-leaf : (l : Link) → count l leaf ≡ 0
+unfolding count
+count-leaf l = refl
 
 pub count-node_at : (m : Link) (turn : Turn) (l : Link) (t : Tree) (x : ℕ) (c : Colour) (other : Tree) → count m (node_at turn l t x c other) ≡ cond (same l m) 1 0 + (count m t + count m other)
 unfolding count
@@ -131,6 +128,7 @@ unfoldable pub sides : Link → List Frame → ℕ
 sides m [] = 0
 sides m (fr ∷ C) = count m fr.other + sides m C
 
+-- a link stands in a tree as often as on the path, beside it and at its end
 pub count-plug : (m : Link) (C : List Frame) (t : Tree) → count m (plug C t) ≡ spine m C + (sides m C + count m t)
 unfolding spine sides
 count-plug m [] t = omega arith
@@ -156,6 +154,7 @@ avoids-count ls (node l a x c b) h = (
 pub twice : (l m : Link) (k : ℕ) → cond (same l m) 1 0 + k ≤ 1 → 1 ≤ k → l ≢ m
 twice l m k h o q = let s : same l m ≡ true = ap (λ n. same n m) q ∙ same-refl m in let z : cond (same l m) 1 0 + k ≡ 1 + k = ap (λ b. cond b 1 0 + k) s in omega (arith, z, h, o)
 
+-- each link of a path stands on it
 pub spine-all : (C : List Frame) → AllByRecursion (λ m. 1 ≤ spine m C) (links_of (entries C))
 unfolding spine
 spine-all [] = tt
@@ -164,6 +163,7 @@ spine-all (fr ∷ C) = (
   apart-all (λ m. 1 ≤ spine m C) (λ m. 1 ≤ cond (same fr.link m) 1 0 + spine m C) (λ m h. omega (arith, h)) (links_of (entries C)) (spine-all C),
 )
 
+-- links that do not stand beside a path
 pub clear-sides : (ls : List Link) (C : List Frame) → AllByRecursion (λ m. sides m C ≡ 0) ls → ClearOf ls C
 unfolding sides
 clear-sides ls [] h = tt
@@ -200,6 +200,7 @@ head_is a b xs ys e = cc
 pub tail_is : (a b : Link × Turn) (xs ys : List (Link × Turn)) → a ∷ xs ≡ b ∷ ys → xs ≡ ys
 tail_is a b xs ys e = cc
 
+-- frames of a path with a last entry have a last frame
 pub split-last : (C : List Frame) (es : List (Link × Turn)) (e : Link × Turn) → entries C ≡ es ++ e ∷ [] → LastFrame C es e
 split-last [] [] e q = cc
 split-last [] (x ∷ es) e q = cc

@@ -2,40 +2,23 @@
 use Rattle.std.proofs.Common.{◌≡◌, ℕ, List, [], ◌∷◌, ◌++◌, refl, sym, ap, ◌∙◌, subst, ◌+◌, ◌^◌, ◌≤◌, ◌<◌, arith, Some, None, Option, append_assoc, length}
 use Rattle.loc_pool.specs.declared.Link.{Link}
 use Rattle.loc_pool.specs.declared.Turn.{Turn}
-use Rattle.loc_pool.specs.declared.Turn.TheVariants.{Left, Right}
-use Rattle.loc_pool.specs.declared.Colour.{Colour}
-use Rattle.loc_rb.specs.Trees.{Row, Tree, leaf, node, node_at, top, items, Fits, plug, before, after, child_of, count}
+use Rattle.loc_pool.specs.declared.Turn.TheVariants.{Left}
+use Rattle.loc_rb.specs.Trees.{Row, Tree, leaf, node, top, items, Fits, plug, before, after, child_of}
 use Rattle.loc_rb.specs.Nodes.{Nodes, live, HasRow}
 use Rattle.loc_rb.specs.Balance.{IsRedBlack, depth}
 use Rattle.loc_rb.specs.Places.{Spot, Holds, Walk, Found}
-use Rattle.loc_rb.proofs.Trees.{fits-end, inner, plug-snoc, items-plug}
-use Rattle.loc_rb.proofs.OneChange.{pushed, frame_of, some-link}
+use Rattle.loc_rb.proofs.Trees.{count-leaf, inner, plug-snoc, items-plug}
+use Rattle.loc_rb.proofs.OneChange.{pushed, frame_of}
 use Rattle.loc_rb.proofs.ReadCalls.{child-is, node-has-row}
-use Rattle.loc_rb.proofs.Descent.{at-most-42, depth-plug, depth-under, no-tree}
-
--- a tree with a top, seen from a side
-record Sided (turn : Turn) (l : Link) (t : Tree) : Type 0 where
-  pub near : Tree
-  pub item : ℕ
-  pub colour : Colour
-  pub far : Tree
-  pub is : t ≡ node_at turn l near item colour far
-
-sided : (turn : Turn) (l : Link) (t : Tree) → top t ≡ Some l → Sided turn l t
-sided turn l leaf e = cc
-sided Left l (node m a x c b) e = record { near = a; item = x; colour = c; far = b; is = λ i. node (some-link m l e i) a x c b }
-sided Right l (node m a x c b) e = record { near = b; item = x; colour = c; far = a; is = λ i. node (some-link m l e i) a x c b }
+use Rattle.loc_rb.proofs.Descent.{at-most-42, depth-plug, depth-under, no-tree, sided, sided-fits}
 
 -- at the root
 pub walk-start : (n : Nodes) (list : List ℕ) → Holds n list → Walk n [] n.root list
 walk-start n list h = record { frames = []; tree = h.tree; spot = record { path = refl; fits = h.fits; apart = h.apart; root = h.root }; here = sym h.root; balanced = h.balanced; whole = h.list }
 
-walk-fits : (n : Nodes) (es : List (Link × Turn)) (at : Link) (list : List ℕ) (turn : Turn) (w : Walk n es (Some at) list) → (s : Sided turn at w.tree) → Fits (live n) (node_at turn at s.near s.item s.colour s.far)
-walk-fits n es at list turn w s = subst (λ (t : Tree). Fits (live n) t) s.is (fits-end (live n) w.frames w.tree w.spot.fits)
-
 -- the node there has a row
 pub walk-row : (n : Nodes) (es : List (Link × Turn)) (at : Link) (list : List ℕ) → Walk n es (Some at) list → HasRow n at
-walk-row n es at list w = let s = sided Left at w.tree w.here in node-has-row n Left at s.near s.item s.colour s.far (walk-fits n es at list Left w s)
+walk-row n es at list w = let s = sided Left at w.tree w.here in node-has-row n Left at s.near s.item s.colour s.far (sided-fits n es w.frames w.tree Left at w.spot s)
 
 -- one node further down
 pub walk-step : (n : Nodes) (es ps : List (Link × Turn)) (at : Link) (turn : Turn) (o : Option Link) (list : List ℕ) → Walk n es (Some at) list → ((y : Row) → n.rows at ≡ Some y → o ≡ child_of turn y) → ps ≡ es ++ (at, turn) ∷ [] → Walk n ps o list
@@ -46,7 +29,7 @@ walk-step n es ps at turn o list w h e =
       frames = w.frames ++ fr ∷ [];
       tree = s.near;
       spot = subst (λ (z : List (Link × Turn)). Spot n z (w.frames ++ fr ∷ []) s.near) (sym e) (pushed n es (at, turn) w.frames s.near s.item s.colour s.far (subst (λ (t : Tree). Spot n es w.frames t) s.is w.spot));
-      here = sym (child-is n turn at s.near s.item s.colour s.far o (walk-fits n es at list turn w s) h);
+      here = sym (child-is n turn at s.near s.item s.colour s.far o (sided-fits n es w.frames w.tree turn at w.spot s) h);
       balanced = subst (λ (t : Tree). IsRedBlack t) (sym same_tree) w.balanced;
       whole = ap items same_tree ∙ w.whole;
     }
@@ -93,10 +76,6 @@ child-tree n turn at t o f e h =
     let s = sided turn at t e in let g = subst (λ (z : Tree). Fits (live n) z) s.is f in
     (s.near, (inner (live n) turn at s.near s.item s.colour s.far g).0, sym (child-is n turn at s.near s.item s.colour s.far o g h), (let d = depth-under turn at s.near s.item s.colour s.far in let q = ap depth s.is in omega (arith, d, q)))
 
-count-none : (l : Link) → count l leaf ≤ 1
-unfolding count
-count-none l = omega arith
-
 -- no root, no items
 pub holds-none : (n : Nodes) → n.root ≡ None → Holds n []
-holds-none n e = record { tree = leaf; fits = tt; apart = λ l. count-none l; root = e; balanced = (tt, (0, refl)); list = refl }
+holds-none n e = record { tree = leaf; fits = tt; apart = λ l. let z = count-leaf l in omega (arith, z); root = e; balanced = (tt, (0, refl)); list = refl }

@@ -7,40 +7,47 @@ use Rattle.loc_rb.specs.Trees.{Tree, leaf, node, Frame}
 -- the tree may hang under a red node: it has no top, or a black one
 abbrev pub IsBlackTop : Tree → Type 0
 IsBlackTop leaf = Unit {0}
-IsBlackTop (node l a x Red b) = ⊥
-IsBlackTop (node l a x Black b) = Unit {0}
+IsBlackTop (node link left item Red right) = ⊥
+IsBlackTop (node link left item Black right) = Unit {0}
 
 -- the tree may hang under a node of this colour
 abbrev pub MayHang : Colour → Tree → Type 0
-MayHang Red t = IsBlackTop t
-MayHang Black t = Unit {0}
+MayHang Red tree = IsBlackTop tree
+MayHang Black tree = Unit {0}
 
 -- the black nodes that a node of this colour adds to a way down
 abbrev pub black : Colour → ℕ
 black Red = 0
 black Black = 1
 
--- no red node under a red one, and h black nodes on each way down
+-- no red node under a red one, and this many black nodes on each way down
 abbrev pub HasBlackHeight : Tree → ℕ → Type 0
-HasBlackHeight leaf h = h ≡ 0
-HasBlackHeight (node l a x c b) h = MayHang c a × MayHang c b × ((k : ℕ) × (h ≡ black c + k) × HasBlackHeight a k × HasBlackHeight b k)
+HasBlackHeight leaf height = height ≡ 0
+HasBlackHeight (node link left item colour right) height =
+    MayHang colour left × MayHang colour right × ((below : ℕ) × (height ≡ black colour + below) × HasBlackHeight left below × HasBlackHeight right below)
 
 -- a red-black tree: no red node at the top or under a red one, and as many black nodes on each way down (Guibas and Sedgewick 1978; Cormen et al., chapter 13)
 abbrev pub IsRedBlack : Tree → Type 0
-IsRedBlack t = IsBlackTop t × ((h : ℕ) × HasBlackHeight t h)
+IsRedBlack tree = IsBlackTop tree × ((height : ℕ) × HasBlackHeight tree height)
 
 -- the nodes on the longest way down
 abbrev pub depth : Tree → ℕ
 depth leaf = 0
-depth (node l a x c b) = max (depth a) (depth b) + 1
+depth (node link left item colour right) = max (depth left) (depth right) + 1
 
 -- a node of the second colour may hang under one of the first
 abbrev pub MayBe : Colour → Colour → Type 0
-MayBe Red c = c ≡ Black
-MayBe Black c = Unit {0}
+MayBe Red colour = colour ≡ Black
+MayBe Black colour = Unit {0}
 
--- what hangs at the end of the path is to have k black nodes on each way down and to hang under the colour d:
--- then the whole has h of them and may hang under c
+-- with a tree of this black height that may hang under `parent` at the end of the path, the whole has the black height `whole` and may hang under `over`
 abbrev pub Takes : Colour → ℕ → List Frame → Colour → ℕ → Type 0
-Takes c h [] d k = (c ≡ d) × (h ≡ k)
-Takes c h (fr ∷ C) d k = MayBe c fr.colour × MayHang fr.colour fr.other × ((i : ℕ) × (h ≡ black fr.colour + i) × HasBlackHeight fr.other i × Takes fr.colour i C d k)
+Takes over whole [] parent height = (over ≡ parent) × (whole ≡ height)
+Takes over whole (frame ∷ frames) parent height =
+    MayBe over frame.colour × MayHang frame.colour frame.other × ((below : ℕ) × (whole ≡ black frame.colour + below) × HasBlackHeight frame.other below × Takes frame.colour below frames parent height)
+
+-- with a tree of this black height that may hang under `parent` at the end of the path the whole is red-black
+pub record Awaits (frames : List Frame) (height : ℕ) : Type 0 where
+  pub whole : ℕ
+  pub parent : Colour
+  pub takes : Takes Red whole frames parent height

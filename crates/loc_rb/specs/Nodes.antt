@@ -6,8 +6,7 @@ use Rattle.loc_pool.specs.declared.Turn.{Turn}
 use Rattle.loc_pool.specs.declared.Colour.{Colour}
 use Rattle.loc_rb.specs.Trees.{Row, Reading, with_child, links_of, next, Once, Leads, Carried}
 
--- the nodes: the newest row of each link, whether it is the newest name of its node, the newest root,
--- the counts of `make` and of `change`, the room, and the sealed lists with their roots
+-- the nodes: the newest row of each link, whether it is the newest name of its node, the newest root, the counts of `make` and of `change`, the room, and the sealed lists with their roots
 pub record Nodes : Type 0 where
   pub rows : Reading
   pub current : Link → Bool
@@ -19,104 +18,108 @@ pub record Nodes : Type 0 where
 
 -- the row of a link that is current
 abbrev pub live : Nodes → Reading
-live n l = cond (n.current l) (n.rows l) None
+live nodes link = cond (nodes.current link) (nodes.rows link) None
 
 -- the link has a row
 abbrev pub HasRow : Nodes → Link → Type 0
-HasRow n l = (x : Row) × (n.rows l ≡ Some x)
+HasRow nodes link = (row : Row) × (nodes.rows link ≡ Some row)
 
--- it has one and is the newest name of its node
+-- the link has a row and is the newest name of its node
 abbrev pub IsLive : Nodes → Link → Type 0
-IsLive n l = (x : Row) × (live n l ≡ Some x)
+IsLive nodes link = (row : Row) × (live nodes link ≡ Some row)
 
 -- no link, or a live one
 abbrev pub IsLiveOrNone : Nodes → Option Link → Type 0
-IsLiveOrNone n to = (l : Link) → to ≡ Some l → IsLive n l
+IsLiveOrNone nodes to = (link : Link) → to ≡ Some link → IsLive nodes link
 
--- an item of an old row, or this one
+-- some row has the item
 abbrev pub IsOld : Nodes → ℕ → Type 0
-IsOld n item = (l : Link) × (x : Row) × (n.rows l ≡ Some x) × (x.item ≡ item)
+IsOld nodes item = (link : Link) × (row : Row) × (nodes.rows link ≡ Some row) × (row.item ≡ item)
 
 -- no row has an item that no row had before
 abbrev pub KeepsItems : Nodes → Nodes → Type 0
-KeepsItems n m = (l : Link) (x : Row) → m.rows l ≡ Some x → IsOld n x.item
+KeepsItems old now = (link : Link) (row : Row) → now.rows link ≡ Some row → IsOld old row.item
 
 -- what a call of `make` does
-pub record Makes (n m : Nodes) (item : ℕ) (colour : Colour) (r : Link) : Type 0 where
-  pub fresh : n.rows r ≡ None
-  pub here : m.rows r ≡ Some (record { item = item; left = None; right = None; colour = colour })
-  pub others : (l : Link) → l ≢ r → m.rows l ≡ n.rows l
-  pub current : m.current r ≡ true
-  pub others_current : (l : Link) → l ≢ r → m.current l ≡ n.current l
-  pub root : m.root ≡ n.root
-  pub made : m.made ≡ n.made + 1
-  pub changed : m.changed ≡ n.changed
-  pub spare : n.spare ≤ m.spare + 1
-  pub kept : m.kept ≡ n.kept
+pub record Makes (old now : Nodes) (item : ℕ) (colour : Colour) (result : Link) : Type 0 where
+  pub fresh : old.rows result ≡ None
+  pub here : now.rows result ≡ Some (record { item = item; left = None; right = None; colour = colour })
+  pub others : (link : Link) → link ≢ result → now.rows link ≡ old.rows link
+  pub current : now.current result ≡ true
+  pub others_current : (link : Link) → link ≢ result → now.current link ≡ old.current link
+  pub root : now.root ≡ old.root
+  pub made : now.made ≡ old.made + 1
+  pub changed : now.changed ≡ old.changed
+  pub spare : old.spare ≤ now.spare + 1
+  pub kept : now.kept ≡ old.kept
 
 -- what a call of `set_colour` does
-pub record Colours (n m : Nodes) (at : Link) (colour : Colour) : Type 0 where
-  pub here : (x : Row) → n.rows at ≡ Some x → m.rows at ≡ Some (record x { colour = colour })
-  pub others : (l : Link) → l ≢ at → m.rows l ≡ n.rows l
-  pub current : (l : Link) → m.current l ≡ n.current l
-  pub root : m.root ≡ n.root
-  pub made : m.made ≡ n.made
-  pub changed : m.changed ≡ n.changed
-  pub spare : m.spare ≡ n.spare
-  pub kept : m.kept ≡ n.kept
+pub record Colours (old now : Nodes) (at : Link) (colour : Colour) : Type 0 where
+  pub here : (row : Row) → old.rows at ≡ Some row → now.rows at ≡ Some (record row { colour = colour })
+  pub others : (link : Link) → link ≢ at → now.rows link ≡ old.rows link
+  pub current : (link : Link) → now.current link ≡ old.current link
+  pub root : now.root ≡ old.root
+  pub made : now.made ≡ old.made
+  pub changed : now.changed ≡ old.changed
+  pub spare : now.spare ≡ old.spare
+  pub kept : now.kept ≡ old.kept
 
 -- what a call of `put_root` does
-pub record Roots (n m : Nodes) (to : Option Link) : Type 0 where
-  pub root : m.root ≡ to
-  pub rows : (l : Link) → m.rows l ≡ n.rows l
-  pub current : (l : Link) → m.current l ≡ n.current l
-  pub made : m.made ≡ n.made
-  pub changed : m.changed ≡ n.changed
-  pub spare : m.spare ≡ n.spare
-  pub kept : m.kept ≡ n.kept
+pub record Roots (old now : Nodes) (to : Option Link) : Type 0 where
+  pub root : now.root ≡ to
+  pub rows : (link : Link) → now.rows link ≡ old.rows link
+  pub current : (link : Link) → now.current link ≡ old.current link
+  pub made : now.made ≡ old.made
+  pub changed : now.changed ≡ old.changed
+  pub spare : now.spare ≡ old.spare
+  pub kept : now.kept ≡ old.kept
 
 -- the path begins at the newest root, or the newest root is not on it
 abbrev pub IsFrom : Option Link → List (Link × Turn) → Link → Type 0
-IsFrom root es at = (root ≡ Some (next es at)) ⊎ AllByRecursion (λ l. root ≢ Some l) (at ∷ links_of es)
+IsFrom root path at = (root ≡ Some (next path at)) ⊎ AllByRecursion (λ link. root ≢ Some link) (at ∷ links_of path)
 
--- what `change` asks for: the path leads to `at`, no link stands twice on it, and o may be hung
-pub record CanChange (n : Nodes) (es : List (Link × Turn)) (at : Link) (o : Option Link) : Type 0 where
-  pub leads : Leads (live n) es at
-  pub once : Once (at ∷ links_of es)
-  pub from : IsFrom n.root es at
-  pub to : IsLiveOrNone n o
+-- what `change` asks for: the path leads to `at`, no link stands twice on it, and the child may be hung
+pub record CanChange (nodes : Nodes) (path : List (Link × Turn)) (at : Link) (child : Option Link) : Type 0 where
+  pub leads : Leads (live nodes) path at
+  pub once : Once (at ∷ links_of path)
+  pub from : IsFrom nodes.root path at
+  pub to : IsLiveOrNone nodes child
 
--- the link that stands for l: l itself, or a new one
+-- the second link stands for the first: it is the first, or a new one
 abbrev pub StandsFor : Nodes → Link → Link → Type 0
-StandsFor n l l' = (l' ≡ l) ⊎ (n.rows l' ≡ None)
+StandsFor nodes link link' = (link' ≡ link) ⊎ (nodes.rows link' ≡ None)
 
 -- each of the second links stands for the one in its place among the first
 abbrev pub StandFor : Nodes → List Link → List Link → Type 0
-StandFor n [] [] = Unit {0}
-StandFor n [] (l' ∷ ls') = ⊥
-StandFor n (l ∷ ls) [] = ⊥
-StandFor n (l ∷ ls) (l' ∷ ls') = StandsFor n l l' × StandFor n ls ls'
+StandFor nodes [] [] = Unit {0}
+StandFor nodes [] (link' ∷ links') = ⊥
+StandFor nodes (link ∷ links) [] = ⊥
+StandFor nodes (link ∷ links) (link' ∷ links') = StandsFor nodes link link' × StandFor nodes links links'
 
--- what a call of `change` does: r is the answer, and es' the path afterwards
-pub record Changes (n m : Nodes) (es es' : List (Link × Turn)) (at r : Link) (turn : Turn) (to : Option Link) : Type 0 where
-  pub here : (x : Row) → live n at ≡ Some x → live m r ≡ Some (with_child turn to x)
-  pub above : Carried (live n) (live m) es es' r
-  pub stand_for : StandFor n (at ∷ links_of es) (r ∷ links_of es')
-  pub once : Once (r ∷ links_of es')
-  pub others : (l : Link) → AllByRecursion (λ k. l ≢ k) (r ∷ links_of es') → (x : Row) → n.rows l ≡ Some x → m.rows l ≡ Some x
-  pub current : (l : Link) → AllByRecursion (λ k. l ≢ k) (at ∷ links_of es) → n.current l ≡ true → m.current l ≡ true
-  pub from_root : n.root ≡ Some (next es at) → m.root ≡ Some (next es' r)
-  pub other_root : AllByRecursion (λ l. n.root ≢ Some l) (at ∷ links_of es) → m.root ≡ n.root
-  pub items : KeepsItems n m
-  pub made : m.made ≡ n.made
-  pub changed : m.changed ≡ n.changed + 1
-  pub spare : n.spare ≤ m.spare + 45
-  pub kept : m.kept ≡ n.kept
+-- what a call of `change` does to rows, current links and the newest root: the result is the link of `at` afterwards, and path' the path afterwards
+pub record Exchanges (old now : Nodes) (path path' : List (Link × Turn)) (at result : Link) (turn : Turn) (to : Option Link) : Type 0 where
+  pub here : (row : Row) → live old at ≡ Some row → live now result ≡ Some (with_child turn to row)
+  pub above : Carried (live old) (live now) path path' result
+  pub stand_for : StandFor old (at ∷ links_of path) (result ∷ links_of path')
+  pub once : Once (result ∷ links_of path')
+  pub others : (link : Link) → AllByRecursion (λ other. link ≢ other) (result ∷ links_of path') → (row : Row) → old.rows link ≡ Some row → now.rows link ≡ Some row
+  pub current : (link : Link) → AllByRecursion (λ other. link ≢ other) (at ∷ links_of path) → old.current link ≡ true → now.current link ≡ true
+  pub from_root : old.root ≡ Some (next path at) → now.root ≡ Some (next path' result)
+  pub other_root : AllByRecursion (λ link. old.root ≢ Some link) (at ∷ links_of path) → now.root ≡ old.root
+  pub items : KeepsItems old now
 
--- k calls of `make`, at most j of `change`, the room that they take, and what stays
-pub record Within (k j : ℕ) (n m : Nodes) : Type 0 where
-  pub made : m.made ≡ n.made + k
-  pub changed : m.changed ≤ n.changed + j
-  pub spare : n.spare ≤ m.spare + (k + 45 * j)
-  pub kept : m.kept ≡ n.kept
-  pub items : KeepsItems n m
+-- what a call of `change` does: it exchanges, and is counted
+pub record Changes (old now : Nodes) (path path' : List (Link × Turn)) (at result : Link) (turn : Turn) (to : Option Link) : Type 0 where
+  pub rows : Exchanges old now path path' at result turn to
+  pub made : now.made ≡ old.made
+  pub changed : now.changed ≡ old.changed + 1
+  pub spare : old.spare ≤ now.spare + 45
+  pub kept : now.kept ≡ old.kept
+
+-- this many calls of `make`, at most this many of `change`, the room that they take, and what stays
+pub record Within (makes changes : ℕ) (old now : Nodes) : Type 0 where
+  pub made : now.made ≡ old.made + makes
+  pub changed : now.changed ≤ old.changed + changes
+  pub spare : old.spare ≤ now.spare + (makes + 45 * changes)
+  pub kept : now.kept ≡ old.kept
+  pub items : KeepsItems old now

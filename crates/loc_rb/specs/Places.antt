@@ -7,51 +7,52 @@ use Rattle.loc_rb.specs.Trees.{Tree, leaf, node, top, items, Fits, IsApart, Fram
 use Rattle.loc_rb.specs.Nodes.{Nodes, live}
 use Rattle.loc_rb.specs.Balance.{IsRedBlack}
 
--- a path from the newest root, and the tree at its end
-pub record Spot (n : Nodes) (es : List (Link × Turn)) (C : List Frame) (t : Tree) : Type 0 where
-  pub path : entries C ≡ es
-  pub fits : Fits (live n) (plug C t)
-  pub apart : IsApart (plug C t)
-  pub root : n.root ≡ top (plug C t)
+-- a path from the newest root, by its frames, and the tree at its end
+pub record Spot (nodes : Nodes) (steps : List (Link × Turn)) (frames : List Frame) (tree : Tree) : Type 0 where
+  pub path : entries frames ≡ steps
+  pub fits : Fits (live nodes) (plug frames tree)
+  pub apart : IsApart (plug frames tree)
+  pub root : nodes.root ≡ top (plug frames tree)
 
--- the tree of the newest root is red-black, and its list is this one
-pub record Holds (n : Nodes) (L : List ℕ) : Type 0 where
+-- the tree of the newest root is red-black, and has these items
+pub record Holds (nodes : Nodes) (content : List ℕ) : Type 0 where
   pub tree : Tree
-  pub fits : Fits (live n) tree
+  pub fits : Fits (live nodes) tree
   pub apart : IsApart tree
-  pub root : n.root ≡ top tree
+  pub root : nodes.root ≡ top tree
   pub balanced : IsRedBlack tree
-  pub list : items tree ≡ L
+  pub list : items tree ≡ content
 
--- in such a tree the path leads to a missing child, between these items
-pub record LeadsToGap (n : Nodes) (es : List (Link × Turn)) (L H : List ℕ) : Type 0 where
+-- in a red-black tree the path leads to a missing child, between these items
+pub record LeadsToGap (nodes : Nodes) (path : List (Link × Turn)) (preceding following : List ℕ) : Type 0 where
   pub frames : List Frame
-  pub spot : Spot n es frames leaf
+  pub spot : Spot nodes path frames leaf
   pub balanced : IsRedBlack (plug frames leaf)
-  pub low : before frames ≡ L
-  pub high : after frames ≡ H
+  pub low : before frames ≡ preceding
+  pub high : after frames ≡ following
 
--- in such a tree the path leads to `at`, which has this item and stands between these
-pub record LeadsTo (n : Nodes) (es : List (Link × Turn)) (at : Link) (L : List ℕ) (x : ℕ) (H : List ℕ) : Type 0 where
+-- in a red-black tree the path leads to `at`, which has this item and stands between these
+pub record LeadsTo (nodes : Nodes) (path : List (Link × Turn)) (at : Link) (preceding : List ℕ) (item : ℕ) (following : List ℕ) : Type 0 where
   pub frames : List Frame
   pub left : Tree
   pub colour : Colour
   pub right : Tree
-  pub spot : Spot n es frames (node at left x colour right)
-  pub balanced : IsRedBlack (plug frames (node at left x colour right))
-  pub low : before frames ++ items left ≡ L
-  pub high : items right ++ after frames ≡ H
+  pub spot : Spot nodes path frames (node at left item colour right)
+  pub balanced : IsRedBlack (plug frames (node at left item colour right))
+  pub low : before frames ++ items left ≡ preceding
+  pub high : items right ++ after frames ≡ following
 
--- a walk down the tree whose list this is: the path so far, and the top of what hangs at its end
-pub record Walk (n : Nodes) (es : List (Link × Turn)) (o : Option Link) (list : List ℕ) : Type 0 where
+-- a walk down the tree that has these items: the path so far, and the top of what hangs at its end
+pub record Walk (nodes : Nodes) (path : List (Link × Turn)) (reached : Option Link) (content : List ℕ) : Type 0 where
   pub frames : List Frame
   pub tree : Tree
-  pub spot : Spot n es frames tree
-  pub here : top tree ≡ o
+  pub spot : Spot nodes path frames tree
+  pub here : top tree ≡ reached
   pub balanced : IsRedBlack (plug frames tree)
-  pub whole : items (plug frames tree) ≡ list
+  pub whole : items (plug frames tree) ≡ content
 
--- where a search in that tree ended: at a missing child, or at a node
+-- where a search in the tree that has these items ended: at a missing child, or at a node
 abbrev pub Found : Nodes → List (Link × Turn) → Option Link → List ℕ → Type 0
-Found n es None list = (L : List ℕ) × (H : List ℕ) × LeadsToGap n es L H × (L ++ H ≡ list)
-Found n es (Some at) list = (L : List ℕ) × (x : ℕ) × (H : List ℕ) × LeadsTo n es at L x H × (L ++ x ∷ H ≡ list)
+Found nodes path None content = (preceding : List ℕ) × (following : List ℕ) × LeadsToGap nodes path preceding following × (preceding ++ following ≡ content)
+Found nodes path (Some at) content =
+    (preceding : List ℕ) × (item : ℕ) × (following : List ℕ) × LeadsTo nodes path at preceding item following × (preceding ++ item ∷ following ≡ content)

@@ -3,6 +3,6 @@ use Rattle.loc_rb.specs.declared.in_memory.InMemory.{InMemory}
 use Rattle.loc_rb.specs.Nodes.{Nodes}
 use Rattle.loc_rb.specs.InMemory.{store}
 
--- its nodes
+-- the nodes of the store
 abbrev pub nodes_of : InMemory → Nodes
-nodes_of s = store s.pool.rows s.root s.made s.changed s.room
+nodes_of memory = store memory.pool.rows memory.root memory.made memory.changed memory.room

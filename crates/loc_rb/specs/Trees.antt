@@ -20,13 +20,13 @@ Reading = Link → Option Row
 
 -- a row with one child exchanged
 abbrev pub with_child : Turn → Option Link → Row → Row
-with_child Left to x = record x { left = to }
-with_child Right to x = record x { right = to }
+with_child Left to row = record row { left = to }
+with_child Right to row = record row { right = to }
 
 -- the child of a row on a side
 abbrev pub child_of : Turn → Row → Option Link
-child_of Left x = x.left
-child_of Right x = x.right
+child_of Left row = row.left
+child_of Right row = row.right
 
 -- the other side
 abbrev pub flip : Turn → Turn
@@ -41,26 +41,27 @@ pub data Tree : Type 0 where
 -- the link of the node at the top
 abbrev pub top : Tree → Option Link
 top leaf = None
-top (node l a x c b) = Some l
+top (node link left item colour right) = Some link
 
 -- the items from left to right
 abbrev pub items : Tree → List ℕ
 items leaf = []
-items (node l a x c b) = items a ++ x ∷ items b
+items (node link left item colour right) = items left ++ item ∷ items right
 
 -- the rows are those of the tree
 abbrev pub Fits : Reading → Tree → Type 0
-Fits f leaf = Unit {0}
-Fits f (node l a x c b) = (f l ≡ Some (record { item = x; left = top a; right = top b; colour = c })) × Fits f a × Fits f b
+Fits reading leaf = Unit {0}
+Fits reading (node link left item colour right) =
+    (reading link ≡ Some (record { item = item; left = top left; right = top right; colour = colour })) × Fits reading left × Fits reading right
 
 -- how often a link stands in a tree
 unfoldable pub count : Link → Tree → ℕ
-count l leaf = 0
-count l (node m a x c b) = cond (same m l) 1 0 + (count l a + count l b)
+count link leaf = 0
+count link (node here left item colour right) = cond (same here link) 1 0 + (count link left + count link right)
 
 -- no link stands twice
 abbrev pub IsApart : Tree → Type 0
-IsApart t = (l : Link) → count l t ≤ 1
+IsApart tree = (link : Link) → count link tree ≤ 1
 
 -- a node on a path, with the child that the path does not take
 pub record Frame : Type 0 where
@@ -70,74 +71,75 @@ pub record Frame : Type 0 where
   pub colour : Colour
   pub other : Tree
 
--- a node whose child on the side `turn` is t
+-- a node by its children on the side `turn` and on the other side
 abbrev pub node_at : Turn → Link → Tree → ℕ → Colour → Tree → Tree
-node_at Left l t x c other = node l t x c other
-node_at Right l t x c other = node l other x c t
+node_at Left link tree item colour other = node link tree item colour other
+node_at Right link tree item colour other = node link other item colour tree
 
--- the node of a frame, with t as the child that the path takes
+-- the node of a frame, with this tree as the child that the path takes
 abbrev pub under : Frame → Tree → Tree
-under fr t = node_at fr.turn fr.link t fr.item fr.colour fr.other
+under frame tree = node_at frame.turn frame.link tree frame.item frame.colour frame.other
 
--- the tree at the end of a path, put back
+-- the whole tree, of the frames of a path and the tree at its end
 abbrev pub plug : List Frame → Tree → Tree
-plug [] t = t
-plug (fr ∷ frs) t = under fr (plug frs t)
+plug [] tree = tree
+plug (frame ∷ frames) tree = under frame (plug frames tree)
 
--- the frames name the path's entries
+-- the path of which these are the frames
 abbrev pub entries : List Frame → List (Link × Turn)
-entries = map (λ fr. (fr.link, fr.turn))
+entries = map (λ frame. (frame.link, frame.turn))
 
 -- the same frames but for their links
 abbrev pub SameButLinks : List Frame → List Frame → Type 0
 SameButLinks [] [] = Unit {0}
-SameButLinks [] (gr ∷ D) = ⊥
-SameButLinks (fr ∷ C) [] = ⊥
-SameButLinks (fr ∷ C) (gr ∷ D) = (gr.turn ≡ fr.turn) × (gr.item ≡ fr.item) × (gr.colour ≡ fr.colour) × (gr.other ≡ fr.other) × SameButLinks C D
+SameButLinks [] (frame' ∷ frames') = ⊥
+SameButLinks (frame ∷ frames) [] = ⊥
+SameButLinks (frame ∷ frames) (frame' ∷ frames') =
+    (frame'.turn ≡ frame.turn) × (frame'.item ≡ frame.item) × (frame'.colour ≡ frame.colour) × (frame'.other ≡ frame.other) × SameButLinks frames frames'
 
 -- the items of a frame that stand before what hangs there
 abbrev pub lower : Turn → ℕ → Tree → List ℕ
-lower Left x other = []
-lower Right x other = items other ++ x ∷ []
+lower Left item other = []
+lower Right item other = items other ++ item ∷ []
 
 -- the items of a frame that stand after what hangs there
 abbrev pub higher : Turn → ℕ → Tree → List ℕ
-higher Left x other = x ∷ items other
-higher Right x other = []
+higher Left item other = item ∷ items other
+higher Right item other = []
 
 -- the items before what hangs at the end of a path
 abbrev pub before : List Frame → List ℕ
 before [] = []
-before (fr ∷ frs) = lower fr.turn fr.item fr.other ++ before frs
+before (frame ∷ frames) = lower frame.turn frame.item frame.other ++ before frames
 
--- the items after it
+-- the items after what hangs at the end of a path
 abbrev pub after : List Frame → List ℕ
 after [] = []
-after (fr ∷ frs) = after frs ++ higher fr.turn fr.item fr.other
+after (frame ∷ frames) = after frames ++ higher frame.turn frame.item frame.other
 
 -- the links of a path
 abbrev pub links_of : List (Link × Turn) → List Link
-links_of = map (λ e. e.0)
+links_of = map (λ entry. entry.0)
 
--- the link that follows on a path that ends at r
+-- the first link of a path that ends at `last`
 abbrev pub next : List (Link × Turn) → Link → Link
-next [] r = r
-next (e ∷ es) r = e.0
+next [] last = last
+next (entry ∷ path) last = entry.0
 
 -- no link stands twice in the list
 abbrev pub Once : List Link → Type 0
 Once [] = Unit {0}
-Once (l ∷ ls) = AllByRecursion (λ m. l ≢ m) ls × Once ls
+Once (link ∷ links) = AllByRecursion (λ other. link ≢ other) links × Once links
 
 -- the path leads to `at`
 abbrev pub Leads : Reading → List (Link × Turn) → Link → Type 0
-Leads f [] at = (x : Row) × (f at ≡ Some x)
-Leads f (e ∷ es) at = ((x : Row) × (f e.0 ≡ Some x) × (child_of e.1 x ≡ Some (next es at))) × Leads f es at
+Leads reading [] at = (row : Row) × (reading at ≡ Some row)
+Leads reading (entry ∷ path) at = ((row : Row) × (reading entry.0 ≡ Some row) × (child_of entry.1 row ≡ Some (next path at))) × Leads reading path at
 
 -- each entry of the path stands, under its new link, as it stood, but for the child that the path takes
 abbrev pub Carried : Reading → Reading → List (Link × Turn) → List (Link × Turn) → Link → Type 0
-Carried f g [] [] r = Unit {0}
-Carried f g [] (e' ∷ es') r = ⊥
-Carried f g (e ∷ es) [] r = ⊥
-Carried f g (e ∷ es) (e' ∷ es') r =
-    (e'.1 ≡ e.1) × ((x : Row) → f e.0 ≡ Some x → g e'.0 ≡ Some (with_child e.1 (Some (next es' r)) x)) × Carried f g es es' r
+Carried old now [] [] last = Unit {0}
+Carried old now [] (entry' ∷ path') last = ⊥
+Carried old now (entry ∷ path) [] last = ⊥
+Carried old now (entry ∷ path) (entry' ∷ path') last =
+    (entry'.1 ≡ entry.1) × ((row : Row) → old entry.0 ≡ Some row → now entry'.0 ≡ Some (with_child entry.1 (Some (next path' last)) row)) × Carried old now path path' last

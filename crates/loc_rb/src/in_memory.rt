@@ -178,10 +178,10 @@ fn children(pool: &Pool, at: Link, turn: Turn, to: Option<Link>) -> (Option<Link
 
 /// The newest root, or `new` where it is stamped.
 fn root_after(pool: &Pool, root: Option<Link>, new: Link) -> Option<Link>
-    requires { (l : Link) → root ≡ Some l → IsTrue (has pool.now.rows l) }
+    requires { (link : Link) → root ≡ Some link → IsTrue (has pool.now.rows link) }
     ensures none { root ≡ None → result ≡ None }
-    ensures same { (l : Link) → root ≡ Some l → (row pool.now.rows l).extra ≡ None → result ≡ root }
-    ensures new { (l : Link) → root ≡ Some l → (row pool.now.rows l).extra ≢ None → result ≡ Some new }
+    ensures same { (link : Link) → root ≡ Some link → (row pool.now.rows link).extra ≡ None → result ≡ root }
+    ensures new { (link : Link) → root ≡ Some link → (row pool.now.rows link).extra ≢ None → result ≡ Some new }
 {
     match root {
         None => None,

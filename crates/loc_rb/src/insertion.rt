@@ -17,12 +17,12 @@ use loc_pool::{Colour, Link, Turn};
 /// Puts `item` in the place of the missing child to which the path leads. Takes no memory: the room was taken before.
 pub fn insert<K: Links>(links: &mut K, path: Path, item: u32)
     requires room { 640 ≤ (K.nodes links.old).spare }
-    requires place { (L H : List ℕ) × LeadsToGap (K.nodes links.old) path.items L H }
-    ensures tree { (L H : List ℕ) → LeadsToGap (K.nodes links.old) path.items L H → Holds (K.nodes links.new) (L ++ item ∷ H) }
+    requires place { (preceding following : List ℕ) × LeadsToGap (K.nodes links.old) path.items preceding following }
+    ensures tree { (preceding following : List ℕ) → LeadsToGap (K.nodes links.old) path.items preceding following → Holds (K.nodes links.new) (preceding ++ item ∷ following) }
     ensures made { (K.nodes links.new).made ≡ (K.nodes links.old).made + 1 }
     ensures changed { (K.nodes links.new).changed ≤ (K.nodes links.old).changed + 7 }
     ensures kept { (K.nodes links.new).kept ≡ (K.nodes links.old).kept }
-    ensures items { (l : Link) (x : Row) → (K.nodes links.new).rows l ≡ Some x → (x.item ≡ item) ⊎ IsOld (K.nodes links.old) x.item }
+    ensures items { (link : Link) (row : Row) → (K.nodes links.new).rows link ≡ Some row → (row.item ≡ item) ⊎ IsOld (K.nodes links.old) row.item }
 {
     let mut path = path;
     let new = links.make(item, Colour::Red);
@@ -34,8 +34,8 @@ pub fn insert<K: Links>(links: &mut K, path: Path, item: u32)
 fn fix_insertion<K: Links>(links: &mut K, path: &mut Path, new: Link)
     requires room { 270 ≤ (K.nodes links.old).spare }
     requires short { length path.old.items ≤ 44 }
-    requires place { (L : List ℕ) × RedViolation (K.nodes links.old) path.old.items new L }
-    ensures tree { (L : List ℕ) → RedViolation (K.nodes links.old) path.old.items new L → Holds (K.nodes links.new) L }
+    requires place { (content : List ℕ) × RedViolation (K.nodes links.old) path.old.items new content }
+    ensures tree { (content : List ℕ) → RedViolation (K.nodes links.old) path.old.items new content → Holds (K.nodes links.new) content }
     ensures within { Within 0 6 (K.nodes links.old) (K.nodes links.new) }
 {
     let mut red = new;
@@ -66,9 +66,9 @@ fn fix_insertion<K: Links>(links: &mut K, path: &mut Path, new: Link)
 /// The black of `up` goes to its two children.
 fn recolour<K: Links>(links: &mut K, up: Link, at: Link, uncle: Link)
     requires { IsLive (K.nodes links.old) up × IsLive (K.nodes links.old) at × IsLive (K.nodes links.old) uncle }
-    ensures tree { (es : List (Link × Turn)) (C : List Frame) (side turn : Turn) (t : Tree) (x : ℕ) (other : Tree) (y : ℕ) (a : Tree) (z : ℕ) (b : Tree)
-        → Spot (K.nodes links.old) es C (node_at side up (node_at turn at t x Red other) y Black (node uncle a z Red b))
-        → Spot (K.nodes links.new) es C (node_at side up (node_at turn at t x Black other) y Red (node uncle a z Black b)) }
+    ensures tree { (path : List (Link × Turn)) (frames : List Frame) (side turn : Turn) (tree : Tree) (item : ℕ) (other : Tree) (up_item : ℕ) (left : Tree) (uncle_item : ℕ) (right : Tree)
+        → Spot (K.nodes links.old) path frames (node_at side up (node_at turn at tree item Red other) up_item Black (node uncle left uncle_item Red right))
+        → Spot (K.nodes links.new) path frames (node_at side up (node_at turn at tree item Black other) up_item Red (node uncle left uncle_item Black right)) }
     ensures within { Within 0 0 (K.nodes links.old) (K.nodes links.new) }
 {
     links.set_colour(at, Colour::Black);
@@ -88,8 +88,8 @@ fn rotate_grandparent<K: Links>(
 )
     requires room { 270 ≤ (K.nodes links.old).spare }
     requires short { length path.old.items ≤ 42 }
-    requires place { (L : List ℕ) × (o : RedPair (K.nodes links.old) path.old.items up side at turn red L) × IsBlackTop o.uncle }
-    ensures tree { (L : List ℕ) (o : RedPair (K.nodes links.old) path.old.items up side at turn red L) → IsBlackTop o.uncle → Holds (K.nodes links.new) L }
+    requires place { (content : List ℕ) × (pair : RedPair (K.nodes links.old) path.old.items up side at turn red content) × IsBlackTop pair.uncle }
+    ensures tree { (content : List ℕ) (pair : RedPair (K.nodes links.old) path.old.items up side at turn red content) → IsBlackTop pair.uncle → Holds (K.nodes links.new) content }
     ensures within { Within 0 6 (K.nodes links.old) (K.nodes links.new) }
 {
     push(path, up, side);
@@ -108,10 +108,10 @@ fn straighten<K: Links>(
 ) -> Link
     requires room { 135 ≤ (K.nodes links.old).spare }
     requires short { length path.old.items ≤ 43 }
-    requires place { (es : List (Link × Turn)) × (up : Link) × (L : List ℕ) × (path.old.items ≡ es ++ (up, side) ∷ [])
-        × (o : RedPair (K.nodes links.old) es up side at turn red L) × IsBlackTop o.uncle }
-    ensures tree { (es : List (Link × Turn)) (up : Link) (L : List ℕ) → path.old.items ≡ es ++ (up, side) ∷ []
-        → (o : RedPair (K.nodes links.old) es up side at turn red L) → IsBlackTop o.uncle → OuterPair (K.nodes links.new) path.new.items result L }
+    requires place { (above : List (Link × Turn)) × (up : Link) × (content : List ℕ) × (path.old.items ≡ above ++ (up, side) ∷ [])
+        × (pair : RedPair (K.nodes links.old) above up side at turn red content) × IsBlackTop pair.uncle }
+    ensures tree { (above : List (Link × Turn)) (up : Link) (content : List ℕ) → path.old.items ≡ above ++ (up, side) ∷ []
+        → (pair : RedPair (K.nodes links.old) above up side at turn red content) → IsBlackTop pair.uncle → OuterPair (K.nodes links.new) path.new.items result content }
     ensures within { Within 0 3 (K.nodes links.old) (K.nodes links.new) }
     ensures length { length path.new.items ≡ length path.old.items }
 {

@@ -23,17 +23,17 @@ pub trait Links {
     /// The item of a node.
     fn item(&self, at: Link) -> u32
         requires { HasRow (nodes self.now) at }
-        ensures { (x : Row) → (nodes self.now).rows at ≡ Some x → result ≡ x.item };
+        ensures { (row : Row) → (nodes self.now).rows at ≡ Some row → result ≡ row.item };
 
     /// The newest child of a node on a side.
     fn child(&self, at: Link, turn: Turn) -> Option<Link>
         requires { HasRow (nodes self.now) at }
-        ensures { (x : Row) → (nodes self.now).rows at ≡ Some x → result ≡ child_of turn x };
+        ensures { (row : Row) → (nodes self.now).rows at ≡ Some row → result ≡ child_of turn row };
 
     /// The colour of a node.
     fn colour(&self, at: Link) -> Colour
         requires { HasRow (nodes self.now) at }
-        ensures { (x : Row) → (nodes self.now).rows at ≡ Some x → result ≡ x.colour };
+        ensures { (row : Row) → (nodes self.now).rows at ≡ Some row → result ≡ row.colour };
 
     /// Changes the colour in that one row.
     fn set_colour(&mut self, at: Link, colour: Colour)

@@ -19,8 +19,8 @@ use loc_pool::{Colour, Link, Turn};
 /// Takes out the item of the node `at`, to which the path leads. Takes no memory: the room was taken before.
 pub fn remove<K: Links>(links: &mut K, path: Path, at: Link)
     requires room { 640 ≤ (K.nodes links.old).spare }
-    requires place { (L : List ℕ) × (x : ℕ) × (H : List ℕ) × LeadsTo (K.nodes links.old) path.items at L x H × (length L + length H < 2 ^ 21) }
-    ensures tree { (L : List ℕ) (x : ℕ) (H : List ℕ) → LeadsTo (K.nodes links.old) path.items at L x H → Holds (K.nodes links.new) (L ++ H) }
+    requires place { (preceding : List ℕ) × (item : ℕ) × (following : List ℕ) × LeadsTo (K.nodes links.old) path.items at preceding item following × (length preceding + length following < 2 ^ 21) }
+    ensures tree { (preceding : List ℕ) (item : ℕ) (following : List ℕ) → LeadsTo (K.nodes links.old) path.items at preceding item following → Holds (K.nodes links.new) (preceding ++ following) }
     ensures made { (K.nodes links.new).made ≤ (K.nodes links.old).made + 1 }
     ensures changed { (K.nodes links.new).changed ≤ (K.nodes links.old).changed + 13 }
     ensures kept { (K.nodes links.new).kept ≡ (K.nodes links.old).kept }
@@ -35,9 +35,10 @@ pub fn remove<K: Links>(links: &mut K, path: Path, at: Link)
 /// out, to which the path leads, and which has a child at most.
 fn put_successor<K: Links>(links: &mut K, path: &mut Path, at: Link) -> Link
     requires room { 136 ≤ (K.nodes links.old).spare }
-    requires place { (L : List ℕ) × (x : ℕ) × (H : List ℕ) × LeadsTo (K.nodes links.old) path.old.items at L x H × (length L + length H < 2 ^ 21) }
-    ensures tree { (L : List ℕ) (x : ℕ) (H : List ℕ) → LeadsTo (K.nodes links.old) path.old.items at L x H → ToSpliceOut (K.nodes links.new) path.new.items result (L ++ H) }
-    ensures within { (k : ℕ) × (k ≤ 1) × Within k 3 (K.nodes links.old) (K.nodes links.new) }
+    requires place { (preceding : List ℕ) × (item : ℕ) × (following : List ℕ) × LeadsTo (K.nodes links.old) path.old.items at preceding item following × (length preceding + length following < 2 ^ 21) }
+    ensures tree { (preceding : List ℕ) (item : ℕ) (following : List ℕ) → LeadsTo (K.nodes links.old) path.old.items at preceding item following
+        → ToSpliceOut (K.nodes links.new) path.new.items result (preceding ++ following) }
+    ensures within { (makes : ℕ) × (makes ≤ 1) × Within makes 3 (K.nodes links.old) (K.nodes links.new) }
     ensures short { length path.new.items ≤ 42 }
 {
     match links.child(at, Turn::Left) {
@@ -60,9 +61,9 @@ fn put_successor<K: Links>(links: &mut K, path: &mut Path, at: Link) -> Link
 
 /// Goes on to the first node of the tree of `start`, to which the path leads.
 fn minimum<K: Links>(links: &K, path: &mut Path, start: Link) -> Link
-    requires place { (C : List Frame) × (t : Tree) × Spot (K.nodes links.now) path.old.items C t × (top t ≡ Some start) × (length path.old.items + depth t ≤ 43) }
-    ensures tree { (C : List Frame) (t : Tree) → Spot (K.nodes links.now) path.old.items C t → top t ≡ Some start
-        → (d : LeftmostPath (K.nodes links.now) path.new.items C t result) × (a : ℕ) × (c : Colour) × (b : Tree) × (d.tree ≡ node result leaf a c b) }
+    requires place { (frames : List Frame) × (tree : Tree) × Spot (K.nodes links.now) path.old.items frames tree × (top tree ≡ Some start) × (length path.old.items + depth tree ≤ 43) }
+    ensures tree { (frames : List Frame) (tree : Tree) → Spot (K.nodes links.now) path.old.items frames tree → top tree ≡ Some start
+        → (leftmost : LeftmostPath (K.nodes links.now) path.new.items frames tree result) × (item : ℕ) × (colour : Colour) × (right : Tree) × (leftmost.tree ≡ node result leaf item colour right) }
     ensures longer { (remaining : List (Link × Turn)) × (path.new.items ≡ path.old.items ++ remaining) }
 {
     let mut at = start;
@@ -79,7 +80,8 @@ fn replace_node<K: Links>(links: &mut K, path: &mut Path, at: Link, item: u32) -
     requires short { length path.old.items ≤ 44 }
     requires old { IsOld (K.nodes links.old) item }
     requires place { NodeAt (K.nodes links.old) path.old.items at }
-    ensures tree { (p : NodeAt (K.nodes links.old) path.old.items at) → Replaced (K.nodes links.new) path.new.items p.frames (node result p.left item p.colour p.right) }
+    ensures tree { (place : NodeAt (K.nodes links.old) path.old.items at)
+        → Replaced (K.nodes links.new) path.new.items place.frames (node result place.left item place.colour place.right) }
     ensures within { Within 1 3 (K.nodes links.old) (K.nodes links.new) }
     ensures length { length path.new.items ≡ length path.old.items }
 {
@@ -99,8 +101,8 @@ fn replace_node<K: Links>(links: &mut K, path: &mut Path, at: Link, item: u32) -
 fn splice_out<K: Links>(links: &mut K, path: &mut Path, at: Link)
     requires room { 450 ≤ (K.nodes links.old).spare }
     requires short { length path.old.items ≤ 42 }
-    requires place { (L : List ℕ) × ToSpliceOut (K.nodes links.old) path.old.items at L }
-    ensures tree { (L : List ℕ) → ToSpliceOut (K.nodes links.old) path.old.items at L → Holds (K.nodes links.new) L }
+    requires place { (content : List ℕ) × ToSpliceOut (K.nodes links.old) path.old.items at content }
+    ensures tree { (content : List ℕ) → ToSpliceOut (K.nodes links.old) path.old.items at content → Holds (K.nodes links.new) content }
     ensures within { Within 0 10 (K.nodes links.old) (K.nodes links.new) }
 {
     let child = only_child(links, at);
@@ -117,8 +119,8 @@ fn splice_out<K: Links>(links: &mut K, path: &mut Path, at: Link)
 
 /// The child of a node that has one at most.
 fn only_child<K: Links>(links: &K, at: Link) -> Option<Link>
-    requires { (a : Tree) × (x : ℕ) × (c : Colour) × (b : Tree) × Fits (live (K.nodes links.now)) (node at a x c b) }
-    ensures { (a : Tree) (x : ℕ) (c : Colour) (b : Tree) → Fits (live (K.nodes links.now)) (node at a x c b) → result ≡ top (remaining a b) }
+    requires { (left : Tree) × (item : ℕ) × (colour : Colour) × (right : Tree) × Fits (live (K.nodes links.now)) (node at left item colour right) }
+    ensures { (left : Tree) (item : ℕ) (colour : Colour) (right : Tree) → Fits (live (K.nodes links.now)) (node at left item colour right) → result ≡ top (remaining left right) }
 {
     match links.child(at, Turn::Left) {
         None => links.child(at, Turn::Right),
@@ -130,8 +132,8 @@ fn only_child<K: Links>(links: &K, at: Link) -> Option<Link>
 fn fix_removal<K: Links>(links: &mut K, path: &mut Path)
     requires room { 405 ≤ (K.nodes links.old).spare }
     requires short { length path.old.items ≤ 42 }
-    requires place { (L : List ℕ) × LacksBlack (K.nodes links.old) path.old.items L }
-    ensures tree { (L : List ℕ) → LacksBlack (K.nodes links.old) path.old.items L → Holds (K.nodes links.new) L }
+    requires place { (content : List ℕ) × LacksBlack (K.nodes links.old) path.old.items content }
+    ensures tree { (content : List ℕ) → LacksBlack (K.nodes links.old) path.old.items content → Holds (K.nodes links.new) content }
     ensures within { Within 0 9 (K.nodes links.old) (K.nodes links.new) }
 {
     'up: while let Some((at, turn)) = path.pop() {
@@ -161,9 +163,9 @@ fn rotate_red_sibling<K: Links>(
 ) -> Link
     requires room { 135 ≤ (K.nodes links.old).spare }
     requires short { length path.old.items ≤ 42 }
-    requires place { (L : List ℕ) × (u : Uneven (K.nodes links.old) path.old.items at turn L) × IsRedTop sibling u.other }
-    ensures tree { (L : List ℕ) (u : Uneven (K.nodes links.old) path.old.items at turn L) → IsRedTop sibling u.other
-        → (v : Uneven (K.nodes links.new) path.new.items result turn L) × IsBlackTop v.other × (v.colour ≡ Red) }
+    requires place { (content : List ℕ) × (uneven : Uneven (K.nodes links.old) path.old.items at turn content) × IsRedTop sibling uneven.other }
+    ensures tree { (content : List ℕ) (uneven : Uneven (K.nodes links.old) path.old.items at turn content) → IsRedTop sibling uneven.other
+        → (lower : Uneven (K.nodes links.new) path.new.items result turn content) × IsBlackTop lower.other × (lower.colour ≡ Red) }
     ensures within { Within 0 3 (K.nodes links.old) (K.nodes links.new) }
     ensures length { length path.new.items ≡ length path.old.items + 1 }
 {
@@ -178,9 +180,9 @@ fn rotate_red_sibling<K: Links>(
 fn fix_black_sibling<K: Links>(links: &mut K, path: &mut Path, at: Link, turn: Turn) -> bool
     requires room { 270 ≤ (K.nodes links.old).spare }
     requires short { length path.old.items ≤ 42 }
-    requires place { (L : List ℕ) × (u : Uneven (K.nodes links.old) path.old.items at turn L) × IsBlackTop u.other }
-    ensures tree { (L : List ℕ) (u : Uneven (K.nodes links.old) path.old.items at turn L) → IsBlackTop u.other
-        → (IsTrue result → Holds (K.nodes links.new) L) × (IsTrue (not result) → (u.colour ≡ Black) × LacksBlack (K.nodes links.new) path.new.items L) }
+    requires place { (content : List ℕ) × (uneven : Uneven (K.nodes links.old) path.old.items at turn content) × IsBlackTop uneven.other }
+    ensures tree { (content : List ℕ) (uneven : Uneven (K.nodes links.old) path.old.items at turn content) → IsBlackTop uneven.other
+        → (IsTrue result → Holds (K.nodes links.new) content) × (IsTrue (not result) → (uneven.colour ≡ Black) × LacksBlack (K.nodes links.new) path.new.items content) }
     ensures within { Within 0 6 (K.nodes links.old) (K.nodes links.new) }
     ensures still { IsTrue (not result) → Within 0 0 (K.nodes links.old) (K.nodes links.new) }
     ensures length { IsTrue (not result) → length path.new.items ≡ length path.old.items }
@@ -214,8 +216,8 @@ fn rotate_sibling<K: Links>(
 )
     requires room { 135 ≤ (K.nodes links.old).spare }
     requires short { length path.old.items ≤ 42 }
-    requires place { (L : List ℕ) × (s : Siblings (K.nodes links.old) path.old.items at turn sibling L) × IsRedTop far s.far }
-    ensures tree { (L : List ℕ) (s : Siblings (K.nodes links.old) path.old.items at turn sibling L) → IsRedTop far s.far → Holds (K.nodes links.new) L }
+    requires place { (content : List ℕ) × (siblings : Siblings (K.nodes links.old) path.old.items at turn sibling content) × IsRedTop far siblings.far }
+    ensures tree { (content : List ℕ) (siblings : Siblings (K.nodes links.old) path.old.items at turn sibling content) → IsRedTop far siblings.far → Holds (K.nodes links.new) content }
     ensures within { Within 0 3 (K.nodes links.old) (K.nodes links.new) }
 {
     let colour = links.colour(at);
@@ -235,8 +237,8 @@ fn rotate_near_nephew<K: Links>(
 )
     requires room { 270 ≤ (K.nodes links.old).spare }
     requires short { length path.old.items ≤ 42 }
-    requires place { (L : List ℕ) × (s : Siblings (K.nodes links.old) path.old.items at turn sibling L) × IsRedTop near s.near }
-    ensures tree { (L : List ℕ) (s : Siblings (K.nodes links.old) path.old.items at turn sibling L) → IsRedTop near s.near → Holds (K.nodes links.new) L }
+    requires place { (content : List ℕ) × (siblings : Siblings (K.nodes links.old) path.old.items at turn sibling content) × IsRedTop near siblings.near }
+    ensures tree { (content : List ℕ) (siblings : Siblings (K.nodes links.old) path.old.items at turn sibling content) → IsRedTop near siblings.near → Holds (K.nodes links.new) content }
     ensures within { Within 0 6 (K.nodes links.old) (K.nodes links.new) }
 {
     let colour = links.colour(at);
@@ -248,9 +250,10 @@ fn rotate_near_nephew<K: Links>(
 
 /// No child of the sibling is red: it becomes red. Answers whether `at` was red, and so has a black to give.
 fn recolour_sibling<K: Links>(links: &mut K, at: Link, sibling: Link) -> bool
-    requires { (es : List (Link × Turn)) × (turn : Turn) × (L : List ℕ) × (s : Siblings (K.nodes links.old) es at turn sibling L) × IsBlackTop s.near × IsBlackTop s.far }
-    ensures tree { (es : List (Link × Turn)) (turn : Turn) (L : List ℕ) (s : Siblings (K.nodes links.old) es at turn sibling L) → IsBlackTop s.near → IsBlackTop s.far
-        → (IsTrue result → Holds (K.nodes links.new) L) × (IsTrue (not result) → (s.colour ≡ Black) × LacksBlack (K.nodes links.new) es L) }
+    requires { (path : List (Link × Turn)) × (turn : Turn) × (content : List ℕ) × (siblings : Siblings (K.nodes links.old) path at turn sibling content)
+        × IsBlackTop siblings.near × IsBlackTop siblings.far }
+    ensures tree { (path : List (Link × Turn)) (turn : Turn) (content : List ℕ) (siblings : Siblings (K.nodes links.old) path at turn sibling content) → IsBlackTop siblings.near → IsBlackTop siblings.far
+        → (IsTrue result → Holds (K.nodes links.new) content) × (IsTrue (not result) → (siblings.colour ≡ Black) × LacksBlack (K.nodes links.new) path content) }
     ensures within { Within 0 0 (K.nodes links.old) (K.nodes links.new) }
 {
     links.set_colour(sibling, Colour::Red);

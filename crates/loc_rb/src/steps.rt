@@ -43,8 +43,9 @@ pub(crate) fn is_same_side(side: Turn, turn: Turn) -> bool
 pub(crate) fn transplant<K: Links>(links: &mut K, path: &mut Path, to: Option<Link>)
     requires room { 45 ≤ (K.nodes links.old).spare }
     requires short { length path.old.items ≤ 44 }
-    requires place { (C : List Frame) × (s : Tree) × (v : Tree) × CanTransplant (K.nodes links.old) path.old.items C s v to }
-    ensures tree { (C : List Frame) (s v : Tree) → CanTransplant (K.nodes links.old) path.old.items C s v to → Replaced (K.nodes links.new) path.new.items C v }
+    requires place { (frames : List Frame) × (present : Tree) × (replacement : Tree) × CanTransplant (K.nodes links.old) path.old.items frames present replacement to }
+    ensures tree { (frames : List Frame) (present replacement : Tree) → CanTransplant (K.nodes links.old) path.old.items frames present replacement to
+        → Replaced (K.nodes links.new) path.new.items frames replacement }
     ensures within { Within 0 1 (K.nodes links.old) (K.nodes links.new) }
     ensures length { length path.new.items ≡ length path.old.items }
 {
@@ -69,8 +70,9 @@ pub(crate) fn rotate<K: Links>(
     requires room { 135 ≤ (K.nodes links.old).spare }
     requires short { length path.old.items ≤ 44 }
     requires place { ToRotate (K.nodes links.old) path.old.items child }
-    ensures tree { (r : ToRotate (K.nodes links.old) path.old.items child)
-        → Replaced (K.nodes links.new) path.new.items r.frames (node_at (flip r.turn) result.1 (node_at r.turn result.0 r.inner r.x low_colour r.outer) r.y high_colour r.far) }
+    ensures tree { (turned : ToRotate (K.nodes links.old) path.old.items child)
+        → Replaced (K.nodes links.new) path.new.items turned.frames
+        (node_at (flip turned.turn) result.1 (node_at turned.turn result.0 turned.inner turned.item low_colour turned.outer) turned.child_item high_colour turned.far) }
     ensures within { Within 0 3 (K.nodes links.old) (K.nodes links.new) }
     ensures length { length path.new.items + 1 ≡ length path.old.items }
 {
@@ -97,9 +99,9 @@ fn colour_pair<K: Links>(
     high_colour: Colour,
 )
     requires { IsLive (K.nodes links.old) low × IsLive (K.nodes links.old) high }
-    ensures tree { (es : List (Link × Turn)) (C : List Frame) (turn : Turn) (x y : ℕ) (cx cy : Colour) (a b d : Tree)
-        → Spot (K.nodes links.old) es C (node_at (flip turn) high (node_at turn low b x cx a) y cy d)
-        → Spot (K.nodes links.new) es C (node_at (flip turn) high (node_at turn low b x low_colour a) y high_colour d) }
+    ensures tree { (path : List (Link × Turn)) (frames : List Frame) (turn : Turn) (low_item high_item : ℕ) (low_was high_was : Colour) (outer inner far : Tree)
+        → Spot (K.nodes links.old) path frames (node_at (flip turn) high (node_at turn low inner low_item low_was outer) high_item high_was far)
+        → Spot (K.nodes links.new) path frames (node_at (flip turn) high (node_at turn low inner low_item low_colour outer) high_item high_colour far) }
     ensures within { Within 0 0 (K.nodes links.old) (K.nodes links.new) }
 {
     links.set_colour(low, low_colour);
@@ -108,9 +110,9 @@ fn colour_pair<K: Links>(
 
 /// The child on that side, where it is red.
 pub(crate) fn red_child<K: Links>(links: &K, at: Link, turn: Turn) -> Option<Link>
-    requires { (t : Tree) × (x : ℕ) × (c : Colour) × (other : Tree) × Fits (live (K.nodes links.now)) (node_at turn at t x c other) }
-    ensures { (t : Tree) (x : ℕ) (c : Colour) (other : Tree) → Fits (live (K.nodes links.now)) (node_at turn at t x c other)
-        → MatchOption result (IsBlackTop t) (λ child. IsRedTop child t) }
+    requires { (tree : Tree) × (item : ℕ) × (colour : Colour) × (other : Tree) × Fits (live (K.nodes links.now)) (node_at turn at tree item colour other) }
+    ensures { (tree : Tree) (item : ℕ) (colour : Colour) (other : Tree) → Fits (live (K.nodes links.now)) (node_at turn at tree item colour other)
+        → MatchOption result (IsBlackTop tree) (λ child. IsRedTop child tree) }
 {
     match links.child(at, turn) {
         None => None,

@@ -44,7 +44,7 @@ fn append(
     deep: u32,
     list: &mut Vec<u32>,
 ) -> Result<(), AllocError>
-    requires { (t : Tree) × Fits (live (⟦<InMemory as Links>⟧.nodes store.now)) t × (top t ≡ at) × (depth t ≤ deep) }
+    requires { (tree : Tree) × Fits (live (⟦<InMemory as Links>⟧.nodes store.now)) tree × (top tree ≡ at) × (depth tree ≤ deep) }
 {
     match at {
         None => Ok(()),

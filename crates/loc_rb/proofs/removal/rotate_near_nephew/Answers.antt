@@ -29,8 +29,8 @@ returns-clause-tree g c L s t =
     let n = g.K.Links.nodes c.args.links.now in let m = g.K.Links.nodes c.rotate.new.links in let o = c.other_side.result in let es = c.args.path.now.items in let at = c.args.at in let turn = c.args.turn in let sib = c.args.sibling in let near = c.args.near in
     let low = c.rotate.result.0 in let mid = c.rotate.result.1 in let ps = c.rotate.new.path.items in let r = red-shape (flip turn) near s.near t in
     let mv = c.rotate.ensures.tree (nephew-rotation n es at turn o sib near L c.push.new.path.items c.push-2.new.path.items s t c.other_side.ensures c.push.ensures c.push-2.ensures) in
-    let k = replaced-up m ps s.frames at o s.x s.colour s.tree (turned_tree turn low mid s.w r.x Black Red s.far r.near r.far) mv in
-    let e = colour-is n turn at s.tree s.x s.colour c.colour-colour.result (node_at turn sib s.near s.w Black s.far) (sibling-fits n es at turn sib L s).0 c.colour-colour.ensures in
+    let k = replaced-up m ps s.frames at o s.item s.colour s.tree (turned_tree turn low mid s.sibling_item r.item Black Red s.far r.near r.far) mv in
+    let e = colour-is n turn at s.tree s.item s.colour c.colour-colour.result (node_at turn sib s.near s.sibling_item Black s.far) (sibling-fits n es at turn sib L s).0 c.colour-colour.ensures in
     nephew-rotated n m (g.K.Links.nodes c.rotate-2.new.links) es ps c.rotate-2.new.path.items at turn o sib near low mid c.rotate-2.result.0 c.rotate-2.result.1 c.colour-colour.result L s r c.other_side.ensures e k
     (c.rotate-2.ensures.tree (nephew-second n m es ps at turn o sib near low mid L s t c.other_side.ensures mv))
 

@@ -24,7 +24,7 @@ set_colour-requires g c =
 pub returns-clause-tree : goal.returns-clause-tree
 returns-clause-tree g c L s t =
     let n = g.K.Links.nodes c.args.links.now in let es = c.args.path.now.items in let at = c.args.at in let turn = c.args.turn in let o = c.other_side.result in let sib = c.args.sibling in
-    let e = colour-is n turn at s.tree s.x s.colour c.colour-colour.result (node_at turn sib s.near s.w Black s.far) (sibling-fits n es at turn sib L s).0 c.colour-colour.ensures in
+    let e = colour-is n turn at s.tree s.item s.colour c.colour-colour.result (node_at turn sib s.near s.sibling_item Black s.far) (sibling-fits n es at turn sib L s).0 c.colour-colour.ensures in
     sibling-rotated n (g.K.Links.nodes c.rotate.new.links) (g.K.Links.nodes c.set_colour.new.self) es c.rotate.new.path.items at turn o sib c.rotate.result.0 c.rotate.result.1 c.args.far c.colour-colour.result L s t c.other_side.ensures e
     (c.rotate.ensures.tree (sibling-rotation n es at turn o sib L c.push.new.path.items s c.other_side.ensures c.push.ensures)) c.set_colour.ensures
 

@@ -31,37 +31,31 @@ transplant-requires-clause-place g c =
     let r = popped-rotation n ps c.pop.new.self.items (c.in-Some.at, c.in-Some.turn) child c.requires.place c.in-Some.ensures.items in
     let h = lowered n m ps es child low r c.child-inner.result (inner-is n ps child r c.other_side.result c.child-inner.result c.other_side.ensures c.child-inner.ensures) c.change-low.ensures in (
       h.frames,
-      node_at r.turn low r.inner r.x r.cx r.outer,
-      turned_tree r.turn low high r.x r.y r.cx r.cy r.outer r.inner r.far,
+      node_at r.turn low r.inner r.item r.colour r.outer,
+      turned_tree r.turn low high r.item r.child_item r.colour r.child_colour r.outer r.inner r.far,
       raised n m p ps es c.new-none.result.items c.change-high.new.path.items child low high r h c.other_side-in-Some.result c.new-none.ensures c.other_side-in-Some.ensures c.change-high.ensures,
     )
 
 pub transplant-requires-clause-short : goal.transplant-requires-clause-short
 transplant-requires-clause-short g c =
-    let q = length-carried (live (g.K.Links.nodes c.args.links.now)) (live (g.K.Links.nodes c.change-low.new.self)) c.pop.new.self.items c.change-low.new.path.items c.change-low.result c.change-low.ensures.above in
+    let q = length-carried (live (g.K.Links.nodes c.args.links.now)) (live (g.K.Links.nodes c.change-low.new.self)) c.pop.new.self.items c.change-low.new.path.items c.change-low.result c.change-low.ensures.rows.above in
     let l = c.in-Some.ensures.len in omega arith
 
 pub colour_pair-requires : goal.colour_pair-requires
 colour_pair-requires g c =
-    let n = g.K.Links.nodes c.args.links.now in let m = g.K.Links.nodes c.change-low.new.self in let p = g.K.Links.nodes c.change-high.new.self in let q = g.K.Links.nodes c.transplant.new.links in
-    let ps = c.args.path.now.items in let es = c.change-low.new.path.items in let child = c.args.child in let low = c.change-low.result in let high = c.change-high.result in
-    let r = popped-rotation n ps c.pop.new.self.items (c.in-Some.at, c.in-Some.turn) child c.requires.place c.in-Some.ensures.items in
-    let h = lowered n m ps es child low r c.child-inner.result (inner-is n ps child r c.other_side.result c.child-inner.result c.other_side.ensures c.child-inner.ensures) c.change-low.ensures in
-    let can = raised n m p ps es c.new-none.result.items c.change-high.new.path.items child low high r h c.other_side-in-Some.result c.new-none.ensures c.other_side-in-Some.ensures c.change-high.ensures in
-    let mv = c.transplant.ensures.tree h.frames (node_at r.turn low r.inner r.x r.cx r.outer) (turned_tree r.turn low high r.x r.y r.cx r.cy r.outer r.inner r.far) can in
-    turned-live q c.transplant.new.path.items h.frames r.turn low high r.x r.y r.cx r.cy r.outer r.inner r.far mv
+    let n = g.K.Links.nodes c.args.links.now in let q = g.K.Links.nodes c.transplant.new.links in let qs = c.transplant.new.path.items in let low = c.change-low.result in let high = c.change-high.result in
+    let r = c.requires.place in
+    let mv = rotated n (g.K.Links.nodes c.change-low.new.self) (g.K.Links.nodes c.change-high.new.self) q c.args.path.now.items c.pop.new.self.items c.change-low.new.path.items c.new-none.result.items c.change-high.new.path.items qs (c.in-Some.at, c.in-Some.turn) c.args.child low high c.other_side.result c.other_side-in-Some.result c.child-inner.result
+    r c.in-Some.ensures.items c.other_side.ensures c.child-inner.ensures c.change-low.ensures c.new-none.ensures c.other_side-in-Some.ensures c.change-high.ensures c.transplant.ensures.tree in
+    turned-live q qs r.frames c.in-Some.turn low high r.item r.child_item r.colour r.child_colour r.outer r.inner r.far mv
 
 pub returns-in-Some-clause-tree : goal.returns-in-Some-clause-tree
-returns-in-Some-clause-tree g c r0 =
-    let n = g.K.Links.nodes c.args.links.now in let m = g.K.Links.nodes c.change-low.new.self in let p = g.K.Links.nodes c.change-high.new.self in let q = g.K.Links.nodes c.transplant.new.links in
-    let ps = c.args.path.now.items in let es = c.change-low.new.path.items in let qs = c.transplant.new.path.items in let child = c.args.child in let low = c.change-low.result in let high = c.change-high.result in
-    let r = popped-rotation n ps c.pop.new.self.items (c.in-Some.at, c.in-Some.turn) child r0 c.in-Some.ensures.items in
-    let h = lowered n m ps es child low r c.child-inner.result (inner-is n ps child r c.other_side.result c.child-inner.result c.other_side.ensures c.child-inner.ensures) c.change-low.ensures in
-    let can = raised n m p ps es c.new-none.result.items c.change-high.new.path.items child low high r h c.other_side-in-Some.result c.new-none.ensures c.other_side-in-Some.ensures c.change-high.ensures in
-    let mv = c.transplant.ensures.tree h.frames (node_at r.turn low r.inner r.x r.cx r.outer) (turned_tree r.turn low high r.x r.y r.cx r.cy r.outer r.inner r.far) can in
-    let on = rotated n m q ps es qs child low high r h mv in
-    same-turn (g.K.Links.nodes c.colour_pair.new.links) ps c.pop.new.self.items (c.in-Some.at, c.in-Some.turn) qs child low high n r0 c.args.low_colour c.args.high_colour c.in-Some.ensures.items
-    (on.0, on.1, c.colour_pair.ensures.tree qs on.0 c.in-Some.turn r0.x r0.y r0.cx r0.cy r0.outer r0.inner r0.far on.2)
+returns-in-Some-clause-tree g c r =
+    let n = g.K.Links.nodes c.args.links.now in let q = g.K.Links.nodes c.transplant.new.links in let qs = c.transplant.new.path.items in let low = c.change-low.result in let high = c.change-high.result in
+    let mv = rotated n (g.K.Links.nodes c.change-low.new.self) (g.K.Links.nodes c.change-high.new.self) q c.args.path.now.items c.pop.new.self.items c.change-low.new.path.items c.new-none.result.items c.change-high.new.path.items qs (c.in-Some.at, c.in-Some.turn) c.args.child low high c.other_side.result c.other_side-in-Some.result c.child-inner.result
+    r c.in-Some.ensures.items c.other_side.ensures c.child-inner.ensures c.change-low.ensures c.new-none.ensures c.other_side-in-Some.ensures c.change-high.ensures c.transplant.ensures.tree in
+    same-turn (g.K.Links.nodes c.colour_pair.new.links) c.args.path.now.items c.pop.new.self.items (c.in-Some.at, c.in-Some.turn) qs c.args.child low high n r c.args.low_colour c.args.high_colour c.in-Some.ensures.items
+    (mv.0, mv.1, c.colour_pair.ensures.tree qs mv.0 c.in-Some.turn r.item r.child_item r.colour r.child_colour r.outer r.inner r.far mv.2)
 
 pub returns-in-Some-clause-within : goal.returns-in-Some-clause-within
 returns-in-Some-clause-within g c =
@@ -72,5 +66,5 @@ returns-in-Some-clause-within g c =
 
 pub returns-in-Some-clause-length : goal.returns-in-Some-clause-length
 returns-in-Some-clause-length g c =
-    let q = length-carried (live (g.K.Links.nodes c.args.links.now)) (live (g.K.Links.nodes c.change-low.new.self)) c.pop.new.self.items c.change-low.new.path.items c.change-low.result c.change-low.ensures.above in
+    let q = length-carried (live (g.K.Links.nodes c.args.links.now)) (live (g.K.Links.nodes c.change-low.new.self)) c.pop.new.self.items c.change-low.new.path.items c.change-low.result c.change-low.ensures.rows.above in
     let l = c.in-Some.ensures.len in let k = c.transplant.ensures.length in omega arith

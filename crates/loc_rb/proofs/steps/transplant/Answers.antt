@@ -18,7 +18,7 @@ change-at-requires-clause-place g c =
 
 pub push-requires : goal.push-requires
 push-requires g c =
-    let q = length-carried (live (g.K.Links.nodes c.args.links.now)) (live (g.K.Links.nodes c.change-at.new.self)) c.pop.new.self.items c.change-at.new.path.items c.change-at.result c.change-at.ensures.above in
+    let q = length-carried (live (g.K.Links.nodes c.args.links.now)) (live (g.K.Links.nodes c.change-at.new.self)) c.pop.new.self.items c.change-at.new.path.items c.change-at.result c.change-at.ensures.rows.above in
     let e = ap length c.in-Some.ensures.items in let a = length-append c.pop.new.self.items ((c.in-Some.at, c.in-Some.turn) ∷ []) in omega (arith, q, e, a)
 
 pub returns-in-None-clause-tree : goal.returns-in-None-clause-tree
@@ -36,6 +36,6 @@ returns-in-Some-clause-tree g c C s v h =
 
 pub returns-in-Some-clause-length : goal.returns-in-Some-clause-length
 returns-in-Some-clause-length g c =
-    let q = length-carried (live (g.K.Links.nodes c.args.links.now)) (live (g.K.Links.nodes c.change-at.new.self)) c.pop.new.self.items c.change-at.new.path.items c.change-at.result c.change-at.ensures.above in
+    let q = length-carried (live (g.K.Links.nodes c.args.links.now)) (live (g.K.Links.nodes c.change-at.new.self)) c.pop.new.self.items c.change-at.new.path.items c.change-at.result c.change-at.ensures.rows.above in
     let e = ap length c.in-Some.ensures.items in let a = length-append c.pop.new.self.items ((c.in-Some.at, c.in-Some.turn) ∷ []) in
     let f = ap length c.push.ensures in let b = length-append c.change-at.new.path.items ((c.change-at.result, c.in-Some.turn) ∷ []) in omega (arith, q, e, a, f, b)
