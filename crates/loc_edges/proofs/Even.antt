@@ -22,7 +22,7 @@ use Rattle.loc_edges.proofs.Layers.{pieces_of-whole, pieces_rise, corners_from_e
 use Rattle.loc_edges.proofs.MarkRows.{is_hit, odd_none}
 use Rattle.loc_edges.proofs.Ordered.{edge_is_piece, as_many_ends, table_of-is_table}
 use Rattle.loc_edges.proofs.Orders.{points_by_before, edges_by_before}
-use Rattle.loc_edges.proofs.Rows.{few_corners, few_edges, or_true}
+use Rattle.loc_edges.proofs.Counts.{few_corners, few_edges, or_true}
 use Rattle.loc_edges.proofs.SortedSet.{any-sorted_set, irrefl}
 
 -- ---- rings

@@ -2,12 +2,15 @@ pub mod EndingRows
 pub mod Even
 pub mod Hits
 pub mod Layers
+pub mod EdgeRows
 pub mod MarkRows
 pub mod Ordered
 pub mod Orders
 pub mod Pairs
 pub mod Places
-pub mod Rows
+pub mod Counts
 pub mod SortedSet
+pub mod Tagged
 pub mod EdgeLists
 pub mod SmallLayers
+pub mod RowLists

@@ -18,7 +18,7 @@ use Rattle.loc_edges.specs.Layers.{ends_of}
 use Rattle.loc_edges.proofs.Layers.{pieces_of-whole, pieces_rise, corners_from_edges, any-ends_of}
 use Rattle.loc_edges.proofs.Orders.{points_by_before, edges_by_before}
 use Rattle.loc_edges.proofs.SortedSet.{rising-sorted_set, any-sorted_set, same_from_neither}
-use Rattle.loc_edges.proofs.Rows.{few_edges}
+use Rattle.loc_edges.proofs.Counts.{few_edges}
 
 -- ---- numbers of points
 module _ (cs : List Point) (up : is_rising before cs ≡ true) where
@@ -118,7 +118,7 @@ layer_up (rings ∷ layer) = list_any-append is_down (segments rings) (layer_seg
 
 -- ---- marks are in order
 -- a lesser feature than all marks that follow
-marks_above : (e : Edge) (f a : ℕ) (odd : Bool) (layer : List Rings) → f < a → list_all (mark_before (record { feature = f; odd = odd })) (filter_map (λ (numbered : ℕ × Rings). mark_of whole e numbered.0 (segments numbered.1)) (enumerate_from a layer)) ≡ true
+pub marks_above : (e : Edge) (f a : ℕ) (odd : Bool) (layer : List Rings) → f < a → list_all (mark_before (record { feature = f; odd = odd })) (filter_map (λ (numbered : ℕ × Rings). mark_of whole e numbered.0 (segments numbered.1)) (enumerate_from a layer)) ≡ true
 marks_above e f a odd [] less = refl
 marks_above e f a odd (r ∷ rs) less =
     let rest : List Mark = filter_map (λ (numbered : ℕ × Rings). mark_of whole e numbered.0 (segments numbered.1)) (enumerate_from (a + 1) rs) in

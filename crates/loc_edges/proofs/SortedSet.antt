@@ -1,10 +1,10 @@
 -- The sorted set of a list is the one rising list with its members; a sort that then drops equal neighbours makes it.
-use Rattle.std.proofs.Common.{◌≡◌, Bool, true, false, not, ◌&&◌, ◌||◌, List, [], ◌∷◌, refl, sym, ◌∙◌, ap, subst, inl, inr, Ordering, Less}
+use Rattle.std.proofs.Common.{◌≡◌, Bool, true, false, not, ◌&&◌, ◌||◌, List, [], ◌∷◌, refl, sym, ◌∙◌, ap, subst, inl, inr, Ordering, Less, Equal}
 use Rattle.std.specs.Bool.{Decides}
 use Rattle.std.specs.Cmp.{IsTotalOrder}
 use Rattle.std.specs.List.{list_any, list_all, dedup, dedup_from, AllByRecursion}
 use Rattle.std.specs.List.Sorted.{IsPermutation, IsSorted, IsStrictlySortedBy}
-use Rattle.std.specs.Ordering.{MatchOrdering, eq_by_cmp, is_eq}
+use Rattle.std.specs.Ordering.{MatchOrdering, eq_by_cmp, is_eq, is_lt}
 use Rattle.std.proofs.lemmas.Bool.{and_parts, and_from, both_ways, cases_Bool, cond-true, cond-false, false_from_ne_true, true≢false}
 use Rattle.std.proofs.lemmas.Cmp.{by_ranked}
 use Rattle.std.proofs.lemmas.List.Kept.{IsStrictlySortedBy-dedup}
@@ -48,7 +48,7 @@ any-dedup_from E exact p k (x ∷ xs) = elim (cases_Bool (E x k)) [
 ]
 
 -- the same members are left
-any-dedup : {X : Type 0} (E : X → X → Bool) → ((x y : X) → E x y ≡ true → x ≡ y) → (p : X → Bool) (xs : List X) → list_any p (dedup E xs) ≡ list_any p xs
+pub any-dedup : {X : Type 0} (E : X → X → Bool) → ((x y : X) → E x y ≡ true → x ≡ y) → (p : X → Bool) (xs : List X) → list_any p (dedup E xs) ≡ list_any p xs
 any-dedup E exact p [] = refl
 any-dedup E exact p (x ∷ xs) = any-dedup_from E exact p x xs
 
@@ -191,6 +191,17 @@ module _ {X : Type 0} {R : X → X → Ordering} {comes_before : X → X → Boo
       (λ is e. (exact x y).1 e ∙ sym (ap is_eq is))
       (λ is gt. false_from_ne_true (E x y) (λ e. both_ways _ (irrefl x) (subst (λ z. comes_before z x ≡ true) (sym ((exact x y).0 e)) gt)) ∙ sym (ap is_eq is))
 
+  -- two members tie where a test of equality passes
+  pub tie_is : (E : X → X → Bool) → ((x y : X) → Decides (E x y) (x ≡ y)) → (x y : X) → (not (is_lt (R x y)) && not (is_lt (R y x))) ≡ E x y
+  tie_is E exact x y = by_ranked _ _ _ (R x y) (order.ranked x y)
+      (λ is lt. ap (λ r. not (is_lt r) && not (is_lt (R y x))) is ∙ sym (false_from_ne_true (E x y) (λ e. both_ways _ (irrefl y) (subst (λ z. comes_before z y ≡ true) ((exact x y).0 e) lt))))
+      (λ is e. ap (λ r. not (is_lt r) && not (is_lt (R y x))) is ∙ (ap (λ r. not (is_lt r)) (subst (λ z. R y z ≡ Equal) (sym e) (subst (λ z. R z y ≡ Equal) e is)) ∙ sym ((exact x y).1 e)))
+      (λ is gt. ap (λ r. not (is_lt r) && not (is_lt (R y x))) is ∙ (ap (λ r. not (is_lt r)) (less y x gt) ∙ sym (false_from_ne_true (E x y) (λ e. both_ways _ (irrefl x) (subst (λ z. comes_before z x ≡ true) (sym ((exact x y).0 e)) gt)))))
+
+  -- a sorted list that loses equal neighbours rises
+  pub rising-dedup : (E : X → X → Bool) → ((x y : X) → Decides (E x y) (x ≡ y)) → (ys : List X) → IsSorted R ys → is_rising comes_before (dedup E ys) ≡ true
+  rising-dedup E exact ys sorted = rising_from_sorted (dedup E ys) (IsStrictlySortedBy-dedup order.total (ties E exact) ys sorted)
+
   -- a sorted list of which equal neighbours were dropped
   pub sorted_set-dedup : (E : X → X → Bool) → ((x y : X) → Decides (E x y) (x ≡ y)) → (xs ys : List X) → IsPermutation xs ys → IsSorted R ys → dedup E ys ≡ sorted_set comes_before xs
-  sorted_set-dedup E exact xs ys moved sorted = is-sorted_set xs (dedup E ys) (rising_from_sorted (dedup E ys) (IsStrictlySortedBy-dedup order.total (ties E exact) ys sorted)) (λ p. any-dedup E (λ x y. (exact x y).0) p ys ∙ sym (list_any-IsPermutation p xs ys moved))
+  sorted_set-dedup E exact xs ys moved sorted = is-sorted_set xs (dedup E ys) (rising-dedup E exact ys sorted) (λ p. any-dedup E (λ x y. (exact x y).0) p ys ∙ sym (list_any-IsPermutation p xs ys moved))

@@ -3,5 +3,6 @@ pub mod Ending
 pub mod Floors
 pub mod Kept
 pub mod Layers
-pub mod MarkRows
+pub mod Tagged
 pub mod Placing
+pub mod RowLists

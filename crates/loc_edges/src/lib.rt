@@ -7,11 +7,12 @@ ghost use Rattle.loc_rings.specs.Values.{IsRing};
 
 mod conflicts;
 mod floors;
-mod list_rows;
+mod grouped;
 mod marks;
 mod numbers;
 mod ranges;
 mod ranks;
+mod rows;
 mod segments;
 mod sorted;
 mod table;
@@ -23,7 +24,7 @@ pub use floors::Floors;
 pub use loc_spec_plane::Mark;
 pub use ranks::{Placing, Ranks};
 pub use table::EdgeTable;
-pub use tables::{corners, corners_between, edges};
+pub use tables::{corners_between, edges};
 pub use views::Views;
 
 #[cfg(test)]
@@ -97,12 +98,12 @@ mod tests {
         points: &[(i64, i64)],
         ends: &[(usize, usize)],
     ) -> Result<Vec<Edge>, Fail> {
-        let found = corners(alloc, features)?;
+        let table = edges(alloc, features)?;
+        let found = corners_between(alloc, &table)?;
         assert_eq!(rt; found.len(), points.len());
         for (p, want) in found.iter().copied().zip(points.iter().copied()) {
             assert_eq!(rt; pair_of(p), want);
         }
-        let table = edges(alloc, features)?;
         assert_eq!(rt; table.len(), ends.len());
         for (edge, (lo, hi)) in table.iter().zip(ends.iter().copied()) {
             assert_eq!(rt; Some(pair_of(edge.lo())), points.get(lo).copied());

@@ -1,11 +1,12 @@
 // Which edges begin and which end at a corner.
 
-ghost use Rattle.std.specs.Prelude.{◌≡◌, ℕ, ◌<◌, ◌≤◌, ◌^◌, [], IsTrue, length, map, IfOk, slice_index_or};
+ghost use Rattle.std.specs.Prelude.{◌≡◌, ℕ, ◌<◌, ◌≤◌, ◌^◌, IsTrue, length, map, All, IfOk, slice_index_or};
+ghost use Rattle.std.specs.List.Sorted.{IsNonDecreasingBy};
 ghost use Rattle.loc_spec_plane.specs.Lists.{is_rising, numbers};
 ghost use Rattle.loc_spec_plane.specs.Tables.{pair_before};
-ghost use Rattle.loc_edges.specs.Ending.{ending_among};
+ghost use Rattle.loc_edges.specs.Ending.{ending_among, row_of};
 
-use crate::list_rows::empty_rows;
+use crate::rows::Rows;
 use std::alloc::{AllocError, Global};
 
 // The place of the first pair whose first number is not below the corner's.
@@ -18,19 +19,37 @@ pub(crate) fn first_from(ends: &[(u32, u32)], corner: u32) -> usize
     ends.partition_point(|pair| pair.0 < corner)
 }
 
+// The edges, each behind the number of its upper end, sorted by that.
+fn by_upper_end(alloc: Global, ends: &[(u32, u32)]) -> Result<Vec<(u32, u32)>, AllocError>
+    requires few { length ends.now ≤ 2 ^ 20 }
+    ensures sorted { IfOk result (λ keyed. IsNonDecreasingBy (λ pair. pair.0) keyed.items) }
+    ensures rows { IfOk result (λ keyed. (c : ℕ) → row_of keyed.items c ≡ ending_among ends.now (length ends.now) c) }
+    ensures in_range { IfOk result (λ keyed. (corners : ℕ) → ((e : ℕ) → e < length ends.now → (slice_index_or ends.now e (0, 0)).1 < corners) → All (λ pair. pair.0 < corners) keyed.items) }
+{
+    let mut keyed = Vec::new(alloc);
+    for (n, pair) in ends.iter().enumerate() {
+        keyed.push((pair.1, n as u32))?;
+    }
+    keyed.sort_by_key(|pair| pair.0)?;
+    Ok(keyed)
+}
+
 // The edges that end at each corner, in order.
 pub(crate) fn ending_rows(
     alloc: Global,
     ends: &[(u32, u32)],
     corners: u32,
-) -> Result<Vec<Vec<u32>>, AllocError>
+) -> Result<Rows<u32>, AllocError>
     requires in_range { (e : ℕ) → e < length ends.now → (slice_index_or ends.now e (0, 0)).1 < corners }
     requires few { length ends.now ≤ 2 ^ 20 }
-    ensures { IfOk result (λ rows. map (λ row. row.items) rows.items ≡ map (ending_among ends.now (length ends.now)) (numbers corners)) }
+    ensures { IfOk result (λ rows. rows ≡ map (ending_among ends.now (length ends.now)) (numbers corners)) }
 {
-    let mut rows = empty_rows(alloc, corners as usize)?;
-    for (n, pair) in ends.iter().enumerate() {
-        rows[pair.1 as usize].push(n as u32)?;
+    let keyed = by_upper_end(alloc, ends)?;
+    let mut rows = Rows::new(alloc);
+    for pair in &keyed {
+        rows.start(pair.0 as usize + 1)?;
+        rows.extend(&[pair.1])?;
     }
+    rows.start(corners as usize)?;
     Ok(rows)
 }

@@ -1,10 +1,18 @@
-// Lists of points and of edges, sorted and each member once.
+// Points and segments in order.
 
-ghost use Rattle.std.specs.Prelude.{◌≡◌};
-ghost use Rattle.loc_spec_plane.specs.Points.{before, edge_before};
+ghost use Rattle.std.specs.Prelude.{◌≡◌, ◌<◌, ℕ, length, All, IfOk};
+ghost use Rattle.std.specs.List.Sorted.{IsSortedBy};
+ghost use Rattle.loc_spec_plane.specs.Points.{Edge as EdgeOf, before, edge_before};
 ghost use Rattle.loc_spec_plane.specs.Lists.{sorted_set};
+ghost use Rattle.loc_spec_plane.specs.Tables.{pieces_of, whole};
+ghost use Rattle.loc_rings.specs.Values.{IsRing};
+ghost use Rattle.loc_edges.specs.Layers.{layer_of};
+ghost use Rattle.loc_edges.specs.Tagged.{segments_in, features_of, tagged_from};
 
+use crate::segments::tagged_segments;
 use loc_geom::{Edge, Point};
+use loc_rings::Feature;
+use std::alloc::{AllocError, Global};
 
 // The points in order, each once.
 pub(crate) fn sorted_points(mut points: Vec<Point>) -> Vec<Point>
@@ -15,11 +23,18 @@ pub(crate) fn sorted_points(mut points: Vec<Point>) -> Vec<Point>
     points
 }
 
-// The edges in order, each once.
-pub(crate) fn sorted_edges(mut edges: Vec<Edge>) -> Vec<Edge>
-    ensures { result.items ≡ sorted_set edge_before edges.items }
+// The segments of all features in order, those of an edge in the order of their features.
+pub(crate) fn sorted_segments(
+    alloc: Global,
+    features: &[Feature],
+) -> Result<Vec<(Edge, usize)>, AllocError>
+    ensures closed { IfOk result (λ _. All (All IsRing) (layer_of features.now)) }
+    ensures few { IfOk result (λ tagged. All (λ (t : EdgeOf × ℕ). t.1 < length features.now) tagged.items) }
+    ensures in_order { IfOk result (λ tagged. IsSortedBy edge_before (segments_in tagged.items)) }
+    ensures edges { IfOk result (λ tagged. sorted_set edge_before (segments_in tagged.items) ≡ pieces_of whole (layer_of features.now)) }
+    ensures features { IfOk result (λ tagged. (e : EdgeOf) → features_of tagged.items e ≡ features_of (tagged_from 0 (layer_of features.now)) e) }
 {
-    edges.sort_unstable();
-    edges.dedup();
-    edges
+    let mut tagged = tagged_segments(alloc, features)?;
+    tagged.sort_by_key(|segment| segment.0)?;
+    Ok(tagged)
 }

@@ -8,10 +8,13 @@ ghost use Rattle.loc_edges.specs.Conflicts.{edges_of};
 ghost use Rattle.loc_edges.specs.Ending.{IsBeginning};
 ghost use Rattle.loc_edges.specs.Layers.{layer_of};
 
-use crate::marks::mark_rows;
+use crate::grouped::distinct_edges;
+use crate::marks::edge_marks;
 use crate::numbers::numbered_ends;
 use crate::ranges::{ending_rows, first_from};
-use crate::tables::{corners_between, edges as sorted_edges};
+use crate::rows::Rows;
+use crate::sorted::sorted_segments;
+use crate::tables::corners_between;
 use loc_geom::{Edge, Point};
 use loc_rings::Layer;
 use loc_spec_plane::Mark;
@@ -25,21 +28,19 @@ pub struct EdgeTable {
     corners: Vec<Point>,
     edges: Vec<Edge>,
     ends: Vec<(u32, u32)>,
-    marks: Vec<Vec<Mark>>,
-    ending: Vec<Vec<u32>>,
+    marks: Rows<Mark>,
+    ending: Rows<u32>,
 }
 
 impl Model for EdgeTable {
-    ghost use Rattle.std.specs.Prelude.{map};
     ghost use Rattle.loc_spec_plane.specs.Tables.{Table};
-    ghost use Rattle.loc_edges.specs.MarkRows.{rows_of};
     ghost use Rattle.loc_edges.specs.Kept.{IsKept};
 
     ghost Value = { Table };
 
-    ghost view = { λ t. record { corners = t.corners.items; ends = t.ends.items; marks = rows_of t.marks } };
+    ghost view = { λ t. record { corners = t.corners.items; ends = t.ends.items; marks = t.marks } };
 
-    ghost invariant = { λ t. IsKept t.edges.items (map (λ row. row.items) t.ending.items) (record { corners = t.corners.items; ends = t.ends.items; marks = rows_of t.marks }) };
+    ghost invariant = { λ t. IsKept t.edges.items t.ending (record { corners = t.corners.items; ends = t.ends.items; marks = t.marks }) };
 }
 
 impl EdgeTable {
@@ -51,10 +52,11 @@ impl EdgeTable {
         ensures all_even { IfOk result AllEven }
     {
         let features = layer.features();
-        let edges = sorted_edges(alloc, features)?;
+        let tagged = sorted_segments(alloc, features)?;
+        let edges = distinct_edges(alloc, &tagged)?;
         let corners = corners_between(alloc, &edges)?;
         let ends = numbered_ends(alloc, &corners, &edges)?;
-        let marks = mark_rows(alloc, &edges, features)?;
+        let marks = edge_marks(alloc, tagged)?;
         let ending = ending_rows(alloc, &ends, corners.len() as u32)?;
         Ok(EdgeTable {
             corners,
@@ -132,7 +134,7 @@ impl EdgeTable {
         ensures value { slice_get self.now.marks n ≡ Some result.now }
         ensures in_order { IsTrue (is_rising mark_before result.now) }
     {
-        self.marks[n as usize].as_slice()
+        self.marks.row(n as usize)
     }
     /// The edges whose lower end is the corner: from the first number on and before the second.
     pub fn beginning(&self, corner: u32) -> (u32, u32)
@@ -149,6 +151,6 @@ impl EdgeTable {
         requires { corner < length self.now.corners }
         ensures { result.now ≡ filter (λ e. hi_of self.now e == corner) (edge_numbers self.now) }
     {
-        self.ending[corner as usize].as_slice()
+        self.ending.row(corner as usize)
     }
 }

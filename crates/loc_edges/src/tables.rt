@@ -7,8 +7,8 @@ ghost use Rattle.loc_spec_plane.specs.Rings.{Rings};
 ghost use Rattle.loc_spec_plane.specs.Tables.{layer_corners, pieces_of, whole};
 ghost use Rattle.loc_edges.specs.Layers.{layer_of, ends_of};
 
-use crate::segments::layer_segments;
-use crate::sorted::{sorted_edges, sorted_points};
+use crate::grouped::distinct_edges;
+use crate::sorted::{sorted_points, sorted_segments};
 use loc_geom::{Edge, Point};
 use loc_rings::Feature;
 use std::alloc::{AllocError, Global};
@@ -30,7 +30,8 @@ pub fn edges(alloc: Global, features: &[Feature]) -> Result<Vec<Edge>, AllocErro
     ensures value { IfOk result (λ edges. edges.items ≡ pieces_of whole (layer_of features.now)) }
     ensures rise { IfOk result (λ edges. IsTrue (is_rising edge_before edges.items)) }
 {
-    Ok(sorted_edges(layer_segments(alloc, features)?))
+    let tagged = sorted_segments(alloc, features)?;
+    distinct_edges(alloc, &tagged)
 }
 
 /// The corners between edges: their ends in order, each once. Those of the edges of a layer are the corners of the layer.
@@ -39,11 +40,4 @@ pub fn corners_between(alloc: Global, edges: &[Edge]) -> Result<Vec<Point>, Allo
     ensures of_layer { IfOk result (λ corners. (layer : List Rings) → edges.now ≡ pieces_of whole layer → corners.items ≡ layer_corners layer) }
 {
     Ok(sorted_points(ends(alloc, edges)?))
-}
-
-/// The corners of a layer: the ends of the segments of its features in order, each once.
-pub fn corners(alloc: Global, features: &[Feature]) -> Result<Vec<Point>, AllocError>
-    ensures { IfOk result (λ corners. corners.items ≡ layer_corners (layer_of features.now)) }
-{
-    corners_between(alloc, &edges(alloc, features)?)
 }

@@ -1,0 +1,80 @@
+-- The segments of a layer with their features, as one more feature comes, and sorted.
+use Rattle.std.proofs.Common.{◌≡◌, ℕ, suc, ◌+◌, ◌-◌, ◌<◌, true, not, List, [], ◌∷◌, ◌++◌, length, get_or, map, refl, sym, ◌∙◌, ap, inl, inr, arith, append-nil, length-append, Ordering, Less, Equal, Greater}
+use Rattle.std.specs.Prelude.{◌&&◌, All, filter}
+use Rattle.std.specs.List.Sorted.{IsPermutation, IsSorted, IsSortedBy, IsSortedByKey, IsStableByKey}
+use Rattle.std.specs.Ordering.{is_lt}
+use Rattle.std.proofs.lemmas.Bool.{cases_lt, both_ways, false_from_ne_true}
+use Rattle.std.proofs.lemmas.List.{append_assoc, length-map, get_or-map, get_or_append_left, get_or-append_right}
+use Rattle.std.proofs.lemmas.List.Elements.{filter_agree}
+use Rattle.std.proofs.lemmas.List.Sorted.{IsPermutation-map, list_any-IsPermutation}
+use Rattle.loc_spec_plane.specs.Points.{Edge, same_edge, edge_before}
+use Rattle.loc_spec_plane.specs.Lists.{sorted_set}
+use Rattle.loc_spec_plane.specs.Rings.{Rings, segments}
+use Rattle.loc_spec_plane.specs.Tables.{layer_segments, pieces_of, whole}
+use Rattle.loc_laws_order.proofs.Tests.{same_edge_decides}
+use Rattle.loc_edges.specs.Tagged.{tagged_by, tagged_from, segments_in, features_of}
+use Rattle.loc_edges.proofs.Layers.{pieces_of-whole}
+use Rattle.loc_edges.proofs.Orders.{edge_cmp, edges_by_before}
+use Rattle.loc_edges.proofs.SortedSet.{less, from_less, same-sorted_set, tie_is}
+
+-- one more feature
+pub tagged_more : (a : ℕ) (layer : List Rings) (r : Rings) → tagged_from a (layer ++ r ∷ []) ≡ tagged_from a layer ++ tagged_by (a + length layer) (segments r)
+tagged_more a [] r = let same : a ≡ a + 0 = omega arith in append-nil (tagged_by a (segments r)) ∙ ap (λ n. tagged_by n (segments r)) same
+tagged_more a (q ∷ qs) r =
+    let same : (a + 1) + length qs ≡ a + suc (length qs) = omega arith in
+    ap (λ ts. tagged_by a (segments q) ++ ts) (tagged_more (a + 1) qs r ∙ ap (λ n. tagged_from (a + 1) qs ++ tagged_by n (segments r)) same)
+    ∙ sym (append_assoc (tagged_by a (segments q)) (tagged_from (a + 1) qs) (tagged_by (a + suc (length qs)) (segments r)))
+
+segments_in-append : (ts us : List (Edge × ℕ)) → segments_in (ts ++ us) ≡ segments_in ts ++ segments_in us
+segments_in-append [] us = refl
+segments_in-append (t ∷ ts) us = ap (λ es. t.0 ∷ es) (segments_in-append ts us)
+
+-- the segments alone
+segments_in-tagged_by : (a : ℕ) (ss : List Edge) → segments_in (tagged_by a ss) ≡ ss
+segments_in-tagged_by a [] = refl
+segments_in-tagged_by a (s ∷ ss) = ap (λ es. s ∷ es) (segments_in-tagged_by a ss)
+
+segments_in-tagged : (a : ℕ) (layer : List Rings) → segments_in (tagged_from a layer) ≡ layer_segments layer
+segments_in-tagged a [] = refl
+segments_in-tagged a (r ∷ rs) = segments_in-append (tagged_by a (segments r)) (tagged_from (a + 1) rs) ∙ (ap (λ es. es ++ segments_in (tagged_from (a + 1) rs)) (segments_in-tagged_by a (segments r)) ∙ ap (λ es. segments r ++ es) (segments_in-tagged (a + 1) rs))
+
+-- the features are those of the layer
+pub features_fit : (a : ℕ) (layer : List Rings) → All (λ (t : Edge × ℕ). t.1 < a + length layer) (tagged_from a layer)
+features_fit a [] = λ k d lt. absurd (omega arith)
+features_fit a (r ∷ rs) = λ k d lt. elim (cases_lt k (length (tagged_by a (segments r)))) [
+  | inl here ↦ (let short : k < length (segments r) = omega (arith, here, length-map {B = Edge × ℕ} (segments r) (λ s. (s, a))) in
+      let at : (get_or (tagged_by a (segments r) ++ tagged_from (a + 1) rs) k d).1 ≡ a = ap (λ (t : Edge × ℕ). t.1) (get_or_append_left (tagged_by a (segments r)) (tagged_from (a + 1) rs) d k here ∙ get_or-map (λ (s : Edge). (s, a)) (segments r) k d.0 d short) in omega (arith, at))
+  | inr past ↦ (let at : (get_or (tagged_by a (segments r) ++ tagged_from (a + 1) rs) k d).1 ≡ (get_or (tagged_from (a + 1) rs) (k - length (tagged_by a (segments r))) d).1 = ap (λ (t : Edge × ℕ). t.1) (get_or-append_right (tagged_by a (segments r)) (tagged_from (a + 1) rs) (length (tagged_by a (segments r))) k d refl past) in
+      omega (arith, at, features_fit (a + 1) rs (k - length (tagged_by a (segments r))) d (omega (arith, lt, past, length-append (tagged_by a (segments r)) (tagged_from (a + 1) rs)))))
+]
+
+-- ---- sorted by the edges
+-- the edges are in order
+pub in_order : (ts : List (Edge × ℕ)) → IsSortedByKey (λ (t : Edge × ℕ). t.0) edge_cmp ts → IsSortedBy edge_before (segments_in ts)
+in_order ts sorted k d low lt =
+    let long : k + 1 < length ts = omega (arith, lt, length-map ts (λ (t : Edge × ℕ). t.0)) in
+    let here : get_or (segments_in ts) k d ≡ (get_or ts k (d, 0)).0 = get_or-map (λ (t : Edge × ℕ). t.0) ts k (d, 0) d (omega arith) in
+    let next : get_or (segments_in ts) (k + 1) d ≡ (get_or ts (k + 1) (d, 0)).0 = get_or-map (λ (t : Edge × ℕ). t.0) ts (k + 1) (d, 0) d long in
+    false_from_ne_true _ (λ h. both_ways _ (sorted k (d, 0) low long) (ap is_lt (less edges_by_before (get_or ts (k + 1) (d, 0)).0 (get_or ts k (d, 0)).0 (sym (ap (λ e. edge_before e (get_or (segments_in ts) k d)) next ∙ ap (λ e. edge_before (get_or ts (k + 1) (d, 0)).0 e) here) ∙ h))))
+
+-- std's word for it
+pub is_sorted : (es : List Edge) → IsSortedBy edge_before es → IsSorted edge_cmp es
+is_sorted es sorted k d low lt = false_from_ne_true _ (λ h. both_ways _ (sorted k d low lt) (from_less edges_by_before (get_or es (k + 1) d) (get_or es k d) (is_less _ h)))
+  where
+    is_less : (r : Ordering) → is_lt r ≡ true → r ≡ Less
+    is_less Less h = refl
+    is_less Equal h = grind arith
+    is_less Greater h = grind arith
+
+-- the features of each edge stand in their order
+pub features_stay : (xs ys : List (Edge × ℕ)) → IsStableByKey (λ (t : Edge × ℕ). t.0) edge_cmp xs ys → (e : Edge) → features_of ys e ≡ features_of xs e
+features_stay xs ys stable e = ap (map (λ (t : Edge × ℕ). t.1)) (sym (agree ys) ∙ (stable (e, 0) ∙ agree xs))
+  where
+    agree : (zs : List (Edge × ℕ)) → filter (λ (t : Edge × ℕ). not (is_lt (edge_cmp e t.0)) && not (is_lt (edge_cmp t.0 e))) zs ≡ filter (λ (t : Edge × ℕ). same_edge e t.0) zs
+    agree zs = filter_agree _ _ (λ t. tie_is edges_by_before same_edge same_edge_decides e t.0) zs
+
+-- the edges of a layer
+pub edges_stay : (layer : List Rings) (ys : List (Edge × ℕ)) → IsPermutation (tagged_from 0 layer) ys → sorted_set edge_before (segments_in ys) ≡ pieces_of whole layer
+edges_stay layer ys moved =
+    same-sorted_set edges_by_before (segments_in ys) (segments_in (tagged_from 0 layer)) (λ p. sym (list_any-IsPermutation p (segments_in (tagged_from 0 layer)) (segments_in ys) (IsPermutation-map (λ (t : Edge × ℕ). t.0) (tagged_from 0 layer) ys moved)))
+    ∙ (ap (sorted_set edge_before) (segments_in-tagged 0 layer) ∙ pieces_of-whole layer)
