@@ -1,0 +1,5 @@
+pub mod Beginning
+pub mod Ending
+pub mod Ends
+pub mod Examples
+pub mod Standing

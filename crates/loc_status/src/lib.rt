@@ -1,0 +1,12 @@
+//! The status of a sweep: the edges that the sweep line meets, from the lowest to the highest.
+#![tactic(auto)]
+
+mod places;
+mod search;
+mod status;
+#[cfg(test)]
+mod tests;
+mod vec_status;
+
+pub use status::{InsertFault, Status};
+pub use vec_status::VecStatus;

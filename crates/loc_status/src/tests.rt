@@ -1,0 +1,233 @@
+// A status by hand, over two rectangles that lie side by side.
+
+ghost use Rattle.std.specs.Prelude.{◌≡◌, ◌+◌, ◌<◌, ◌≤◌, ◌^◌, ◌&&◌, not, IsTrue, length, IfOk};
+ghost use Rattle.loc_rings.specs.Values.{IsRing};
+ghost use Rattle.loc_spec_plane.specs.Lists.{is_in};
+ghost use Rattle.loc_spec_plane.specs.Points.{conflict as conflict_of};
+ghost use Rattle.loc_spec_plane.specs.Tables.{corner as corner_of, edge as edge_of};
+ghost use Rattle.loc_spec_plane.specs.Places.{alive, lower_of};
+ghost use Rattle.loc_status.specs.Lists.{is_chain_at, IsSearchable};
+
+use super::{InsertFault, Status, VecStatus};
+use loc_edges::{EdgeTable, Ranks};
+use loc_geom::{Meeting, Point, conflict, lower};
+use loc_rings::{Feature, Layer, Rings};
+use std::alloc::Global;
+use std::test::Fail;
+
+const SQUARE: [(i64, i64); 5] = [(0, 0), (4, 0), (4, 4), (0, 4), (0, 0)];
+
+const BESIDE: [(i64, i64); 5] = [(4, 0), (6, 0), (6, 2), (4, 2), (4, 0)];
+
+// The edge that a call names, or the two beside an edge.
+type Named = (Option<u32>, Option<u32>);
+
+#[derive(Clone, Copy)]
+enum Call {
+    Insert(u32),
+    Remove(u32),
+    Beside(u32),
+    Floor(u32),
+    Seal,
+}
+
+// Calls one after another, what each names, and the list that it leaves. The edges by their ends are 0: 0 0, 0 4; 1: 0 0, 4 0;
+// 2: 0 4, 4 4; 3: 4 0, 4 2; 4: 4 0, 4 4; 5: 4 0, 6 0; 6: 4 2, 6 2; 7: 6 0, 6 2.
+const ROWS: [(Call, Named, &[u32]); 23] = [
+    (Call::Seal, (None, None), &[]),
+    (Call::Insert(0), (None, None), &[0]),
+    (Call::Insert(1), (None, None), &[1, 0]),
+    (Call::Floor(0), (None, None), &[1, 0]),
+    (Call::Beside(0), (Some(1), None), &[1, 0]),
+    (Call::Beside(1), (None, Some(0)), &[1, 0]),
+    (Call::Remove(0), (None, None), &[1]),
+    (Call::Floor(1), (Some(1), None), &[1]),
+    (Call::Insert(2), (None, None), &[1, 2]),
+    (Call::Beside(1), (None, Some(2)), &[1, 2]),
+    (Call::Seal, (None, None), &[1, 2]),
+    (Call::Remove(1), (None, None), &[2]),
+    (Call::Insert(3), (None, None), &[3, 2]),
+    (Call::Insert(4), (Some(3), None), &[3, 2]),
+    (Call::Insert(5), (None, None), &[5, 3, 2]),
+    (Call::Beside(3), (Some(5), Some(2)), &[5, 3, 2]),
+    (Call::Remove(3), (None, None), &[5, 2]),
+    (Call::Floor(3), (Some(5), None), &[5, 2]),
+    (Call::Insert(6), (None, None), &[5, 6, 2]),
+    (Call::Beside(6), (Some(5), Some(2)), &[5, 6, 2]),
+    (Call::Remove(2), (None, None), &[5, 6]),
+    (Call::Floor(4), (Some(6), None), &[5, 6]),
+    (Call::Remove(5), (None, None), &[6]),
+];
+
+// A closed ring by its coordinates.
+fn ring_of(alloc: Global, row: &[(i64, i64)]) -> Result<Vec<Point>, Fail>
+    ensures { IfOk result (λ ring. IsRing ring.items) }
+{
+    let mut ring = Vec::new(alloc);
+    for (x, y) in row.iter().copied() {
+        ring.push(Point::new(x, y).ok_or("off the grid")?)?;
+    }
+    if ring.len() < 4 || ring[0] != ring[ring.len() - 1] {
+        return Err(Fail::new("no ring"));
+    }
+    Ok(ring)
+}
+
+// Features without ids, each of one ring given by its coordinates.
+fn layer_of(alloc: Global, rows: &[&[(i64, i64)]]) -> Result<Layer, Fail> {
+    let mut layer = Layer::new(alloc);
+    for row in rows {
+        let ring = ring_of(alloc, row)?;
+        let mut rings = Rings::new(alloc);
+        rings.start_polygon()?;
+        rings.add(ring)?;
+        let feature = Feature::new(Vec::new(alloc), rings);
+        if layer.is_full() || !layer.has_room(&feature) {
+            return Err(Fail::new("a large layer"));
+        }
+        layer.add(feature)?;
+    }
+    Ok(layer)
+}
+
+// Whether an edge is alive at a corner.
+fn is_alive(table: &EdgeTable, corner: u32, edge: u32) -> bool
+    ensures { IsTrue result → IsTrue (alive (edge_of table.now edge) (corner_of table.now corner)) }
+{
+    table.law();
+    if edge >= table.edge_count() {
+        return false;
+    }
+    let (lo, hi) = table.ends(edge);
+    lo <= corner && corner < hi
+}
+
+// Whether an edge is lower than another, without a conflict.
+fn rises(table: &EdgeTable, first: u32, second: u32) -> bool
+    ensures { IsTrue result → IsTrue (lower_of table.now first second && not (conflict_of (edge_of table.now first) (edge_of table.now second))) }
+{
+    if first >= table.edge_count() || second >= table.edge_count() {
+        return false;
+    }
+    let a = table.edge(first);
+    let b = table.edge(second);
+    match conflict(a, b) {
+        Meeting::Apart => lower(a, b),
+        _ => false,
+    }
+}
+
+// Whether the edges of a list are alive at a corner, and of each two neighbours the first is lower, without a conflict.
+fn is_chain(table: &EdgeTable, corner: u32, list: &[u32]) -> bool
+    ensures { IsTrue result → IsTrue (is_chain_at table.now corner list.now) }
+{
+    match list {
+        [] => true,
+        [only] => is_alive(table, corner, *only),
+        [first, second, ..] => {
+            is_alive(table, corner, *first)
+                && rises(table, *first, *second)
+                && is_chain(table, corner, &list[1..])
+        }
+    }
+}
+
+// The edge that a refusal names.
+fn insert(table: &EdgeTable, status: &mut VecStatus, edge: u32) -> Result<Option<u32>, Fail>
+    requires in_range { edge < length table.now.ends }
+    requires few { status.old.inserted < 2 ^ 26 }
+    ensures inserted { status.new.inserted ≤ status.old.inserted + 1 }
+    ensures removed { status.new.removed ≡ status.old.removed }
+    ensures sealed { status.new.sealed ≡ status.old.sealed }
+{
+    let (lo, _) = table.ends(edge);
+    if !is_chain(table, lo, status.list()) || status.list().contains(&edge) {
+        return Err(Fail::new("no place for the edge"));
+    }
+    match status.insert(&table.ranks(), edge) {
+        Ok(()) => Ok(None),
+        Err(InsertFault::Hits { edge }) => Ok(Some(edge)),
+        Err(InsertFault::NoMemory) => Err(Fail::new("out of memory")),
+    }
+}
+
+fn remove(table: &EdgeTable, status: &mut VecStatus, edge: u32) -> Result<(), Fail>
+    requires in_range { edge < length table.now.ends }
+    requires few { status.old.removed < 2 ^ 26 }
+    ensures inserted { status.new.inserted ≡ status.old.inserted }
+    ensures removed { status.new.removed ≤ status.old.removed + 1 }
+    ensures sealed { status.new.sealed ≡ status.old.sealed }
+{
+    let (_, hi) = table.ends(edge);
+    if !is_chain(table, hi - 1, status.list()) || !status.list().contains(&edge) {
+        return Err(Fail::new("no such edge"));
+    }
+    status.remove(&table.ranks(), edge)?;
+    Ok(())
+}
+
+// Whether an edge is in the list, which is a chain at its lower end or before its upper end.
+fn is_searchable(table: &EdgeTable, list: &[u32], edge: u32) -> bool
+    ensures in_range { IsTrue result → edge < length table.now.ends }
+    ensures listed { IsTrue result → IsTrue (is_in edge list.now) }
+    ensures searchable { IsTrue result → IsSearchable table.now edge list.now }
+{
+    if edge >= table.edge_count() || !list.contains(&edge) {
+        return false;
+    }
+    let (lo, hi) = table.ends(edge);
+    is_chain(table, lo, list) || is_chain(table, hi - 1, list)
+}
+
+// The edges just below and just above an edge, by any status.
+fn beside<S: Status>(ranks: &Ranks<'_>, status: &S, edge: u32) -> Named
+    requires in_range { edge < length ranks.now.ends }
+    requires listed { IsTrue (is_in edge (S.meaning status.now).list) }
+    requires searchable { IsSearchable ranks.now edge (S.meaning status.now).list }
+{
+    (status.below(ranks, edge), status.above(ranks, edge))
+}
+
+// What a call names.
+fn perform(table: &EdgeTable, status: &mut VecStatus, call: Call) -> Result<Named, Fail>
+    requires few_inserted { status.old.inserted < 2 ^ 26 }
+    requires few_removed { status.old.removed < 2 ^ 26 }
+    requires few_sealed { status.old.sealed < 2 ^ 26 }
+    ensures inserted { status.new.inserted ≤ status.old.inserted + 1 }
+    ensures removed { status.new.removed ≤ status.old.removed + 1 }
+    ensures sealed { status.new.sealed ≤ status.old.sealed + 1 }
+{
+    match call {
+        Call::Insert(edge) if edge < table.edge_count() => {
+            Ok((insert(table, status, edge)?, None))
+        }
+        Call::Remove(edge) if edge < table.edge_count() => {
+            remove(table, status, edge)?;
+            Ok((None, None))
+        }
+        Call::Beside(edge) if is_searchable(table, status.list(), edge) => {
+            Ok(beside(&table.ranks(), status, edge))
+        }
+        Call::Floor(corner)
+            if corner < table.corner_count() && is_chain(table, corner, status.list()) => {
+            Ok((status.floor(&table.ranks(), corner), None))
+        }
+        Call::Seal => {
+            status.seal()?;
+            Ok((None, None))
+        }
+        _ => Err(Fail::new("no such call")),
+    }
+}
+
+#[test]
+fn status_by_hand(rt: HostRuntime) -> Result<(), Fail> {
+    let layer = layer_of(rt.alloc(), &[&BESIDE, &SQUARE])?;
+    let table = EdgeTable::make(rt.alloc(), &layer)?;
+    let mut status = VecStatus::new(rt.alloc());
+    for (call, named, list) in ROWS {
+        assert_eq!(rt; perform(&table, &mut status, call)?, named);
+        assert_eq!(rt; status.list(), list);
+    }
+    Ok(())
+}
