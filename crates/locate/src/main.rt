@@ -3,7 +3,7 @@
 
 ghost use Rattle.std.specs.Prelude.{◌≡◌, ◌<◌};
 
-use loc_io::{FileShelf, StdSink};
+use loc_io::{FileShelf, StdSink, write_all};
 use loc_top::{Steps, run};
 use std::alloc::Global;
 use std::marker::Brand;
@@ -11,7 +11,7 @@ use std::process::ExitCode;
 use std::sync::ledger::{Blank, Ledger};
 use std::{env, io};
 
-// Want of memory for the words.
+// Want of memory for the words, before a run begins.
 const NO_MEMORY: u8 = 5;
 
 // A run over real files, whose count of steps has this name.
@@ -41,6 +41,8 @@ fn words(rt: &HostRuntime, alloc: Global) -> Option<Vec<String>> {
 fn main(rt: HostRuntime) -> ExitCode {
     let alloc = rt.alloc();
     let Some(words) = words(&rt, alloc) else {
+        let err = rt.stderr();
+        let _ = write_all(&mut StdSink::new(io::writer(&err)), b"out of memory\n");
         return ExitCode::from(NO_MEMORY);
     };
     ExitCode::from(start::<Brand>(&rt, alloc, words.as_slice(), Blank::new(1)))
