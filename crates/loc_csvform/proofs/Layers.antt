@@ -52,15 +52,6 @@ stop first (f.LongId row) more is = rw is refl
 stop first (f.ManyFeatures row) more is = rw is refl
 stop first (f.ManyPoints row) more is = rw is refl
 
--- the features of the first row, then those of the others
-pub row_more : (read : List ℕ → Result Polygons TextFault) (row : RowRead) (rows : List RowRead) (features : List Feature) → features_from read (row ∷ rows) features ≡ result_and_then (features_from read (row ∷ []) features) (features_from read rows)
-row_more read (Err fault) rows features = refl
-row_more read (Ok row) rows features = go (with_row features row (text_reading read row.text))
-  where
-    go : (first : LayerRead) → result_and_then first (features_from read rows) ≡ result_and_then (result_and_then first (features_from read [])) (features_from read rows)
-    go (Ok more) = refl
-    go (Err fault) = refl
-
 -- the fault of a row is that of the layer
 pub row_fault : (read : List ℕ → Result Polygons TextFault) (row : RowRead) (features : List Feature) (fault : LayerFault) → IsFaultOf row fault → IsFaultOf (features_from read (row ∷ []) features) fault
 row_fault read row features f.NoMemory is = tt

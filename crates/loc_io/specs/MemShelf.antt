@@ -22,9 +22,10 @@ mem_meaning s = record {
   write_faults = s.write_faults.number;
 }
 
--- the numbers of the calls that are to fail, and how many were made
+-- the numbers of the calls that are to fail
 abbrev pub failing_calls : MemShelf → List ℕ
 failing_calls s = s.fail.numbers.items
 
+-- how many calls were made
 abbrev pub calls_made : MemShelf → ℕ
 calls_made s = s.fail.calls

@@ -11,10 +11,11 @@ mem_bytes s = s.bytes.items
 abbrev pub mem_faults : MemSink → ℕ
 mem_faults s = s.faults.number
 
--- the numbers of the writes to a sink in memory that are to fail, and how many were made
+-- the numbers of the writes to a sink in memory that are to fail
 abbrev pub failing_writes : MemSink → List ℕ
 failing_writes s = s.fail.numbers.items
 
+-- how many writes to a sink in memory were made
 abbrev pub writes_made : MemSink → ℕ
 writes_made s = s.fail.calls
 

@@ -1,9 +1,9 @@
 //! A shelf of files that are handed in, over which no call fails.
-ghost use Rattle.std.specs.Prelude.{◌≡◌, ◌<◌, false, [], unwrap_or, vec_len, OnOk, OnErr};
+ghost use Rattle.std.specs.Prelude.{◌≡◌, ◌<◌, true, false, [], Ok, length, unwrap_or, vec_len, OnOk, OnErr};
 ghost use Rattle.std.specs.List.{position};
 ghost use Rattle.std.specs.Option.{ForSome};
 ghost use Rattle.loc_io.specs.Steady.{bytes_at};
-ghost use Rattle.loc_io.specs.Meaning.{IsFresh, HandsIn, holds};
+ghost use Rattle.loc_io.specs.Meaning.{IsFresh, HandsIn, Writes, holds};
 
 use crate::mem_file::{MemFile, copy_front, place_of};
 use crate::trace::Trace;
@@ -95,7 +95,12 @@ impl Shelf for SteadyShelf {
         Ok(())
     }
 
-    fn write(&mut self, piece: &[u8]) -> Result<usize, Failed> {
+    fn write(&mut self, piece: &[u8]) -> Result<usize, Failed>
+        requires making { (steady_meaning self.old).is_making ≡ true }
+        requires some { 0 < length piece.now }
+        ensures shelf { Writes piece.now (steady_meaning self.old) (steady_meaning self.new) result }
+        ensures whole { result ≡ Ok (length piece.now) }
+    {
         Ok(piece.len())
     }
 

@@ -1,9 +1,9 @@
 -- Where the pieces of a text are cut: what a reader of tokens knows of the pieces behind its place.
-use Rattle.std.proofs.Common.{◌≡◌, ℕ, List, [], ◌∷◌, ◌++◌, Bool, true, false, ◌||◌, ◌&&◌, not, map, refl, sym, ◌∙◌, ap, ap₂, one-add, take_while}
+use Rattle.std.proofs.Common.{◌≡◌, ℕ, List, [], ◌∷◌, ◌++◌, Bool, true, false, ◌||◌, not, map, refl, sym, ◌∙◌, ap, ap₂, one-add, take_while}
 use Rattle.std.specs.Prelude.{if◌then◌else◌}
-use Rattle.std.specs.List.{onto_first, list_all}
-use Rattle.loc_spec_text.specs.Bytes.{is_white, is_blank, drop_while}
-use Rattle.loc_spec_text.specs.Geometry.{runs, pieces, piece_of, is_mark, is_break, ends_piece, open_mark, close_mark, comma}
+use Rattle.std.specs.List.{onto_first}
+use Rattle.loc_spec_text.specs.Bytes.{is_white, drop_while}
+use Rattle.loc_spec_text.specs.Geometry.{runs, pieces, piece_of, is_mark, is_break, ends_piece}
 
 -- neither of the two holds
 abbrev pub not_either : Bool → Bool → Bool
@@ -13,41 +13,8 @@ not_either w m = not (w || m)
 abbrev pub is_plain : ℕ → Bool
 is_plain b = not (is_break b)
 
--- a part of a piece: no break in it
-abbrev pub is_run : List ℕ → Bool
-is_run text = list_all is_plain text
-
-and-first : (a b : Bool) → (a && b) ≡ true → a ≡ true
-and-first true b h = refl
-and-first false b h = absurd (cc)
-
-and-second : (a b : Bool) → (a && b) ≡ true → b ≡ true
-and-second true b h = h
-and-second false b h = absurd (cc)
-
 runs-white_step : (b : ℕ) (text : List ℕ) → is_white b ≡ true → runs (b ∷ text) ≡ runs text
 runs-white_step b text h = rw h refl
-
--- white space in front is skipped
-pub runs-white : (white text : List ℕ) → is_blank white ≡ true → runs (white ++ text) ≡ runs text
-runs-white [] text h = refl
-runs-white (b ∷ white) text h = runs-white_step b (white ++ text) (and-first (is_white b) (is_blank white) h) ∙ runs-white white text (and-second (is_white b) (is_blank white) h)
-
--- white space in front makes no piece
-pub pieces-white : (white text : List ℕ) → is_blank white ≡ true → pieces (white ++ text) ≡ pieces text
-pieces-white white text h = ap (map piece_of) (runs-white white text h)
-
--- the marks
-pub pieces-open : (text : List ℕ) → pieces (40 ∷ text) ≡ open_mark ∷ pieces text
-pieces-open text = refl
-
--- a closing mark is a piece
-pub pieces-close : (text : List ℕ) → pieces (41 ∷ text) ≡ close_mark ∷ pieces text
-pieces-close text = refl
-
--- a comma is a piece
-pub pieces-comma : (text : List ℕ) → pieces (44 ∷ text) ≡ comma ∷ pieces text
-pieces-comma text = refl
 
 plain-parts : (w m : Bool) → not_either w m ≡ true → (w ≡ false) × (m ≡ false)
 plain-parts true m h = absurd (cc)
@@ -72,17 +39,7 @@ runs-more b c text h k = let p = plain-parts (is_white b) (is_mark b) h in
     step false false true hw hm he more = absurd (cc)
     step false false false hw hm he more = refl
 
--- bytes without a break, up to a break or the end, are one run
-pub runs-run : (b : ℕ) (run rest : List ℕ) → is_run (b ∷ run) ≡ true → ends_piece rest ≡ true → runs ((b ∷ run) ++ rest) ≡ (b ∷ run) ∷ runs rest
-runs-run b [] rest h e = runs-last b rest (and-first (is_plain b) true h) e
-runs-run b (c ∷ run) rest h e = let tail = and-second (is_plain b) (is_run (c ∷ run)) h in
-    runs-more b c (run ++ rest) (and-first (is_plain b) (is_run (c ∷ run)) h) (and-first (is_plain c) (is_run run) tail) ∙ ap (onto_first b) (runs-run c run rest tail e)
-
--- they are one piece
-pub pieces-run : (b : ℕ) (run rest : List ℕ) → is_run (b ∷ run) ≡ true → ends_piece rest ≡ true → pieces ((b ∷ run) ++ rest) ≡ piece_of (b ∷ run) ∷ pieces rest
-pieces-run b run rest h e = ap (map piece_of) (runs-run b run rest h e)
-
--- the same for a text as it stands: white space is skipped, and then a mark or the longest run is the first piece
+-- white space is skipped, and then a mark or the longest run is the first piece
 pub drop_while-yes : {X : Type 0} (p : X → Bool) (x : X) (xs : List X) → p x ≡ true → drop_while p (x ∷ xs) ≡ drop_while p xs
 drop_while-yes p x xs h = rw h (rw one-add refl)
 

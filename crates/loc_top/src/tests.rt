@@ -11,6 +11,12 @@ use std::test::Fail;
 
 const SQUARE: &[u8] = b"POLYGON ((0 0, 4 0, 4 4, 0 4, 0 0))\n";
 
+// Points inside, outside, at corners, on a border, and in the open face beside.
+const POINTS: &[u8] = b"2 2\n5 2\n0 0\n4 4\n4 2\n4 5\n0 -1\n-1 4\n5 0\n";
+
+const ANSWERS: &[u8] =
+    b"face in \"1\"\nface in\ncorner 0 on \"1\" in\ncorner 3 on \"1\" in\nborder 3 on \"1\" in\nface in\nface in\nface in\nface in\n";
+
 const BOW_TIE: &[u8] = b"POLYGON ((0 0, 4 4, 4 0, 0 4, 0 0))";
 
 // The layer, the points, the scale, the status, and what stands on out and on notes.
@@ -24,14 +30,7 @@ type Row = (
 );
 
 const ROWS: [Row; 28] = [
-    (
-        SQUARE,
-        b"2 2\n5 2\n0 0\n4 4\n4 2\n4 5\n0 -1\n-1 4\n5 0\n",
-        "0",
-        0,
-        b"face in \"1\"\nface in\ncorner 0 on \"1\" in\ncorner 3 on \"1\" in\nborder 3 on \"1\" in\nface in\nface in\nface in\nface in\n",
-        b"",
-    ),
+    (SQUARE, POINTS, "0", 0, ANSWERS, b""),
     (
         b"POLYGON((0 0,2 -2,4 0,2 2,0 0))",
         b"-1 0\n1 0",
@@ -309,7 +308,7 @@ const COMMANDS: [CommandRow; 8] = [
 
 // The layer, empty where a missing file is asked for; which call of the shelf, of out and of notes fails, the status, and what stands on
 // out and on notes.
-const FAILING: [(&[u8], u64, u64, u64, u8, &[u8], &[u8]); 13] = [
+const FAILING: [(&[u8], u64, u64, u64, u8, &[u8], &[u8]); 14] = [
     (b"", 0, 0, 0, 3, b"", b"read failed\n"),
     (SQUARE, 1, 0, 0, 3, b"", b"read failed\n"),
     (SQUARE, 2, 0, 0, 3, b"", b"read failed\n"),
@@ -317,9 +316,10 @@ const FAILING: [(&[u8], u64, u64, u64, u8, &[u8], &[u8]); 13] = [
     (SQUARE, 4, 0, 0, 3, b"", b"read failed\n"),
     (SQUARE, 5, 0, 0, 3, b"", b"read failed\n"),
     (SQUARE, 6, 0, 0, 3, b"", b"read failed\n"),
-    (SQUARE, 7, 0, 0, 0, b"face in \"1\"\n", b""),
+    (SQUARE, 7, 0, 0, 0, ANSWERS, b""),
     (SQUARE, 0, 1, 0, 4, b"", b"write failed\n"),
     (SQUARE, 0, 1, 1, 4, b"", b""),
+    (SQUARE, 0, 2, 0, 0, ANSWERS, b""),
     (SQUARE, 1, 0, 1, 3, b"", b""),
     (BOW_TIE, 0, 0, 1, 1, b"", b""),
     (BOW_TIE, 0, 0, 3, 1, b"", b"layer: edges 0"),
@@ -429,7 +429,7 @@ fn failing_calls(rt: HostRuntime) -> Result<(), Fail> {
     for (layer, shelf_call, out_call, notes_call, status, out, notes) in FAILING {
         let name = if layer.is_empty() { "absent" } else { "layer" };
         let words = ["query", name, "points", "--scale", "0"];
-        let shelf = shelf_of(alloc, layer, b"2 2\n", shelf_call)?;
+        let shelf = shelf_of(alloc, layer, POINTS, shelf_call)?;
         let outcome = outcome_of(alloc, &words, shelf, out_call, notes_call)?;
         assert_eq!(rt;
             outcome.status,
