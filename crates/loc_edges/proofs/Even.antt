@@ -241,7 +241,6 @@ module _ (layer : List Rings) where
     is_table = table_of-is_table layer;
     all_ends = table_of-all_ends;
     all_even = table_of-all_even closed;
-    in_order = pieces_rise layer;
     edges_are = edge_is_piece layer;
     ending_are = refl;
   }

@@ -6,7 +6,6 @@ pub mod EdgeRows
 pub mod MarkRows
 pub mod Ordered
 pub mod Orders
-pub mod Pairs
 pub mod Places
 pub mod Counts
 pub mod SortedSet

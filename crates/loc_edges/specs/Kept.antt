@@ -1,8 +1,7 @@
 -- What a table of numbers keeps beside its value.
-use Rattle.std.specs.Prelude.{◌≡◌, ℕ, ◌<◌, ◌≤◌, ◌^◌, List, length, map, slice_index_or, IsTrue}
+use Rattle.std.specs.Prelude.{◌≡◌, ℕ, ◌<◌, ◌≤◌, ◌^◌, List, length, map, slice_index_or}
 use Rattle.std.specs.List.{flat_map}
-use Rattle.loc_spec_plane.specs.Lists.{is_rising}
-use Rattle.loc_spec_plane.specs.Points.{Point, Edge, edge_before}
+use Rattle.loc_spec_plane.specs.Points.{Point, Edge}
 use Rattle.loc_spec_plane.specs.Rings.{Rings}
 use Rattle.loc_spec_plane.specs.Tables.{Table, IsTable, AllEnds, AllEven, edge, corner_numbers}
 use Rattle.loc_edges.specs.Ending.{ending_among}
@@ -24,6 +23,5 @@ pub record IsKept (edges : List Edge) (ending : List (List ℕ)) (t : Table) : T
   pub is_table : IsTable t
   pub all_ends : AllEnds t
   pub all_even : AllEven t
-  pub in_order : IsTrue (is_rising edge_before edges)
   pub edges_are : (n : ℕ) (d : Edge) → n < length edges → slice_index_or edges n d ≡ edge t n
   pub ending_are : ending ≡ map (ending_among t.ends (length t.ends)) (corner_numbers t)

@@ -1,11 +1,9 @@
-//! The tables of a layer: its corners and its edges, in order and each once, the marks of each edge, and the first pair of edges that
-//! conflicts.
+//! The tables of a layer: its corners and its edges, in order and each once, and the marks of each edge.
 #![tactic(auto)]
 
 ghost use Rattle.std.specs.Prelude.{◌≡◌, ◌<◌, IfOk, length};
 ghost use Rattle.loc_rings.specs.Values.{IsRing};
 
-mod conflicts;
 mod floors;
 mod grouped;
 mod marks;
@@ -19,7 +17,6 @@ mod table;
 mod tables;
 mod views;
 
-pub use conflicts::{Conflict, first_conflict};
 pub use floors::Floors;
 pub use loc_spec_plane::Mark;
 pub use ranks::{Placing, Ranks};
@@ -30,7 +27,7 @@ pub use views::Views;
 #[cfg(test)]
 mod tests {
     use super::*;
-    use loc_geom::{Edge, Meeting, Point, Side, Steps};
+    use loc_geom::{Point, Side, Steps};
     use loc_rings::{Feature, Layer, Rings};
     use std::alloc::Global;
     use std::cmp::Ordering;
@@ -97,7 +94,7 @@ mod tests {
         features: &[Feature],
         points: &[(i64, i64)],
         ends: &[(usize, usize)],
-    ) -> Result<Vec<Edge>, Fail> {
+    ) -> Result<(), Fail> {
         let table = edges(alloc, features)?;
         let found = corners_between(alloc, &table)?;
         assert_eq!(rt; found.len(), points.len());
@@ -109,25 +106,7 @@ mod tests {
             assert_eq!(rt; Some(pair_of(edge.lo())), points.get(lo).copied());
             assert_eq!(rt; Some(pair_of(edge.hi())), points.get(hi).copied());
         }
-        Ok(table)
-    }
-
-    // The conflicts that are shown one after another, where the first edge of each is then taken out.
-    fn expect_conflicts(rt: &impl Abort, mut table: Vec<Edge>, wanted: &[(usize, usize, Meeting)]) {
-        for (first, second, meeting) in wanted.iter().copied() {
-            assert_eq!(rt;
-                first_conflict(&table),
-                Some(Conflict {
-                    first,
-                    second,
-                    meeting
-                })
-            );
-            if first < table.len() {
-                table.remove(first);
-            }
-        }
-        assert_eq!(rt; first_conflict(&table), None);
+        Ok(())
     }
 
     #[test]
@@ -136,26 +115,22 @@ mod tests {
         let square = [(0, 0), (0, 4), (4, 0), (4, 4)];
         let sides = [(0, 1), (0, 2), (1, 3), (2, 3)];
 
-        let none = expect(&rt, alloc, &[], &[], &[])?;
-        expect_conflicts(&rt, none, &[]);
+        expect(&rt, alloc, &[], &[], &[])?;
 
         let twice = features_of(alloc, &[&SQUARE, &SQUARE])?;
-        let table = expect(&rt, alloc, &twice, &square, &sides)?;
-        expect_conflicts(&rt, table, &[]);
+        expect(&rt, alloc, &twice, &square, &sides)?;
 
         let back = features_of(alloc, &[&BACK])?;
-        let table = expect(&rt, alloc, &back, &[(0, 0), (4, -1)], &[(0, 1)])?;
-        expect_conflicts(&rt, table, &[]);
+        expect(&rt, alloc, &back, &[(0, 0), (4, -1)], &[(0, 1)])?;
 
         let bow_tie = features_of(alloc, &[&BOW_TIE])?;
-        let table = expect(
+        expect(
             &rt,
             alloc,
             &bow_tie,
             &square,
             &[(0, 1), (0, 3), (1, 2), (2, 3)],
         )?;
-        expect_conflicts(&rt, table, &[(1, 2, Meeting::Cross)]);
 
         let touching = features_of(alloc, &[&BESIDE, &SQUARE])?;
         let points = [(0, 0), (0, 4), (4, 0), (4, 2), (4, 4), (6, 0), (6, 2)];
@@ -169,13 +144,7 @@ mod tests {
             (3, 6),
             (5, 6),
         ];
-        let table = expect(&rt, alloc, &touching, &points, &ends)?;
-        expect_conflicts(
-            &rt,
-            table,
-            &[(3, 4, Meeting::Touch), (3, 5, Meeting::Touch)],
-        );
-        Ok(())
+        expect(&rt, alloc, &touching, &points, &ends)
     }
 
     const BOTH: &[Mark] = &[

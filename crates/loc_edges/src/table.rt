@@ -3,8 +3,6 @@
 ghost use Rattle.std.specs.Prelude.{◌≡◌, ◌<◌, ◌≤◌, ◌^◌, ◌==◌, IsTrue, Some, filter, length, slice_get, IfOk};
 ghost use Rattle.loc_spec_plane.specs.Lists.{is_rising};
 ghost use Rattle.loc_spec_plane.specs.Tables.{IsTable, AllEnds, AllEven, table_of, corner as corner_of, edge as edge_of, lo_of, hi_of, edge_numbers, mark_before};
-ghost use Rattle.loc_spec_plane.specs.Points.{edge_before};
-ghost use Rattle.loc_edges.specs.Conflicts.{edges_of};
 ghost use Rattle.loc_edges.specs.Ending.{IsBeginning};
 ghost use Rattle.loc_edges.specs.Layers.{layer_of};
 
@@ -106,15 +104,6 @@ impl EdgeTable {
         ensures { result ≡ edge_of self.now n }
     {
         self.edges[n as usize]
-    }
-
-    /// The edges by their points, in order.
-    pub fn edges(&self) -> &[Edge]
-        ensures value { result.now ≡ edges_of self.now }
-        ensures in_order { IsTrue (is_rising edge_before result.now) }
-        ensures within { length result.now ≤ 2 ^ 20 }
-    {
-        self.edges.as_slice()
     }
 
     /// The numbers of the lower and of the upper end of edge n.

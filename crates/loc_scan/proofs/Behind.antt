@@ -17,9 +17,16 @@ module _ (t : Table) (ok : IsTable t) (p : Point) where
     | inr other ↦ before_trans p (corner t n) (corner t c) ahead (corner_before t ok n c (let differ : n ≢ c = other in omega arith) fits)
   ]
 
+  -- before a corner that comes before a point each earlier one does
+  pub before_earlier : (n : ℕ) → n < length t.corners → before (corner t n) p ≡ true → (c : ℕ) → c ≤ n → before (corner t c) p ≡ true
+  before_earlier n fits passed c to = elim (cases_eq c n) [
+    | inl same ↦ subst (λ k. before (corner t k) p ≡ true) (sym same) passed
+    | inr other ↦ before_trans (corner t c) (corner t n) p (corner_before t ok c n (let differ : c ≢ n = other in omega arith) fits) passed
+  ]
+
   -- the first n corners come before p, and p before the others
-  pub stands_behind : (n : ℕ) → ((c : ℕ) → c < n → before (corner t c) p ≡ true) → ((c : ℕ) → n ≤ c → c < length t.corners → before p (corner t c) ≡ true) → IsBehind t p n
-  stands_behind n passed ahead = record {
+  pub stands_behind : (n : ℕ) → n ≤ length t.corners → ((c : ℕ) → c < n → before (corner t c) p ≡ true) → ((c : ℕ) → n ≤ c → c < length t.corners → before p (corner t c) ≡ true) → IsBehind t p n
+  stands_behind n within passed ahead = record {
     cornerless = λ c. not_from_false (is_corner_of t p c) (elim (cases_lt c (length t.corners)) [
       | inr past ↦ and_left (nat_lt c (length t.corners)) (same_point (corner t c) p) (le-ltb c (length t.corners) past)
       | inl fits ↦ and_right (nat_lt c (length t.corners)) (same_point (corner t c) p) (elim (cases_lt c n) [
@@ -27,6 +34,7 @@ module _ (t : Table) (ok : IsTable t) (p : Point) where
         | inr from ↦ same_point_sym (corner t c) p (before-differ p (corner t c) (ahead c from fits))
       ])
     ]);
+    within = within;
     passed = λ c fits. elim (cases_lt c n) [
       | inl less ↦ passed c less ∙ sym (lt-ltb c n less)
       | inr from ↦ before-asym_test p (corner t c) (ahead c from fits) ∙ sym (le-ltb c n from)

@@ -1,2 +1,4 @@
 pub mod Behind
+pub mod Listed
 pub mod Looks
+pub mod Standing

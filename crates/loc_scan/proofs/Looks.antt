@@ -14,7 +14,7 @@ use Rattle.loc_scan.specs.Standing.{IsBehind}
 
 module _ (t : Table) (ok : IsTable t) (p : Point) (n : ℕ) (behind : IsBehind t p n) (e : ℕ) (fits : e < length t.ends) where
   -- an edge is alive behind its lower end and before its upper one
-  alive_is : alive (edge t e) p ≡ (nat_lt (lo_of t e) n && not (nat_lt (hi_of t e) n))
+  pub alive_is : alive (edge t e) p ≡ (nat_lt (lo_of t e) n && not (nat_lt (hi_of t e) n))
   alive_is =
       let up = ok.goes_up e fits in
       let low : lo_of t e < length t.corners = omega arith in

@@ -1,5 +1,5 @@
 -- Where a point stands among the corners of a table.
-use Rattle.std.specs.Prelude.{◌≡◌, ℕ, ◌<◌, length, IsTrue, nat_lt}
+use Rattle.std.specs.Prelude.{◌≡◌, ℕ, ◌<◌, ◌≤◌, length, IsTrue, nat_lt}
 use Rattle.loc_spec_plane.specs.Points.{Point, before}
 use Rattle.loc_spec_plane.specs.Tables.{Table, corner}
 use Rattle.loc_spec_plane.specs.Places.{is_corner_of, IsCornerless}
@@ -9,6 +9,7 @@ use Rattle.loc_scan.specs.declared.corners.Standing.TheVariants.{OnCorner, Behin
 -- p is no corner, and exactly the first n corners come before it
 pub record IsBehind (t : Table) (p : Point) (n : ℕ) : Type 0 where
   pub cornerless : IsCornerless t p
+  pub within : n ≤ length t.corners
   pub passed : (c : ℕ) → c < length t.corners → before (corner t c) p ≡ nat_lt c n
 
 -- p is a corner, or stands behind the first n corners and before the others

@@ -1,24 +1,26 @@
-//! The plain locator, which looks at corners and edges one after another.
+//! The plain locator, which looks at corners and edges one after another, and the index that keeps the list at each corner.
 #![tactic(auto)]
 
-ghost use Rattle.std.specs.Prelude.{◌≡◌, ℕ, ◌<◌, IsTrue, not, length, IfOk};
-ghost use Rattle.loc_spec_plane.specs.Points.{conflict as conflict_of};
+ghost use Rattle.std.specs.Prelude.{◌≡◌, ◌<◌, IfOk};
 ghost use Rattle.loc_rings.specs.Values.{IsRing};
-ghost use Rattle.loc_spec_plane.specs.Tables.{NoConflict, edge as edge_of};
 
 mod corners;
 mod edges;
 mod scan;
+mod vec_index;
+mod versions;
 
 pub use scan::Scan;
+pub use vec_index::VecIndex;
 
 #[cfg(test)]
 mod tests {
     use super::*;
     use loc_edges::{EdgeTable, Views};
-    use loc_geom::{Edge, Meeting, Point, Steps, conflict};
+    use loc_geom::{Point, Steps};
     use loc_place::{Locator, Place};
     use loc_rings::{Feature, Layer, Rings};
+    use loc_sweep::sweep;
     use std::alloc::Global;
     use std::marker::Brand;
     use std::process::Abort;
@@ -135,31 +137,6 @@ mod tests {
         Ok(layer)
     }
 
-    // Whether an edge conflicts with none of the table.
-    fn meets_none(table: &EdgeTable, edge: Edge) -> bool
-        ensures { IsTrue result → (b : ℕ) → b < length table.now.ends → IsTrue (not (conflict_of edge (edge_of table.now b))) }
-    {
-        for n in 0..table.edge_count() {
-            match conflict(edge, table.edge(n)) {
-                Meeting::Apart => {}
-                _ => return false,
-            }
-        }
-        true
-    }
-
-    // Whether no two edges of the table conflict.
-    fn has_no_conflict(table: &EdgeTable) -> bool
-        ensures { IsTrue result → NoConflict table.now }
-    {
-        for n in 0..table.edge_count() {
-            if !meets_none(table, table.edge(n)) {
-                return false;
-            }
-        }
-        true
-    }
-
     // Asks any locator for the places of points.
     fn expect<I: Locator, L: Ledger>(
         rt: &impl Abort,
@@ -188,12 +165,13 @@ mod tests {
         for (rows, wanted) in ROWS {
             let layer = layer_of(rt.alloc(), rows)?;
             let table = EdgeTable::make(rt.alloc(), &layer)?;
-            if !has_no_conflict(&table) {
+            let Ok((index, _)) = sweep(rt.alloc(), &table, VecIndex::new(rt.alloc())) else {
                 return Err(Fail::new("edges that conflict"));
-            }
+            };
             let views = table.views();
             views.law();
             expect::<Scan, Brand>(&rt, &Scan, &views, wanted, Blank::new(1));
+            expect::<VecIndex, Brand>(&rt, &index, &views, wanted, Blank::new(1));
         }
         Ok(())
     }

@@ -24,8 +24,8 @@ begins_below a b = is_below a (deciding_end a b)
 pub below-not_above : (e : Edge) (p : Point) → is_below e p ≡ true → is_above e p ≡ false
 below-not_above e p below = false_from_ne_true (is_above e p) (λ above. both_ways (is_below e p) (above-not_below e p above) below)
 
--- ---- which end decides
-common_end : (a b : Edge) → same_point a.lo b.lo ≡ true → deciding_end a b ≡ b.hi
+-- which end decides
+pub common_end : (a b : Edge) → same_point a.lo b.lo ≡ true → deciding_end a b ≡ b.hi
 common_end a b common = cond-true (same_point a.lo b.lo) b.hi b.lo common
 
 pub other_end : (a b : Edge) → same_point a.lo b.lo ≡ false → deciding_end a b ≡ b.lo
@@ -36,14 +36,14 @@ pub not_above_itself : (e : Edge) → begins_above e e ≡ false
 not_above_itself e = subst (λ p. is_above e p ≡ false) (sym (common_end e e (same_point_refl e.lo))) (on-not_above e e.hi (high_is_on e))
 
 -- of two edges that begin at one point, a is lower where b's upper end is above it
-lower_common : (a b : Edge) → a.lo ≡ b.lo → lower a b ≡ is_above a b.hi
+pub lower_common : (a b : Edge) → a.lo ≡ b.lo → lower a b ≡ is_above a b.hi
 lower_common a b same =
     let first : before a.lo b.lo ≡ false = subst (λ p. before a.lo p ≡ false) same (before_irrefl a.lo) in
     let second : before b.lo a.lo ≡ false = subst (λ p. before p a.lo ≡ false) same (before_irrefl a.lo) in
     cond-false (before a.lo b.lo) _ _ first ∙ cond-false (before b.lo a.lo) _ _ second
 
 -- where a is alive at b's lower end, a is lower than b exactly where b begins above it
-lower_is : (a b : Edge) → alive a b.lo ≡ true → lower a b ≡ begins_above a b
+pub lower_is : (a b : Edge) → alive a b.lo ≡ true → lower a b ≡ begins_above a b
 lower_is a b live = elim (cases_Bool (before a.lo b.lo)) [
   | inl first ↦ cond-true (before a.lo b.lo) _ _ first ∙ ap (λ p. is_above a p) (sym (other_end a b (before-differ a.lo b.lo first)))
   | inr not_first ↦ (let not_second : before b.lo a.lo ≡ false = not-true (before b.lo a.lo) (and_parts (up_to a.lo b.lo) (before b.lo a.hi) live).0 in
@@ -58,7 +58,8 @@ opposite a b same = turn_swap b.lo b.hi a.hi ∙ ap (λ l. pos 0 -ℤ turn l a.h
 above_to_below : (a b : Edge) → a.lo ≡ b.lo → is_above a b.hi ≡ true → is_below b a.hi ≡ true
 above_to_below a b same h = (below_decides b a.hi).1 (let side : pos 0 <ℤ turn a.lo a.hi b.hi = (above_decides a b.hi).0 h in omega (arith, ints, opposite a b same))
 
-below_to_above : (a b : Edge) → a.lo ≡ b.lo → is_below a b.hi ≡ true → is_above b a.hi ≡ true
+-- and below the other way round
+pub below_to_above : (a b : Edge) → a.lo ≡ b.lo → is_below a b.hi ≡ true → is_above b a.hi ≡ true
 below_to_above a b same h = (above_decides b a.hi).1 (let side : turn a.lo a.hi b.hi <ℤ pos 0 = (below_decides a b.hi).0 h in omega (arith, ints, opposite a b same))
 
 -- they do not conflict where their directions differ

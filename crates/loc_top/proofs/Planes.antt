@@ -7,13 +7,13 @@ use Rattle.loc_spec_text.specs.declared.Form.{Form}
 use Rattle.loc_csvform.specs.Layer.{LayerRead, layer_of}
 use Rattle.std.specs.Prelude.{IfOk, IsTrue, not}
 use Rattle.loc_spec_plane.specs.Points.{Edge}
-use Rattle.loc_spec_plane.specs.Tables.{Table, IsTable}
+use Rattle.loc_spec_plane.specs.Tables.{Table, IsTable, NoConflict}
 use Rattle.loc_geom.specs.declared.kinds.Meeting.{Meeting}
 use Rattle.loc_csvform.specs.Faults.{IsFaultOf}
 use Rattle.loc_csvform.specs.declared.faults.LayerFault.{LayerFault}
 use Rattle.loc_csvform.specs.declared.faults.LayerFault.TheVariants as l
 use Rattle.loc_edges.specs.Conflicts.{edges_of, has_conflict}
-use Rattle.loc_edges.proofs.EdgeLists.{none_conflict}
+use Rattle.loc_edges.proofs.EdgeLists.{edges_apart, none_conflict}
 use Rattle.loc_place.specs.Planar.{IsPlanar}
 use Rattle.loc_top.specs.Located.{table_in}
 use Rattle.loc_top.specs.Notes.{layer_refusal}
@@ -104,3 +104,7 @@ is_conflict form scale read layer plane a b meeting is same conflicts = (refl, s
 -- the table of an accepted layer is one in which every point has one place
 pub planar : (layer : List Feature) (t : Table) → t ≡ table_in layer → IsTable t → Accepts (Ok layer) → IsPlanar t
 planar layer t is order accepts = record { in_order = order; apart = none_conflict t (subst (λ u. IsTrue (not (has_conflict (edges_of u)))) (sym is) accepts) }
+
+-- a layer in whose table no two edges conflict is accepted
+pub accepts : (layer : List Feature) (t : Table) → t ≡ table_in layer → NoConflict t → Accepts (Ok layer)
+accepts layer t is apart = subst (λ u. IsTrue (not (has_conflict (edges_of u)))) is (edges_apart t apart)

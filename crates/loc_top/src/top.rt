@@ -30,6 +30,7 @@ fn ended<F: Shelf, O: Sink, L: Ledger>(
                 points,
                 scale,
                 form,
+                index,
             },
         ) => query(
             alloc,
@@ -37,6 +38,7 @@ fn ended<F: Shelf, O: Sink, L: Ledger>(
             points,
             form,
             Scale::new(scale),
+            index,
             shelf,
             out,
             steps,

@@ -9,3 +9,4 @@ mod Commands
 mod Meets
 mod Numbers
 mod Named
+mod Examples

@@ -1,5 +1,6 @@
+use Rattle.std.proofs.Common.{arith}
 use Rattle.loc_scan.proofs.Behind.{before_later, stands_behind}
 use Rattle.loc_scan.proofs.corners.among_corners.Goals as goal
 
 pub returns-in-Greater-clause-standing : goal.returns-in-Greater-clause-standing
-returns-in-Greater-clause-standing g c = stands_behind c.args.views.now c.requires.in_order c.args.p c.loop-corner.corner c.loop-corner.invariant.passed (before_later c.args.views.now c.requires.in_order c.args.p c.loop-corner.corner c.in-Greater.ensures.value)
+returns-in-Greater-clause-standing g c = stands_behind c.args.views.now c.requires.in_order c.args.p c.loop-corner.corner (omega arith) c.loop-corner.invariant.passed (before_later c.args.views.now c.requires.in_order c.args.p c.loop-corner.corner c.in-Greater.ensures.value)

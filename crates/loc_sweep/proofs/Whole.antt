@@ -1,0 +1,206 @@
+-- What follows at the end of a sweep from what was kept corner by corner, and how that is kept.
+use Rattle.std.proofs.Common.{◌≡◌, ℕ, ◌+◌, ◌-◌, ◌<◌, ◌≤◌, false, not, ◌&&◌, List, [], ◌∷◌, ◌++◌, length, get_or, option_map, refl, sym, ◌∙◌, ap, subst, inl, inr, arith}
+use Rattle.std.specs.Prelude.{Option, Some, None, IfSome, ◌==◌, nat_lt}
+use Rattle.std.proofs.lemmas.Bool.{cases_eq, cases_lt, and_left, and_right, or_left, true≢false, not-true, not_from_true, not_from_false, eq-eqb, lt-ltb, le-ltb}
+use Rattle.std.proofs.lemmas.List.{length-append, length_push, get_or_push, get_or_append_left, get_or-append_right}
+use Rattle.std.proofs.lemmas.Option.{IfSome_then}
+use Rattle.loc_spec_plane.specs.Lists.{is_in}
+use Rattle.loc_spec_plane.specs.Points.{before, up_to, is_above}
+use Rattle.loc_spec_plane.specs.Tables.{Table, IsTable, NoConflict, corner, edge, lo_of, hi_of}
+use Rattle.loc_spec_plane.specs.Places.{alive, alive_at, is_edge, IsFloor}
+use Rattle.loc_laws_order.specs.Laws.{last_that}
+use Rattle.loc_laws_order.proofs.Floors.{floor_of_list}
+use Rattle.loc_laws_order.proofs.ListLaws.{list_from_chain}
+use Rattle.loc_laws_order.proofs.SweepLaw.{sweep_law}
+use Rattle.loc_laws_order.proofs.TableOrder.{corner_before, corner_up_to}
+use Rattle.loc_status.specs.Lists.{IsNextBelow}
+use Rattle.loc_status.specs.Meaning.{StatusMeaning, IsFresh, Seals}
+use Rattle.loc_sweep.specs.Course.{IsBefore, IsNoted, HasSealed}
+use Rattle.loc_sweep.specs.Line.{IsChainOf, IsBegun, reaches}
+use Rattle.loc_sweep.specs.Swept.{AreVersions, IsSwept, AreFloors}
+use Rattle.loc_sweep.proofs.JustBelow.{just_below}
+
+-- ---- the line from one corner to the next
+-- less, and not less, by the other side and one more
+one_more : (a b : ℕ) → (not (nat_lt a b) ≡ nat_lt b (a + 1)) × (nat_lt a b ≡ not (nat_lt b (a + 1)))
+one_more a b = elim (cases_lt a b) [
+  | inl less ↦ (let here = lt-ltb a b less in let there = le-ltb b (a + 1) (omega arith) in (not_from_true (nat_lt a b) here ∙ sym there, here ∙ sym (not_from_false (nat_lt b (a + 1)) there)))
+  | inr more ↦ (let here = le-ltb a b more in let there = lt-ltb b (a + 1) (omega arith) in (not_from_false (nat_lt a b) here ∙ sym there, here ∙ sym (not_from_true (nat_lt b (a + 1)) there)))
+]
+
+module _ (t : Table) (ok : IsTable t) where
+  -- corners are in the order of their numbers
+  corner_before_is : (i j : ℕ) → i < length t.corners → j < length t.corners → before (corner t i) (corner t j) ≡ nat_lt i j
+  corner_before_is i j fits_i fits_j = elim (cases_lt i j) [
+    | inl less ↦ corner_before t ok i j less fits_j ∙ sym (lt-ltb i j less)
+    | inr more ↦ not-true (before (corner t i) (corner t j)) (corner_up_to t ok j i more fits_i) ∙ sym (le-ltb i j more)
+  ]
+
+  -- the edges alive at a corner are those that reach the next
+  pub reaches_next : (c : ℕ) → c < length t.corners → (n : ℕ) → alive_at t (corner t c) n ≡ reaches t (c + 1) n
+  reaches_next c fits n = elim (cases_lt n (length t.ends)) [
+    | inr past ↦ and_left (is_edge t n) (alive (edge t n) (corner t c)) (le-ltb n (length t.ends) past) ∙ sym (and_left (is_edge t n) (nat_lt (lo_of t n) (c + 1) && not (nat_lt (hi_of t n) (c + 1))) (le-ltb n (length t.ends) past))
+    | inl less ↦ (let up = ok.goes_up n less in
+        let low : up_to (corner t (lo_of t n)) (corner t c) ≡ nat_lt (lo_of t n) (c + 1) = ap not (corner_before_is c (lo_of t n) fits (omega arith)) ∙ (one_more c (lo_of t n)).0 in
+        let high : before (corner t c) (corner t (hi_of t n)) ≡ not (nat_lt (hi_of t n) (c + 1)) = corner_before_is c (hi_of t n) fits up.1 ∙ (one_more c (hi_of t n)).1 in
+        ap (λ b. is_edge t n && (b && before (corner t c) (corner t (hi_of t n)))) low ∙ ap (λ b. is_edge t n && (nat_lt (lo_of t n) (c + 1) && b)) high)
+  ]
+
+-- the status behind a corner is the one before the next
+pub before_next : (t : Table) → IsTable t → (c : ℕ) → c < length t.corners → (m : StatusMeaning) → IsChainOf t c (alive_at t (corner t c)) m.list → IsBegun t (c + 1) m.inserted → m.inserted ≡ m.removed + length m.list → m.past_greatest ≤ length t.ends → IsBefore t (c + 1) m
+before_next t ok c fits m list begun balance in_range =
+    let back : c + 1 - 1 ≡ c = omega arith in
+    record {
+      list = subst (λ k. IsChainOf t k (reaches t (c + 1)) m.list) (sym back) (record { chain = list.chain; exact = λ n. list.exact n ∙ reaches_next t ok c fits n });
+      begun = begun;
+      balance = balance;
+      in_range = in_range;
+    }
+
+-- a status to which nothing was done is the one before the first corner
+pub before_first : (t : Table) (m : StatusMeaning) → IsFresh m → IsBefore t 0 m × HasSealed m []
+before_first t m fresh = (
+  record {
+    list = subst (λ es. IsChainOf t (0 - 1) (reaches t 0) es) (sym fresh.list) (record { chain = refl; exact = λ n. sym (and_right (is_edge t n) (nat_lt (lo_of t n) 0 && not (nat_lt (hi_of t n) 0)) (and_left (nat_lt (lo_of t n) 0) (not (nat_lt (hi_of t n) 0)) (le-ltb (lo_of t n) 0 (omega arith)))) });
+    begun = record { within = omega (arith, fresh.inserted); exact = λ n fits. (λ h. absurd (omega (arith, h)), λ h. absurd (omega (arith, h, fresh.inserted))) };
+    balance = (let none : length m.list ≡ 0 = ap length fresh.list in omega (arith, none, fresh.inserted, fresh.removed));
+    in_range = omega (arith, fresh.past_greatest);
+  },
+  record { count = fresh.sealed; told = fresh.sealed_lists; is_changed = fresh.is_changed },
+)
+
+-- a seal adds the list to those sealed
+pub sealed_more : (old new : StatusMeaning) (lists : List (List ℕ)) → Seals old new → old.sealed ≡ length lists → IfSome old.sealed_lists (λ sealed. sealed ≡ lists) → HasSealed new (lists ++ old.list ∷ [])
+sealed_more old new lists seals count told = record {
+  count = seals.sealed ∙ (ap (λ n. n + 1) count ∙ sym (length_push lists old.list));
+  told = subst (λ sealed. IfSome sealed (λ ls. ls ≡ lists ++ old.list ∷ [])) (sym seals.sealed_lists) (with_one old.sealed_lists told);
+  is_changed = seals.is_changed;
+}
+  where
+    with_one : (sealed : Option (List (List ℕ))) → IfSome sealed (λ ls. ls ≡ lists) → IfSome (option_map (λ ls. ls ++ old.list ∷ []) sealed) (λ ls. ls ≡ lists ++ old.list ∷ [])
+    with_one None told = tt
+    with_one (Some sealed) told = ap (λ ls. ls ++ old.list ∷ []) told
+
+-- ---- what was noted, corner by corner
+-- before the first corner nothing was noted
+pub noted_none : (t : Table) → IsNoted t 0 0 [] [] []
+noted_none t = record {
+  as_many_lists = refl;
+  lists_are = λ i less. absurd (omega (arith, less));
+  as_many_corners = refl;
+  corners_are = λ i less. absurd (omega (arith, less));
+  as_many_edges = refl;
+  edges_are = λ e less. absurd (omega (arith, less));
+}
+
+module _ (t : Table) (c k k' : ℕ) (lists : List (List ℕ)) (of_corner of_edge more : List (Option ℕ)) (list : List ℕ) (floor : Option ℕ) (noted : IsNoted t c k lists of_corner of_edge) where
+  -- the lists before, and the new one
+  old_list : (i : ℕ) → i < c → get_or (lists ++ list ∷ []) i [] ≡ get_or lists i []
+  old_list i less = get_or_append_left lists (list ∷ []) [] i (omega (arith, noted.as_many_lists))
+
+  new_list : get_or (lists ++ list ∷ []) c [] ≡ list
+  new_list = get_or_push lists list [] c noted.as_many_lists
+
+  -- the list and the floor of one more corner, and the edges just below those that begin there
+  pub noted_more : IsBegun t c k → IsBegun t (c + 1) k' → IsChainOf t c (alive_at t (corner t c)) list → floor ≡ last_that (λ e. is_above (edge t e) (corner t c)) list → length more ≡ k' - k → k ≤ k' → ((i : ℕ) → i < length more → IsNextBelow (k + i) list (get_or more i None)) → IsNoted t (c + 1) k' (lists ++ list ∷ []) (of_corner ++ floor ∷ []) (of_edge ++ more)
+  noted_more begun_old begun_new chain floor_is as_many grows below = record {
+    as_many_lists = length_push lists list ∙ ap (λ n. n + 1) noted.as_many_lists;
+    lists_are = λ i less. elim (cases_eq i c) [
+      | inl same ↦ subst (λ j. IsChainOf t j (alive_at t (corner t j)) (get_or (lists ++ list ∷ []) j [])) (sym same) (subst (λ es. IsChainOf t c (alive_at t (corner t c)) es) (sym new_list) chain)
+      | inr other ↦ subst (λ es. IsChainOf t i (alive_at t (corner t i)) es) (sym (old_list i (omega arith))) (noted.lists_are i (omega arith))
+    ];
+    as_many_corners = length_push of_corner floor ∙ ap (λ n. n + 1) noted.as_many_corners;
+    corners_are = λ i less. elim (cases_eq i c) [
+      | inl same ↦ subst (λ j. get_or (of_corner ++ floor ∷ []) j None ≡ last_that (λ e. is_above (edge t e) (corner t j)) (get_or (lists ++ list ∷ []) j [])) (sym same)
+          (get_or_push of_corner floor None c noted.as_many_corners ∙ (floor_is ∙ ap (λ es. last_that (λ e. is_above (edge t e) (corner t c)) es) (sym new_list)))
+      | inr other ↦ get_or_append_left of_corner (floor ∷ []) None i (omega (arith, noted.as_many_corners)) ∙ (noted.corners_are i (omega arith) ∙ ap (λ es. last_that (λ e. is_above (edge t e) (corner t i)) es) (sym (old_list i (omega arith))))
+    ];
+    as_many_edges = (let sum = length-append of_edge more in omega (arith, noted.as_many_edges));
+    edges_are = λ e less. elim (cases_lt e k) [
+      | inl old ↦ at_old e old
+      | inr new ↦ at_new e new less
+    ];
+  }
+    where
+      -- an edge that began before stands in the list of an earlier corner
+      at_old : (e : ℕ) → e < k → IsNextBelow e (get_or (lists ++ list ∷ []) (lo_of t e) []) (get_or (of_edge ++ more) e None)
+      at_old e old =
+          let earlier : lo_of t e < c = (begun_old.exact e (omega (arith, begun_old.within))).1 old in
+          subst (λ es. IsNextBelow e es (get_or (of_edge ++ more) e None)) (sym (old_list (lo_of t e) earlier))
+          (subst (λ o. IsNextBelow e (get_or lists (lo_of t e) []) o) (sym (get_or_append_left of_edge more None e (omega (arith, noted.as_many_edges)))) (noted.edges_are e old))
+
+      -- one that begins at this corner stands in its list
+      at_new : (e : ℕ) → k ≤ e → e < k' → IsNextBelow e (get_or (lists ++ list ∷ []) (lo_of t e) []) (get_or (of_edge ++ more) e None)
+      at_new e new less =
+          let fits : e < length t.ends = omega (arith, begun_new.within) in
+          let here : lo_of t e ≡ c = elim (cases_lt (lo_of t e) c) [
+            | inl earlier ↦ absurd (let began = (begun_old.exact e fits).0 earlier in omega arith)
+            | inr later ↦ (let began = (begun_new.exact e fits).1 less in omega arith)
+          ] in
+          let place : k + (e - k) ≡ e = omega arith in
+          subst (λ es. IsNextBelow e es (get_or (of_edge ++ more) e None)) (sym (ap (λ j. get_or (lists ++ list ∷ []) j []) here ∙ new_list))
+          (subst (λ o. IsNextBelow e list o) (sym (get_or-append_right of_edge more k e None noted.as_many_edges new))
+          (subst (λ j. IsNextBelow j list (get_or more (e - k) None)) place (below (e - k) (omega arith))))
+
+-- ---- the end, where this was noted of all corners
+-- all edges begin before the last corner, since each ends at a later one than it begins at
+all_begun : (t : Table) → IsTable t → (k : ℕ) → IsBegun t (length t.corners) k → k ≡ length t.ends
+all_begun t ok k begun = elim (cases_lt k (length t.ends)) [
+  | inl less ↦ (let up = ok.goes_up k less in absurd (let began = (begun.exact k less).0 (omega arith) in omega arith))
+  | inr more ↦ omega (arith, begun.within)
+]
+
+-- a list without members is empty
+no_members : (es : List ℕ) → ((n : ℕ) → is_in n es ≡ false) → es ≡ []
+no_members [] none = refl
+no_members (e ∷ es) none = absurd (true≢false (sym (or_left (e == e) (is_in e es) (eq-eqb e e refl)) ∙ none e))
+
+module _ (t : Table) (ok : IsTable t) where
+  -- no edge reaches behind the last corner
+  none_reaches : (n : ℕ) → reaches t (length t.corners) n ≡ false
+  none_reaches n = elim (cases_lt n (length t.ends)) [
+    | inr past ↦ and_left (is_edge t n) (nat_lt (lo_of t n) (length t.corners) && not (nat_lt (hi_of t n) (length t.corners))) (le-ltb n (length t.ends) past)
+    | inl less ↦ (let up = ok.goes_up n less in
+        and_right (is_edge t n) (nat_lt (lo_of t n) (length t.corners) && not (nat_lt (hi_of t n) (length t.corners)))
+        (and_right (nat_lt (lo_of t n) (length t.corners)) (not (nat_lt (hi_of t n) (length t.corners))) (not_from_true (nat_lt (hi_of t n) (length t.corners)) (lt-ltb (hi_of t n) (length t.corners) up.1))))
+  ]
+
+  module _ (k : ℕ) (lists : List (List ℕ)) (of_corner of_edge : List (Option ℕ)) (noted : IsNoted t (length t.corners) k lists of_corner of_edge) where
+    -- no two edges conflict
+    pub no_conflict : NoConflict t
+    no_conflict = sweep_law t ok (λ i. get_or lists i []) (record {
+      chains = λ i fits. (noted.lists_are i fits).chain;
+      exact = λ i n fits. (noted.lists_are i fits).exact n;
+    })
+
+    -- so the lists are the versions
+    versions : AreVersions t lists
+    versions = record {
+      as_many = noted.as_many_lists;
+      are = λ i fits. (let chain = noted.lists_are i fits in list_from_chain t no_conflict (corner t i) (get_or lists i []) chain.chain chain.exact);
+    }
+
+    -- the floors are those of the corners, and the edges just below are those of all edges
+    pub are_floors : IsBegun t (length t.corners) k → AreFloors t (record { of_corner = of_corner; of_edge = of_edge })
+    are_floors begun =
+        let all : k ≡ length t.ends = all_begun t ok k begun in
+        record {
+          as_many_corners = noted.as_many_corners;
+          as_many_edges = noted.as_many_edges ∙ all;
+          of_corner = λ c fits. subst (λ o. IsFloor t (corner t c) o) (sym (noted.corners_are c fits)) (floor_of_list t (corner t c) (get_or lists c []) (versions.are c fits));
+          of_edge = λ e fits. (let up = ok.goes_up e fits in just_below t e (get_or lists (lo_of t e) []) (versions.are (lo_of t e) (omega arith)) (get_or of_edge e None) (noted.edges_are e (omega arith)));
+        }
+
+    -- the lists sealed are the versions, and each edge was inserted and removed
+    pub is_swept : (m : StatusMeaning) → IsBefore t (length t.corners) m → HasSealed m lists → IsSwept t m
+    is_swept m before sealed =
+        let all : m.inserted ≡ length t.ends = all_begun t ok m.inserted before.begun in
+        let empty : length m.list ≡ 0 = ap length (no_members m.list (λ n. before.list.exact n ∙ none_reaches n)) in
+        record {
+          sealed = sealed.count ∙ noted.as_many_lists;
+          versions = IfSome_then m.sealed_lists sealed.told (λ ls same. subst (AreVersions t) (sym same) versions);
+          inserted = all;
+          removed = omega (arith, before.balance);
+          in_range = before.in_range;
+          is_changed = sealed.is_changed;
+        }

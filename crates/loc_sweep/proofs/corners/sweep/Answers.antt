@@ -1,0 +1,26 @@
+use Rattle.std.proofs.Common.{◌≡◌, ◌<◌, ℕ, List, Option, length, arith, sym, subst, ap₂}
+use Rattle.loc_edges.specs.Floors.{FloorLists}
+use Rattle.loc_sweep.specs.Swept.{AreFloors}
+use Rattle.loc_sweep.proofs.UnderWay.{all_apart, all_floors, all_swept, goes_on, under_way}
+use Rattle.loc_sweep.proofs.corners.sweep.Goals as goal
+
+pub loop-corner-init : goal.loop-corner-init
+loop-corner-init g c = rw (c.in_ok-of_corner.ensures.items, c.in_ok-of_edge.ensures.items) (under_way c.args.table.now (g.S.Status.meaning c.args.status) c.requires.fresh)
+
+pub loop-corner-preserved : goal.loop-corner-preserved
+loop-corner-preserved g c = goes_on c.args.table.now c.law.ensures.in_order c.loop-corner.corner (subst (λ n. c.loop-corner.corner < n) c.corner_count-corner-end.ensures.value c.loop-corner-test.true)
+    (g.S.Status.meaning c.loop-corner.status) (g.S.Status.meaning c.leave_all.new.status) (g.S.Status.meaning c.come_all.new.status) (g.S.Status.meaning c.seal.new.self)
+    c.loop-corner.of_corner.items c.note_floor.new.of_corner.items c.loop-corner.of_edge.items c.note_below.new.of_edge.items c.loop-corner.invariant
+    c.in_ok-leave_all.ensures.left c.in_ok-come_all.ensures.here c.in_ok-note_floor.ensures c.in_ok-note_below.ensures c.in_ok-seal.ensures.ok
+
+pub returns-clause-apart : goal.returns-clause-apart
+returns-clause-apart g c = all_apart c.args.table.now c.law.ensures.in_order c.loop-corner.corner (g.S.Status.meaning c.loop-corner.status) c.loop-corner.of_corner.items c.loop-corner.of_edge.items (let end : c.loop-corner.corner ≡ length c.args.table.now.corners = omega (arith, c.loop-corner-test.false, c.loop-corner.auto.corner-end, c.corner_count-corner-end.ensures.value) in end) c.loop-corner.invariant
+
+pub returns-clause-swept : goal.returns-clause-swept
+returns-clause-swept g c = all_swept c.args.table.now c.law.ensures.in_order c.loop-corner.corner (g.S.Status.meaning c.loop-corner.status) c.loop-corner.of_corner.items c.loop-corner.of_edge.items (let end : c.loop-corner.corner ≡ length c.args.table.now.corners = omega (arith, c.loop-corner-test.false, c.loop-corner.auto.corner-end, c.corner_count-corner-end.ensures.value) in end) c.loop-corner.invariant
+
+pub returns-clause-floors : goal.returns-clause-floors
+returns-clause-floors g c =
+    let build : List (Option ℕ) → List (Option ℕ) → FloorLists = λ xs ys. record { of_corner = xs; of_edge = ys } in
+    let same : c.of.result ≡ build c.loop-corner.of_corner.items c.loop-corner.of_edge.items = ap₂ build c.of.ensures.corners c.of.ensures.edges in
+    subst (λ f. AreFloors c.args.table.now f) (sym same) (all_floors c.args.table.now c.law.ensures.in_order c.loop-corner.corner (g.S.Status.meaning c.loop-corner.status) c.loop-corner.of_corner.items c.loop-corner.of_edge.items (let end : c.loop-corner.corner ≡ length c.args.table.now.corners = omega (arith, c.loop-corner-test.false, c.loop-corner.auto.corner-end, c.corner_count-corner-end.ensures.value) in end) c.loop-corner.invariant)

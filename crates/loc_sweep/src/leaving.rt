@@ -1,0 +1,52 @@
+// The edges that end at a corner.
+
+ghost use Rattle.std.specs.Prelude.{◌-◌, ◌<◌, ◌≤◌, ◌^◌, IsTrue, length, IfErr, OnOk};
+ghost use Rattle.loc_spec_plane.specs.Lists.{is_in};
+ghost use Rattle.loc_spec_plane.specs.Tables.{hi_of};
+ghost use Rattle.loc_status.specs.Lists.{is_chain_at};
+ghost use Rattle.loc_status.specs.Meaning.{Removes};
+ghost use Rattle.loc_sweep.specs.Course.{IsBefore, Leaves};
+ghost use Rattle.loc_sweep.specs.Line.{IsWithout};
+ghost use Rattle.loc_sweep.specs.Swept.{IsShown};
+
+use crate::SweepFault;
+use crate::neighbours::test_both;
+use loc_edges::EdgeTable;
+use loc_status::Status;
+
+// Takes an edge out where it ends, and tests the two between which it stood.
+fn leave<S: Status>(table: &EdgeTable, status: &mut S, edge: u32) -> Result<(), SweepFault>
+    requires in_range { edge < length table.now.ends }
+    requires chain { IsTrue (is_chain_at table.now (hi_of table.now edge - 1) (S.meaning status.old).list) }
+    requires listed { IsTrue (is_in edge (S.meaning status.old).list) }
+    requires few { (S.meaning status.old).removed < 2 ^ 26 }
+    ensures gone { OnOk result (Removes edge (S.meaning status.old) (S.meaning status.new)) }
+    ensures chain { OnOk result (IsTrue (is_chain_at table.now (hi_of table.now edge - 1) (S.meaning status.new).list)) }
+    ensures others { OnOk result (IsWithout edge (S.meaning status.old).list (S.meaning status.new).list) }
+    ensures shown { IfErr result (IsShown table.now) }
+{
+    let ranks = table.ranks();
+    let below = status.below(&ranks, edge);
+    let above = status.above(&ranks, edge);
+    status.remove(&ranks, edge)?;
+    test_both(table, below, above)
+}
+
+// Takes out the edges that end at a corner.
+pub(crate) fn leave_all<S: Status>(
+    table: &EdgeTable,
+    status: &mut S,
+    corner: u32,
+) -> Result<(), SweepFault>
+    requires in_range { corner < length table.now.corners }
+    requires few { length table.now.ends ≤ 2 ^ 20 }
+    requires before { IsBefore table.now corner (S.meaning status.old) }
+    ensures left { OnOk result (Leaves table.now corner (S.meaning status.old) (S.meaning status.new)) }
+    ensures shown { IfErr result (IsShown table.now) }
+{
+    table.law();
+    for edge in table.ending(corner) {
+        leave(table, status, *edge)?;
+    }
+    Ok(())
+}
