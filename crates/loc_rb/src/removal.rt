@@ -22,6 +22,7 @@ pub fn remove<K: Links>(links: &mut K, path: Path, at: Link)
     requires place { (preceding : List ℕ) × (item : ℕ) × (following : List ℕ) × LeadsTo (K.nodes links.old) path.items at preceding item following × (length preceding + length following < 2 ^ 21) }
     ensures tree { (preceding : List ℕ) (item : ℕ) (following : List ℕ) → LeadsTo (K.nodes links.old) path.items at preceding item following → Holds (K.nodes links.new) (preceding ++ following) }
     ensures made { (K.nodes links.new).made ≤ (K.nodes links.old).made + 1 }
+    ensures more { (K.nodes links.old).made ≤ (K.nodes links.new).made }
     ensures changed { (K.nodes links.new).changed ≤ (K.nodes links.old).changed + 13 }
     ensures kept { (K.nodes links.new).kept ≡ (K.nodes links.old).kept }
     ensures items { KeepsItems (K.nodes links.old) (K.nodes links.new) }

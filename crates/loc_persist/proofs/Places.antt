@@ -1,0 +1,31 @@
+-- Where a link stands in a list of names, and which side is which.
+use Rattle.std.proofs.Common.{◌≡◌, ℕ, zero, suc, true, ◌-◌, List, [], ◌∷◌, refl, sym, ap, subst, Some, arith}
+use Rattle.std.specs.Prelude.{◌≢◌, slice_get}
+use Rattle.std.specs.List.{AllByRecursion}
+use Rattle.loc_pool.specs.declared.Link.{Link}
+use Rattle.loc_pool.specs.declared.Turn.{Turn}
+use Rattle.loc_pool.specs.declared.Turn.TheVariants.{Left, Right}
+use Rattle.loc_pool.specs.Rows.{same_turn, AreNames, IsPlace}
+
+-- the test of two sides is their equality
+pub same-turn : (s t : Turn) → same_turn s t ≡ true → s ≡ t
+same-turn Left Left e = refl
+same-turn Left Right e = cc
+same-turn Right Left e = cc
+same-turn Right Right e = refl
+
+all-get : (P : Link → Type 0) (ls : List Link) (l : Link) (i : ℕ) → AllByRecursion P ls → slice_get ls i ≡ Some l → P l
+all-get P [] l i a e = cc
+all-get P (k ∷ ks) l zero a e = subst P (let h : k ≡ l = cc in h) a.0
+all-get P (k ∷ ks) l (suc i) a e = all-get P ks l i a.1 e
+
+get-once : (ls : List Link) (l : Link) (i j : ℕ) → AreNames ls → slice_get ls i ≡ Some l → slice_get ls j ≡ Some l → i ≡ j
+get-once [] l i j n e f = cc
+get-once (k ∷ ks) l zero zero n e f = refl
+get-once (k ∷ ks) l zero (suc j) n e f = absurd (all-get (λ m. m ≢ k) ks l j n.1 f (let h : k ≡ l = cc in sym h))
+get-once (k ∷ ks) l (suc i) zero n e f = absurd (all-get (λ m. m ≢ k) ks l i n.1 e (let h : k ≡ l = cc in sym h))
+get-once (k ∷ ks) l (suc i) (suc j) n e f = ap suc (get-once ks l i j n.2 e f)
+
+-- a link has one place
+pub place-once : (ls : List Link) (l : Link) (i j : ℕ) → AreNames ls → IsPlace ls l i → IsPlace ls l j → i ≡ j
+place-once ls l i j n p q = let e = get-once ls l (i - 1) (j - 1) n p.1 q.1 in let a = p.0 in let b = q.0 in omega (arith, e, a, b)

@@ -1,0 +1,43 @@
+-- A node's row with its pointers by number: `IsNodeRow`.
+use Rattle.std.specs.Prelude.{◌≡◌, ℕ, Option, None, Some}
+use Rattle.loc_pool.specs.declared.Link.{Link}
+use Rattle.loc_pool.specs.declared.Extra.{Extra}
+use Rattle.loc_pool.specs.declared.Turn.{Turn}
+use Rattle.loc_pool.specs.declared.Turn.TheVariants.{Left, Right}
+use Rattle.loc_pool.specs.Maps.{Map, links}
+use Rattle.loc_pool.specs.Rows.{Row, IsPlace}
+use Rattle.loc_persist.specs.declared.node_row.NodeRow.{NodeRow}
+
+-- the number of the node to which a pointer leads, or 0 where it leads to none
+abbrev pub IsNumber : Map Row → Option Link → ℕ → Type 0
+IsNumber rows None number = number ≡ 0
+IsNumber rows (Some link) number = IsPlace (links rows) link number
+
+-- the number of a side
+abbrev pub turn_number : Turn → ℕ
+turn_number Left = 1
+turn_number Right = 2
+
+-- the number of the side of an extra, 0 where there is none
+abbrev pub side_of : Option Extra → ℕ
+side_of None = 0
+side_of (Some extra) = turn_number extra.turn
+
+-- the version of an extra, 0 where there is none
+abbrev pub stamp_of : Option Extra → ℕ
+stamp_of None = 0
+stamp_of (Some extra) = extra.version
+
+-- where an extra leads
+abbrev pub to_of : Option Extra → Option Link
+to_of None = None
+to_of (Some extra) = extra.to
+
+-- the row with its pointers by number
+pub record IsNodeRow (rows : Map Row) (row : Row) (numbered : NodeRow) : Type 0 where
+  pub item : numbered.item ≡ row.item
+  pub left : IsNumber rows row.left numbered.left
+  pub right : IsNumber rows row.right numbered.right
+  pub side : numbered.side ≡ side_of row.extra
+  pub stamp : numbered.stamp ≡ stamp_of row.extra
+  pub extra : IsNumber rows (to_of row.extra) numbered.extra

@@ -1,0 +1,15 @@
+//! Persistent search trees by limited node copying: each node has room for one pointer more, and is copied once that is
+//! used. Nodes that no sealed version has are changed in place.
+//! Source: Sarnak and Tarjan 1986, Planar Point Location Using Persistent Search Trees.
+#![tactic(auto)]
+
+mod copied;
+mod node_row;
+mod present;
+mod store;
+#[cfg(test)]
+mod tests;
+mod versions;
+
+pub use node_row::NodeRow;
+pub use versions::Versions;
