@@ -1,7 +1,6 @@
 pub mod Fronts
 pub mod Words
 pub mod Writing
-pub mod Indexed
 pub mod Layers
 pub mod Located
 pub mod Notes

@@ -20,7 +20,7 @@ asked_at layer points form scale = record { layer = layer; points = points; form
 
 -- what a command asks
 abbrev pub asked_by : Command → Asked
-asked_by (query layer points scale form index) = asked_at layer (Some points) form scale
+asked_by (query layer points scale form) = asked_at layer (Some points) form scale
 asked_by (check layer scale form) = asked_at layer None form scale
 
 -- what the words ask, if they are a command

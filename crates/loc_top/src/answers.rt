@@ -1,6 +1,6 @@
 //! Answer lines, put behind one another in memory.
 
-ghost use Rattle.std.specs.Prelude.{◌≡◌, ◌+◌, ◌*◌, ◌≤◌, ◌++◌, ◌∷◌, [], codes, length, IfOk, OnOk};
+ghost use Rattle.std.specs.Prelude.{◌≡◌, ◌+◌, ◌*◌, ◌≤◌, ◌++◌, ◌∷◌, [], codes, length, Ok, IfOk, OnOk};
 ghost use Rattle.std.specs.Fmt.{decimal};
 ghost use Rattle.std.specs.List.{flat_map};
 ghost use Rattle.loc_spec_plane.specs.Rings.{touches as touches_of, covers as covers_of};
@@ -8,6 +8,7 @@ ghost use Rattle.loc_spec_text.specs.Bytes.{lines};
 ghost use Rattle.loc_spec_text.specs.Points.{answer_text, answer_to, ended, ids_text, point_of, quoted, quoted_byte};
 ghost use Rattle.loc_top.specs.Fronts.{front_of};
 ghost use Rattle.loc_top.specs.Located.{answer_at, ids_where, located, output_of, steps_of};
+ghost use Rattle.loc_top.specs.Query.{Accepts};
 
 use crate::{Plane, Scale};
 use itoa::Buffer;
@@ -121,6 +122,7 @@ fn push_located<L: Ledger>(
     p: Point,
     steps: &mut Steps<L>,
 ) -> Result<(), AllocError>
+    requires { Accepts (Ok plane.now) }
     ensures answer { OnOk result (out.new.items ≡ out.old.items ++ answer_text (located plane.now p)) }
     ensures counted { steps.old ≤ steps.new }
     ensures within { steps.new ≤ steps.old + steps_of plane.now }
@@ -137,6 +139,7 @@ fn push_line<L: Ledger>(
     line: &[u8],
     steps: &mut Steps<L>,
 ) -> Result<(), AllocError>
+    requires { Accepts (Ok plane.now) }
     ensures line { OnOk result (out.new.items ≡ out.old.items ++ ended (answer_text (answer_to (point_of scale) (located plane.now) line.now))) }
     ensures counted { steps.old ≤ steps.new }
     ensures within { steps.new ≤ steps.old + steps_of plane.now }
@@ -157,6 +160,7 @@ pub fn answers<L: Ledger>(
     points: &[u8],
     steps: &mut Steps<L>,
 ) -> Result<Vec<u8>, AllocError>
+    requires { Accepts (Ok plane.now) }
     ensures value { IfOk result (λ out. out.items ≡ output_of scale plane.now points.now) }
     ensures counted { steps.old ≤ steps.new }
     ensures within { steps.new ≤ steps.old + length (lines points.now) * steps_of plane.now }

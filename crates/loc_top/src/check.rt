@@ -12,7 +12,6 @@ use crate::{Plane, RunFault, Scale};
 use itoa::Buffer;
 use loc_io::{Shelf, Sink, write_all};
 use loc_spec_text::Form;
-use loc_words::Index;
 use std::alloc::{AllocError, Global};
 
 // A word and a number.
@@ -55,7 +54,7 @@ pub fn check<F: Shelf, O: Sink>(
     ensures points { PointsTold (Some []) result }
     ensures out { OutTold (asked_at layer_name.now None form scale) result (bytes_of ((F.meaning shelf.old).told layer_name.now)) (Some []) (O.written out.old) (O.written out.new) }
 {
-    let plane = read_plane(alloc, shelf, layer_name, form, scale, Index::Scan)?;
+    let plane = read_plane(alloc, shelf, layer_name, form, scale)?;
     let line = counts(alloc, &plane)?;
     write_all(out, &line)?;
     Ok(())

@@ -1,49 +1,38 @@
-//! A layer with its table, and an index that finds the places of points in it.
+//! A layer with its table.
 
-ghost use Rattle.std.specs.Prelude.{◌≡◌, ◌+◌, ◌≤◌, length, Ok, IfOk, IfErr, OnOk};
-ghost use Rattle.loc_spec_plane.specs.Tables.{NoConflict};
-ghost use Rattle.loc_sweep.specs.Swept.{IsShown};
+ghost use Rattle.std.specs.Prelude.{◌≡◌, ◌+◌, ◌≤◌, length, Ok, IfOk, MatchOption};
 ghost use Rattle.loc_place.specs.Found.{place_at};
-ghost use Rattle.loc_top.specs.Indexed.{FindsIn, MakesPlane};
 ghost use Rattle.loc_top.specs.Located.{steps_of, table_in};
+ghost use Rattle.loc_top.specs.Query.{Accepts, Conflicts};
 
 use loc_edges::EdgeTable;
 use loc_geom::{Edge, Meeting, Point, Steps};
 use loc_place::{Locator, Place};
 use loc_rings::{Feature, Layer};
-use loc_scan::{Scan, VecIndex};
+use loc_scan::Scan;
 use loc_status::VecStatus;
 use loc_sweep::{SweepFault, sweep};
-use loc_words::Index;
-use std::alloc::Global;
+use std::alloc::{AllocError, Global};
 use std::marker::Model;
 use std::sync::ledger::Ledger;
 
-// What finds the places of points in a table.
-#[derive(Drop)]
-enum Finder {
-    Scan,
-    Tree(VecIndex),
-}
-
-/// The features of a layer, the table of its corners and edges, of which no two conflict, and what finds places in it.
+/// The features of a layer, and the table of its corners and edges.
 #[derive(Drop)]
 pub struct Plane {
     layer: Layer,
     table: EdgeTable,
-    finder: Finder,
 }
 
 impl Model for Plane {
-    ghost use Rattle.std.specs.Prelude.{List};
+    ghost use Rattle.std.specs.Prelude.{◌≡◌, List};
     ghost use Rattle.loc_rings.specs.Values.{Feature as FeatureValue};
-    ghost use Rattle.loc_top.specs.Indexed.{IsIndexed};
+    ghost use Rattle.loc_top.specs.Located.{table_in};
 
     ghost Value = { List FeatureValue };
 
     ghost view = { λ p. p.layer };
 
-    ghost invariant = { λ p. IsIndexed p.layer p.table p.finder };
+    ghost invariant = { λ p. p.table ≡ table_in p.layer };
 }
 
 /// Two edges that conflict, the lesser first, and how they meet.
@@ -54,54 +43,14 @@ pub struct Pair {
     pub meeting: Meeting,
 }
 
-/// Why a layer has no plane: two of its edges conflict, or there was no memory.
-#[derive(Clone, Copy, Debug, Drop)]
-pub enum PlaneFault {
-    Conflict(Pair),
-    NoMemory,
-}
-
-// Sweeps a table with a status that keeps what the index asks for.
-fn finder_of(alloc: Global, table: &EdgeTable, index: Index) -> Result<Finder, SweepFault>
-    ensures apart { OnOk result (NoConflict table.now) }
-    ensures finds { IfOk result (FindsIn table.now) }
-    ensures shown { IfErr result (IsShown table.now) }
-{
-    table.law();
-    match index {
-        Index::Scan => {
-            sweep(alloc, table, VecStatus::new(alloc))?;
-            Ok(Finder::Scan)
-        }
-        Index::Tree => {
-            let (versions, _) = sweep(alloc, table, VecIndex::new(alloc))?;
-            Ok(Finder::Tree(versions))
-        }
-    }
-}
-
 impl Plane {
-    /// The plane of a layer with an index. It sweeps the table from corner to corner, and tests only edges that come to stand side by side.
+    /// The plane of a layer.
     #[tactic(auto, unfolding(crate::specs::Located::table_in))]
-    pub fn make(alloc: Global, layer: Layer, index: Index) -> Result<Plane, PlaneFault>
-        ensures { MakesPlane layer result }
+    pub fn make(alloc: Global, layer: Layer) -> Result<Plane, AllocError>
+        ensures { IfOk result (λ plane. plane ≡ layer) }
     {
-        let Ok(table) = EdgeTable::make(alloc, &layer) else {
-            return Err(PlaneFault::NoMemory);
-        };
-        match finder_of(alloc, &table, index) {
-            Ok(finder) => Ok(Plane {
-                layer,
-                table,
-                finder,
-            }),
-            Err(SweepFault::Conflict { a, b, meeting }) => Err(PlaneFault::Conflict(Pair {
-                a: table.edge(a),
-                b: table.edge(b),
-                meeting,
-            })),
-            Err(SweepFault::NoMemory) => Err(PlaneFault::NoMemory),
-        }
+        let table = EdgeTable::make(alloc, &layer)?;
+        Ok(Plane { layer, table })
     }
 
     /// The features, in order.
@@ -125,17 +74,30 @@ impl Plane {
         self.table.edge_count() as usize
     }
 
-    /// The place of a point.
+    /// The place of a point, where no two edges conflict. It looks at every corner and every edge.
     pub fn place<L: Ledger>(&self, p: Point, steps: &mut Steps<L>) -> Place
+        requires { Accepts (Ok self.now) }
         ensures value { result ≡ place_at (table_in self.now) p }
         ensures counted { steps.old ≤ steps.new }
         ensures within { steps.new ≤ steps.old + steps_of self.now }
     {
         self.table.law();
-        let views = self.table.views();
-        match &self.finder {
-            Finder::Scan => Scan.locate(&views, p, steps).unwrap(),
-            Finder::Tree(versions) => versions.locate(&views, p, steps).unwrap(),
+        Scan.locate(&self.table.views(), p, steps).unwrap()
+    }
+
+    /// Two edges that conflict, if there are two. It sweeps the table from corner to corner and tests only edges that come to stand next to
+    /// each other: it does not look at all pairs.
+    pub fn conflict(&self, alloc: Global) -> Result<Option<Pair>, AllocError>
+        ensures { IfOk result (λ shown. MatchOption shown (Accepts (Ok self.now)) (λ pair. Conflicts (Ok self.now) pair.a pair.b pair.meeting)) }
+    {
+        match sweep(alloc, &self.table, VecStatus::new(alloc)) {
+            Ok(_) => Ok(None),
+            Err(SweepFault::Conflict { a, b, meeting }) => Ok(Some(Pair {
+                a: self.table.edge(a),
+                b: self.table.edge(b),
+                meeting,
+            })),
+            Err(SweepFault::NoMemory) => Err(AllocError),
         }
     }
 }

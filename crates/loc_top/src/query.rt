@@ -8,13 +8,11 @@ ghost use Rattle.loc_top.specs.Query.{CountsTold, Hands, LayerTold, PointsTold, 
 ghost use Rattle.loc_top.specs.Words.{asked_at};
 
 use crate::answers::answers;
-use crate::plane::PlaneFault;
 use crate::{Plane, RunFault, Scale};
 use loc_csvform::read_layer;
 use loc_geom::Steps;
 use loc_io::{ReadAllFault, Shelf, Sink, read_all, write_all};
 use loc_spec_text::Form;
-use loc_words::Index;
 use std::alloc::Global;
 use std::sync::ledger::Ledger;
 
@@ -22,13 +20,7 @@ use std::sync::ledger::Ledger;
 const LIMIT: usize = 268_435_456;
 
 // The plane of a layer text at a scale.
-fn plane_of(
-    alloc: Global,
-    text: &[u8],
-    form: Form,
-    scale: Scale,
-    index: Index,
-) -> Result<Plane, RunFault>
+fn plane_of(alloc: Global, text: &[u8], form: Form, scale: Scale) -> Result<Plane, RunFault>
     requires { length text.now ≤ limit }
     ensures { IsPlane form scale (layer_of form scale text.now) result }
 {
@@ -36,15 +28,15 @@ fn plane_of(
         Ok(layer) => layer,
         Err(fault) => return Err(RunFault::of_layer(form, fault)),
     };
-    match Plane::make(alloc, layer, index) {
-        Ok(plane) => Ok(plane),
-        Err(PlaneFault::Conflict(pair)) => Err(RunFault::Conflict {
+    let plane = Plane::make(alloc, layer)?;
+    match plane.conflict(alloc)? {
+        None => Ok(plane),
+        Some(pair) => Err(RunFault::Conflict {
             scale,
             a: pair.a,
             b: pair.b,
             meeting: pair.meeting,
         }),
-        Err(PlaneFault::NoMemory) => Err(RunFault::NoMemory),
     }
 }
 
@@ -55,12 +47,11 @@ pub fn read_plane<F: Shelf>(
     name: &str,
     form: Form,
     scale: Scale,
-    index: Index,
 ) -> Result<Plane, RunFault>
     ensures { ReadsPlane name.now form scale (F.meaning shelf.old) (F.meaning shelf.new) result }
 {
     match read_all(alloc, shelf, name, LIMIT) {
-        Ok(text) => plane_of(alloc, &text, form, scale, index),
+        Ok(text) => plane_of(alloc, &text, form, scale),
         Err(ReadAllFault::ReadFault) => Err(RunFault::ReadFault),
         Err(ReadAllFault::TooLong) => Err(RunFault::LayerLong),
         Err(ReadAllFault::NoMemory) => Err(RunFault::NoMemory),
@@ -74,7 +65,6 @@ pub fn query<F: Shelf, O: Sink, L: Ledger>(
     points_name: &str,
     form: Form,
     scale: Scale,
-    index: Index,
     shelf: &mut F,
     out: &mut O,
     steps: &mut Steps<L>,
@@ -88,7 +78,7 @@ pub fn query<F: Shelf, O: Sink, L: Ledger>(
     ensures out { OutTold (asked_at layer_name.now (Some points_name.now) form scale) result (bytes_of ((F.meaning shelf.old).told layer_name.now)) (bytes_of ((F.meaning shelf.old).told points_name.now)) (O.written out.old) (O.written out.new) }
     ensures steps { StepsTold form scale (bytes_of ((F.meaning shelf.old).told layer_name.now)) (bytes_of ((F.meaning shelf.old).told points_name.now)) steps.old steps.new }
 {
-    let plane = read_plane(alloc, shelf, layer_name, form, scale, index)?;
+    let plane = read_plane(alloc, shelf, layer_name, form, scale)?;
     let points = match read_all(alloc, shelf, points_name, LIMIT) {
         Ok(text) => text,
         Err(ReadAllFault::ReadFault) => return Err(RunFault::ReadFault),

@@ -6,7 +6,6 @@ use crate::{Steps, run};
 use loc_io::{MemShelf, MemSink};
 use std::alloc::Global;
 use std::marker::Brand;
-use std::process::Abort;
 use std::sync::ledger::{Blank, Ledger};
 use std::test::Fail;
 
@@ -230,7 +229,7 @@ const ROWS: [Row; 28] = [
 ];
 
 const USAGE: &[u8] =
-    b"usage: locate query LAYER POINTS --scale K [--form lines|csv] [--index scan|tree]\n       locate check LAYER --scale K [--form lines|csv]\n";
+    b"usage: locate query LAYER POINTS --scale K [--form lines|csv]\n       locate check LAYER --scale K [--form lines|csv]\n";
 
 // Words that are no command.
 const REFUSED: [[&str; 5]; 6] = [
@@ -398,25 +397,16 @@ fn outcome_of(
     Ok(Outcome { status, out, notes })
 }
 
-// What a row leaves, with this index.
-fn expect(rt: &impl Abort, alloc: Global, row: Row, index: &'static str) -> Result<(), Fail> {
-    let (layer, points, scale, status, out, notes) = row;
-    let shelf = shelf_of(alloc, layer, points, 0)?;
-    let words = [
-        "query", "layer", "points", "--scale", scale, "--index", index,
-    ];
-    let outcome = outcome_of(alloc, &words, shelf, 0, 0)?;
-    assert_eq!(rt; outcome.status, status);
-    assert_eq!(rt; outcome.out.bytes(), out);
-    assert_eq!(rt; outcome.notes.bytes(), notes);
-    Ok(())
-}
-
 #[test]
 fn worked_layers(rt: HostRuntime) -> Result<(), Fail> {
-    for row in ROWS {
-        expect(&rt, rt.alloc(), row, "scan")?;
-        expect(&rt, rt.alloc(), row, "tree")?;
+    let alloc = rt.alloc();
+    for (layer, points, scale, status, out, notes) in ROWS {
+        let shelf = shelf_of(alloc, layer, points, 0)?;
+        let words = ["query", "layer", "points", "--scale", scale];
+        let outcome = outcome_of(alloc, &words, shelf, 0, 0)?;
+        assert_eq!(rt; outcome.status, status);
+        assert_eq!(rt; outcome.out.bytes(), out);
+        assert_eq!(rt; outcome.notes.bytes(), notes);
     }
     Ok(())
 }

@@ -30,7 +30,6 @@ fn ended<F: Shelf, O: Sink, L: Ledger>(
                 points,
                 scale,
                 form,
-                index,
             },
         ) => query(
             alloc,
@@ -38,7 +37,6 @@ fn ended<F: Shelf, O: Sink, L: Ledger>(
             points,
             form,
             Scale::new(scale),
-            index,
             shelf,
             out,
             steps,

@@ -9,7 +9,7 @@ use Rattle.clap.specs.Takes.{is_given}
 use Rattle.clap.specs.Faults.{walk_fault, check_fault}
 use Rattle.clap.specs.Simple.{Shape, built}
 use Rattle.clap.proofs.OnLiterals.{clap_on_literals}
-use Rattle.loc_words.specs.Words.{Text, Setting, is_value, query_options, check_options}
+use Rattle.loc_words.specs.Words.{Text, Setting, is_value, layer_options}
 use Rattle.loc_words.specs.Apps.{query_app, check_app}
 use Rattle.loc_words.proofs.Walking.{IsOption, row, state}
 use Rattle.loc_words.proofs.Onward.{HasOptions, Stands, setting_row, words_after}
@@ -22,40 +22,31 @@ turned a b h = elim (cases_Bool (bytes_eq b a)) [
   | inr other ↦ other
 ]
 
--- it holds of each of the names
-abbrev Each : (Text → Type 0) → List Text → Type 0
-Each P [] = Unit {0}
-Each P (name ∷ names) = P name × Each P names
-
--- and so of every name that is one of them
-by_name : (P : Text → Type 0) (names : List Text) → Each P names → (name : Text) → list_any (bytes_eq name) names ≡ true → P name
-by_name P [] each name h = absurd (cc h)
-by_name P (n ∷ names) each name h = elim (cases_Bool (bytes_eq name n)) [
-  | inl is ↦ subst P (sym ((bytes_eq-Decides name n).0 is)) each.0
-  | inr other ↦ by_name P names each.1 name (simp other at h)
+-- a name of the options of a layer is one of the two
+by_name : (P : Text → Type 0) → P (codes "scale") → P (codes "form") → (name : Text) → list_any (bytes_eq name) layer_options ≡ true → P name
+by_name P scale form name h = elim (cases_Bool (bytes_eq name (codes "scale"))) [
+  | inl is ↦ subst P (sym ((bytes_eq-Decides name (codes "scale")).0 is)) scale
+  | inr other ↦ elim (cases_Bool (bytes_eq name (codes "form"))) [
+    | inl is ↦ subst P (sym ((bytes_eq-Decides name (codes "form")).0 is)) form
+    | inr neither ↦ absurd (cc (simp (other, neither) at h))
+  ]
 ]
-
--- each of the names is another than one that is none of them
-others : (names : List Text) (name : Text) → list_any (bytes_eq name) names ≡ false → Each (λ n. bytes_eq n name ≡ false) names
-others [] name h = tt
-others (n ∷ names) name h = let parts = or_parts (bytes_eq name n) _ h in (turned name n parts.0, others names name parts.1)
 
 -- query LAYER POINTS
 abbrev query_top : Shape
 query_top = (built query_app).top
 
-query_has_options : HasOptions query_top 3 query_options
+query_options : HasOptions query_top 3 layer_options
 unfolding clap_on_literals
-query_has_options = record {
+query_options = record {
   past = record { no_place = refl; once = refl; leaf = refl };
-  known = by_name (IsOption query_top.rules) query_options
-      (record { required = true; by_long = refl; by_id = refl }, (record { required = false; by_long = refl; by_id = refl }, (record { required = false; by_long = refl; by_id = refl }, tt)));
-  unknown = λ name h. none name (others query_options name h);
+  known = by_name (IsOption query_top.rules) (record { required = true; by_long = refl; by_id = refl }) (record { required = false; by_long = refl; by_id = refl });
+  unknown = λ name h. none name (turned name (codes "scale") (or_parts _ _ h).0) (turned name (codes "form") (or_parts _ _ (or_parts _ _ h).1).0);
   named = refl;
 }
   where
-    none : (name : Text) → Each (λ n. bytes_eq n name ≡ false) query_options → arg_by_long query_top.rules name ≡ None
-    none name each = let scale = each.0 in let form = each.1.0 in let index = each.1.1.0 in simp (scale, form, index)
+    none : (name : Text) → bytes_eq (codes "scale") name ≡ false → bytes_eq (codes "form") name ≡ false → arg_by_long query_top.rules name ≡ None
+    none name h k = simp (h, k)
 
 abbrev pub query_rows : Text → Text → List Row
 query_rows layer points = row (codes "layer") layer ∷ row (codes "points") points ∷ []
@@ -88,15 +79,15 @@ query_checked : (layer points : Text) (found : List Setting) → is_given (codes
 unfolding clap_on_literals
 query_checked layer points found given = simp given
 
-pub query_parses : (layer points : Text) → is_value layer ≡ true → is_value points ≡ true → Parses query_app 3 query_options (layer ∷ points ∷ []) (query_rows layer points)
+pub query_parses : (layer points : Text) → is_value layer ≡ true → is_value points ≡ true → Parses query_app 3 (layer ∷ points ∷ []) (query_rows layer points)
 unfolding clap_on_literals
 query_parses [] points l p = absurd (cc l)
 query_parses (x ∷ xs) [] l p = absurd (cc p)
 query_parses (x ∷ xs) (y ∷ ys) l p = record {
   places = record {
-    options = query_has_options;
-    defaults = (refl, (refl, (refl, (refl, (refl, tt)))));
-    free = by_name (λ n. has_row n (query_rows (x ∷ xs) (y ∷ ys)) ≡ false) query_options (refl, (refl, (refl, tt)));
+    options = query_options;
+    defaults = (refl, (refl, (refl, (refl, tt))));
+    free = by_name (λ n. has_row n (query_rows (x ∷ xs) (y ∷ ys)) ≡ false) refl refl;
     stands = query_stands x xs y ys (is_plain x xs l) (is_plain y ys p);
     passes = λ rest. query_passes x xs y ys rest (is_plain x xs l) (is_plain y ys p);
   };
@@ -109,17 +100,17 @@ query_parses (x ∷ xs) (y ∷ ys) l p = record {
 abbrev check_top : Shape
 check_top = (built check_app).top
 
-check_has_options : HasOptions check_top 2 check_options
+check_options : HasOptions check_top 2 layer_options
 unfolding clap_on_literals
-check_has_options = record {
+check_options = record {
   past = record { no_place = refl; once = refl; leaf = refl };
-  known = by_name (IsOption check_top.rules) check_options (record { required = true; by_long = refl; by_id = refl }, (record { required = false; by_long = refl; by_id = refl }, tt));
-  unknown = λ name h. none name (others check_options name h);
+  known = by_name (IsOption check_top.rules) (record { required = true; by_long = refl; by_id = refl }) (record { required = false; by_long = refl; by_id = refl });
+  unknown = λ name h. none name (turned name (codes "scale") (or_parts _ _ h).0) (turned name (codes "form") (or_parts _ _ (or_parts _ _ h).1).0);
   named = refl;
 }
   where
-    none : (name : Text) → Each (λ n. bytes_eq n name ≡ false) check_options → arg_by_long check_top.rules name ≡ None
-    none name each = let scale = each.0 in let form = each.1.0 in simp (scale, form)
+    none : (name : Text) → bytes_eq (codes "scale") name ≡ false → bytes_eq (codes "form") name ≡ false → arg_by_long check_top.rules name ≡ None
+    none name h k = simp (h, k)
 
 abbrev pub check_rows : Text → List Row
 check_rows layer = row (codes "layer") layer ∷ []
@@ -147,14 +138,14 @@ check_checked : (layer : Text) (found : List Setting) → is_given (codes "scale
 unfolding clap_on_literals
 check_checked layer found given = simp given
 
-pub check_parses : (layer : Text) → is_value layer ≡ true → Parses check_app 2 check_options (layer ∷ []) (check_rows layer)
+pub check_parses : (layer : Text) → is_value layer ≡ true → Parses check_app 2 (layer ∷ []) (check_rows layer)
 unfolding clap_on_literals
 check_parses [] l = absurd (cc l)
 check_parses (x ∷ xs) l = record {
   places = record {
-    options = check_has_options;
+    options = check_options;
     defaults = (refl, (refl, (refl, tt)));
-    free = by_name (λ n. has_row n (check_rows (x ∷ xs)) ≡ false) check_options (refl, (refl, tt));
+    free = by_name (λ n. has_row n (check_rows (x ∷ xs)) ≡ false) refl refl;
     stands = check_stands x xs (is_plain x xs l);
     passes = λ rest. check_passes x xs rest (is_plain x xs l);
   };

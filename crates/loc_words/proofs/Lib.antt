@@ -9,4 +9,3 @@ mod Commands
 mod Meets
 mod Numbers
 mod Named
-mod Examples

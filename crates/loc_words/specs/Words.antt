@@ -1,5 +1,5 @@
--- The command that a list of words is: `settings` reads the options behind the places, `scale_word`, `form_word` and `index_word`
--- their values, and `command_of` the whole list.
+-- The command that a list of words is: `settings` reads the options behind the places, `scale_word` and `form_word` their
+-- values, and `command_of` the whole list.
 use Rattle.std.specs.Prelude.{ℕ, ◌≤◌, ◌^◌, ◌==◌, Bool, true, false, not, ◌&&◌, List, [], ◌∷◌, ◌++◌, length, codes, find, nat_lt, nat_le, if◌then◌else◌, Option, Some, None, option_map, option_and_then}
 use Rattle.std.specs.Char.{is_ascii_digit}
 use Rattle.std.specs.List.{list_all, list_any, before_first, after_first}
@@ -9,8 +9,6 @@ use Rattle.loc_spec_text.specs.declared.Form.{Form}
 use Rattle.loc_spec_text.specs.declared.Form.TheVariants.{Lines, Csv}
 use Rattle.loc_words.specs.declared.command.Command.{Command}
 use Rattle.loc_words.specs.declared.command.Command.TheVariants.{Query, Check}
-use Rattle.loc_words.specs.declared.command.Index.{Index}
-use Rattle.loc_words.specs.declared.command.Index.TheVariants.{Scan, Tree}
 
 -- a word
 abbrev pub Text : Type 0
@@ -18,17 +16,17 @@ Text = List ℕ
 
 -- a command with its values
 pub data Asked : Type 0 where
-  query : (layer points : Text) (scale : ℕ) (form : Form) (index : Index) → Asked
+  query : (layer points : Text) (scale : ℕ) (form : Form) → Asked
   check : (layer : Text) (scale : ℕ) (form : Form) → Asked
 
 -- what a command says
 abbrev pub asked_by : Command → Asked
-asked_by (Query layer points scale form index) = query layer.now points.now scale form index
+asked_by (Query layer points scale form) = query layer.now points.now scale form
 asked_by (Check layer scale form) = check layer.now scale form
 
 -- the scale of a command is one that coordinates can have
 abbrev pub HasScale : Command → Type 0
-HasScale (Query layer points scale form index) = scale ≤ 15
+HasScale (Query layer points scale form) = scale ≤ 15
 HasScale (Check layer scale form) = scale ≤ 15
 
 -- a place or a value: not empty, and it does not begin with "-"
@@ -95,41 +93,23 @@ form_or_lines (Some word) = form_word word
 abbrev pub scale_and_form : Option Text → Option Text → Option (ℕ × Form)
 scale_and_form scale form = option_and_then (λ number. option_map (λ kind. (number, kind)) (form_or_lines form)) (option_and_then scale_word scale)
 
--- an index by its name
-abbrev pub index_word : Text → Option Index
-index_word word = if bytes_eq word (codes "scan") then Some Scan else if bytes_eq word (codes "tree") then Some Tree else None
+-- the options of a command on a layer
+abbrev pub layer_options : List Text
+layer_options = codes "scale" ∷ codes "form" ∷ []
 
--- the index by its word, tree where it is left out
-abbrev pub index_or_tree : Option Text → Option Index
-index_or_tree None = Some Tree
-index_or_tree (Some word) = index_word word
-
--- the options of a query
-abbrev pub query_options : List Text
-query_options = codes "scale" ∷ codes "form" ∷ codes "index" ∷ []
-
--- the options of a check
-abbrev pub check_options : List Text
-check_options = codes "scale" ∷ codes "form" ∷ []
-
--- the query of these places, by the values that its options have
-abbrev pub query_with : Text → Text → (Text → Option Text) → Option Asked
-query_with layer points value = option_and_then (λ values. option_map (λ index. query layer points values.0 values.1 index) (index_or_tree (value (codes "index"))))
-    (scale_and_form (value (codes "scale")) (value (codes "form")))
-
--- the check of this place, by the values that its options have
-abbrev pub check_with : Text → (Text → Option Text) → Option Asked
-check_with layer value = option_map (λ values. check layer values.0 values.1) (scale_and_form (value (codes "scale")) (value (codes "form")))
+-- a command on a layer, of its scale and its form
+abbrev pub with_layer : (ℕ → Form → Asked) → List Setting → Option Asked
+with_layer asked found = option_map (λ values. asked values.0 values.1) (scale_and_form (value_in found (codes "scale")) (value_in found (codes "form")))
 
 -- query LAYER POINTS and its settings
 abbrev pub query_of : List Text → Option Asked
 query_of (layer ∷ points ∷ words) = if is_value layer && is_value points
-    then option_and_then (λ found. query_with layer points (value_in found)) (settings_of query_options words) else None
+    then option_and_then (with_layer (query layer points)) (settings_of layer_options words) else None
 query_of _ = None
 
 -- check LAYER and its settings
 abbrev pub check_of : List Text → Option Asked
-check_of (layer ∷ words) = if is_value layer then option_and_then (λ found. check_with layer (value_in found)) (settings_of check_options words) else None
+check_of (layer ∷ words) = if is_value layer then option_and_then (with_layer (check layer)) (settings_of layer_options words) else None
 check_of _ = None
 
 -- the command that the words are, if they are one: the first word names it

@@ -1,24 +1,15 @@
 //! The command that words are.
-ghost use Rattle.std.specs.Prelude.{◌≡◌, IfErr, IfOk, IfSome, None, Some, map, option_map, string_bytes};
+ghost use Rattle.std.specs.Prelude.{◌≡◌, IfErr, IfOk, IfSome, None, Some, codes, map, option_map, string_bytes};
 ghost use Rattle.clap.specs.Words.{first_value, found_of};
 ghost use Rattle.loc_words.specs.Apps as apps;
 ghost use Rattle.loc_words.specs.Words as spec;
 
 use crate::parser::{check_parser, query_parser, read_words};
-use crate::values::{read_index, read_scale_and_form};
+use crate::values::read_scale_and_form;
 use crate::words::are_tested;
 use crate::{Form, WordsFault};
 use clap::ArgMatches;
 use std::alloc::Global;
-
-/// How the place of a point is found.
-#[derive(Clone, Copy, PartialEq, Eq, Debug, Drop)]
-pub enum Index {
-    /// By a look at one corner and edge after another.
-    Scan,
-    /// By halving, in the lists of edges that a sweep keeps.
-    Tree,
-}
 
 /// A command with its values. Its places are as they stand in the words.
 #[derive(Clone, Copy, Debug, PartialEq, Eq)]
@@ -29,7 +20,6 @@ pub enum Command<'a> {
         points: &'a str,
         scale: u8,
         form: Form,
-        index: Index,
     },
     /// The counts of a layer.
     Check {
@@ -42,25 +32,26 @@ pub enum Command<'a> {
 // The query that `clap` found.
 fn query_from<'a>(matches: &ArgMatches<'a>) -> Option<Command<'a>>
     ensures scale { IfSome result spec.HasScale }
-    ensures value { option_map spec.asked_by result ≡ apps.query_from (first_value (found_of matches.now)) }
+    ensures value { option_map spec.asked_by result ≡ apps.query_from (first_value (found_of matches.now) (codes "layer"))
+        (first_value (found_of matches.now) (codes "points"))
+        (spec.scale_and_form (first_value (found_of matches.now) (codes "scale")) (first_value (found_of matches.now) (codes "form"))) }
 {
     let layer = matches.get_str("layer")?;
     let points = matches.get_str("points")?;
     let (scale, form) = read_scale_and_form(matches.get_str("scale"), matches.get_str("form"))?;
-    let index = read_index(matches.get_str("index"))?;
     Some(Command::Query {
         layer,
         points,
         scale,
         form,
-        index,
     })
 }
 
 // The check that `clap` found.
 fn check_from<'a>(matches: &ArgMatches<'a>) -> Option<Command<'a>>
     ensures scale { IfSome result spec.HasScale }
-    ensures value { option_map spec.asked_by result ≡ apps.check_from (first_value (found_of matches.now)) }
+    ensures value { option_map spec.asked_by result ≡ apps.check_from (first_value (found_of matches.now) (codes "layer"))
+        (spec.scale_and_form (first_value (found_of matches.now) (codes "scale")) (first_value (found_of matches.now) (codes "form"))) }
 {
     let layer = matches.get_str("layer")?;
     let (scale, form) = read_scale_and_form(matches.get_str("scale"), matches.get_str("form"))?;

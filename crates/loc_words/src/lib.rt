@@ -13,7 +13,7 @@ mod usage;
 mod values;
 mod words;
 
-pub use command::{Command, Index, command_of};
+pub use command::{Command, command_of};
 pub use fault::WordsFault;
 pub use loc_spec_text::Form;
 pub use parser::clap_takes_commands;

@@ -1,7 +1,7 @@
 //! The commands of `clap`.
 ghost use Rattle.std.specs.Prelude.{◌≡◌, [], IfErr, IfOk, true, map, string_bytes};
 ghost use Rattle.clap.specs.Words.{app_of, fault_of, found_of, is_simple_and_free, matches_of, rows_of};
-ghost use Rattle.loc_words.specs.Apps.{Takes, bare_app, check_app, check_found, query_app, query_found, with_layer_options, with_query_options};
+ghost use Rattle.loc_words.specs.Apps.{Takes, bare_app, check_app, check_found, query_app, query_found, with_layer_options};
 ghost use Rattle.loc_words.specs.Words.{check_of, query_of};
 
 use crate::WordsFault;
@@ -19,15 +19,6 @@ fn add_layer_options<'a>(alloc: Global, command: Command<'a>) -> Result<Command<
     Ok(with_scale.arg(form)?)
 }
 
-// The options of a query.
-fn add_query_options<'a>(alloc: Global, command: Command<'a>) -> Result<Command<'a>, AllocError>
-    ensures { IfOk result (λ c. app_of c ≡ with_query_options (app_of command.entry)) }
-{
-    let index = Arg::new(alloc, "index").long("index");
-    let on_layer = add_layer_options(alloc, command)?;
-    Ok(on_layer.arg(index)?)
-}
-
 /// `query LAYER POINTS`.
 pub(crate) fn query_parser<'a>(alloc: Global) -> Result<Command<'a>, AllocError>
     ensures { IfOk result (λ c. app_of c ≡ query_app) }
@@ -39,7 +30,7 @@ pub(crate) fn query_parser<'a>(alloc: Global) -> Result<Command<'a>, AllocError>
         .disable_help_flag(true)
         .arg(layer)?
         .arg(points)?;
-    add_query_options(alloc, command)
+    add_layer_options(alloc, command)
 }
 
 /// `check LAYER`.

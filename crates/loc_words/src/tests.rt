@@ -1,41 +1,24 @@
 //! What no clause says: that words are read with ample memory, at lists of words from outside.
-use crate::Form::{Csv, Lines};
-use crate::Index::{Scan, Tree};
-use crate::{Command, Form, Index, WordsFault, command_of, usage_text};
+use crate::{Command, Form, WordsFault, command_of, usage_text};
 use std::alloc::{AllocError, Global};
 use std::test::Fail;
 
-// Lines of words, with a space between each two, and where they are a command, its scale, its form and,
-// where it is a query, its index.
-const ROWS: [(&str, Option<(u8, Form, Option<Index>)>); 57] = [
-    ("query a b --scale=0", Some((0, Lines, Some(Tree)))),
-    ("query a b --scale 0", Some((0, Lines, Some(Tree)))),
-    (
-        "query a b --form csv --scale 15",
-        Some((15, Csv, Some(Tree))),
-    ),
+// Lines of words, with a space between each two, and where they are a command, the number of its
+// places, its scale and its form.
+const ROWS: [(&str, Option<(u8, u8, Form)>); 44] = [
+    ("query a b --scale=0", Some((2, 0, Form::Lines))),
+    ("query a b --scale 0", Some((2, 0, Form::Lines))),
+    ("query a b --form csv --scale 15", Some((2, 15, Form::Csv))),
     (
         "query a b --scale 0015 --form=lines",
-        Some((15, Lines, Some(Tree))),
+        Some((2, 15, Form::Lines)),
     ),
     (
         "query a b --scale 00000000000000000007",
-        Some((7, Lines, Some(Tree))),
+        Some((2, 7, Form::Lines)),
     ),
-    (
-        "query a b --scale 0 --index scan",
-        Some((0, Lines, Some(Scan))),
-    ),
-    (
-        "query a b --index=scan --scale=0 --form csv",
-        Some((0, Csv, Some(Scan))),
-    ),
-    (
-        "query a b --form csv --index tree --scale 0",
-        Some((0, Csv, Some(Tree))),
-    ),
-    ("check a --scale 3", Some((3, Lines, None))),
-    ("check a --form=csv --scale=3", Some((3, Csv, None))),
+    ("check a --scale 3", Some((1, 3, Form::Lines))),
+    ("check a --form=csv --scale=3", Some((1, 3, Form::Csv))),
     ("query a b", None),
     ("query a b --scale 16", None),
     ("query a b --scale 0 --scale 0", None),
@@ -73,33 +56,22 @@ const ROWS: [(&str, Option<(u8, Form, Option<Index>)>); 57] = [
     ("query a b --scale 0 --help", None),
     ("query a b --scale 0 -h", None),
     ("--version", None),
-    ("query a b --index scan", None),
-    ("query a b --scale 0 --index Tree", None),
-    ("query a b --scale 0 --index lines", None),
-    ("query a b --scale 0 --index", None),
-    ("query a b --scale 0 --index=", None),
-    ("query a b --scale 0 --index scan --index scan", None),
-    ("query a b --index=scan --scale 0 --index tree", None),
-    ("query --index scan a b --scale 0", None),
-    ("check a --scale 0 --index scan", None),
-    ("check a --index=tree --scale 0", None),
 ];
 
-// The scale, the form and the index of a command on "a", and "b".
-fn values_of(command: Command<'_>) -> Option<(u8, Form, Option<Index>)> {
+// The places, the scale and the form of a command on "a", and "b".
+fn values_of(command: Command<'_>) -> Option<(u8, u8, Form)> {
     match command {
         Command::Query {
             layer: "a",
             points: "b",
             scale,
             form,
-            index,
-        } => Some((scale, form, Some(index))),
+        } => Some((2, scale, form)),
         Command::Check {
             layer: "a",
             scale,
             form,
-        } => Some((scale, form, None)),
+        } => Some((1, scale, form)),
         _ => None,
     }
 }

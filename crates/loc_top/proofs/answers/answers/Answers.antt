@@ -7,8 +7,9 @@ pub loop-line-preserved : goal.loop-line-preserved
 loop-line-preserved g c =
     let grown : c.push_line.new.out.items ≡ c.loop-line.out.items ++ answer_line c.args.scale c.args.plane.now c.in-Some.line.now = search rules in (
       rw grown (step c.args.scale c.args.plane.now c.loop-line.out.items c.loop-line.rest.now c.in-Some.line.now c.in-Some.more.now (output_of c.args.scale c.args.plane.now c.args.points.now) c.in-Some.ensures.found c.loop-line.invariant.0),
-      omega (arith, c.loop-line.invariant.1, c.push_line.ensures.counted),
-      counted_more c.loop-line.rest.now c.in-Some.line.now c.in-Some.more.now _ (steps_of c.args.plane.now) _ _ c.in-Some.ensures.found c.push_line.ensures.within c.loop-line.invariant.2,
+      c.loop-line.invariant.1,
+      omega (arith, c.loop-line.invariant.2, c.push_line.ensures.counted),
+      counted_more c.loop-line.rest.now c.in-Some.line.now c.in-Some.more.now _ (steps_of c.args.plane.now) _ _ c.in-Some.ensures.found c.push_line.ensures.within c.loop-line.invariant.3,
     )
 
 pub returns-clause-value : goal.returns-clause-value

@@ -41,6 +41,9 @@ returns-clause-names g c =
     let second = c.in-Ok.ensures in
     hands_both _ _ _ _ _ _ _ _ first.taken second.taken _ first.entries second.entries (reached_by _ _ _ _ second.taken first.layer) (first.long, second.length.1)
 
+pub answers-requires : goal.answers-requires
+answers-requires g c = c.in_ok-plane.ensures.accepted
+
 pub returns-in_err-plane-clause-names : goal.returns-in_err-plane-clause-names
 returns-in_err-plane-clause-names g c =
     let first = c.in_err-plane.ensures in

@@ -1,0 +1,79 @@
+-- What is left when the lists above all edges are known.
+use Rattle.std.proofs.Common.{◌≡◌, ◌≢◌, ℕ, ◌<◌, Bool, true, List, [], ◌∷◌, length, get_or, take, map, refl, sym, ◌∙◌, ap, subst, inl, inr, arith, Option, Some, None}
+use Rattle.std.specs.Prelude.{nat_lt, ◌==◌, sum_by}
+use Rattle.std.specs.List.{list_all, list_any}
+use Rattle.std.proofs.lemmas.Bool.{and_parts, or_left, or_right, or_cases, cases_lt, true≢false, eqb-true, ltb-true}
+use Rattle.std.proofs.lemmas.List.{get_or_past}
+use Rattle.loc_spec_plane.specs.Lists.{is_in}
+use Rattle.loc_spec_plane.specs.Tables.{Table, edge_numbers}
+use Rattle.loc_spec_plane.specs.Covers.{cover_above, cover_lists}
+use Rattle.loc_laws_order.proofs.TableOrder.{numbers_within}
+use Rattle.loc_laws_rays.proofs.Parity.{same-from_both}
+use Rattle.loc_edges.proofs.SortedSet.{same-sorted_set}
+use Rattle.loc_cover.specs.Legends.{IsFew}
+use Rattle.loc_cover.specs.Numbered.{IsNumbered, covers_of}
+use Rattle.loc_cover.specs.Stores.{StoreRows, IsStore, IsAt, lists_in, lists_of}
+use Rattle.loc_cover.proofs.Lexicographic.{lists_by_before, sorted_set-rising}
+use Rattle.loc_cover.proofs.Numbering.{named_within}
+
+-- ---- rows in their order
+-- the list of a row that the order names is one of the lists
+named : (rows : List (List ℕ)) (order : List ℕ) (p : List ℕ → Bool) (n : ℕ) → is_in n order ≡ true → p (get_or rows n []) ≡ true → list_any p (lists_in rows order) ≡ true
+named rows [] p n here h = absurd (true≢false (sym here))
+named rows (m ∷ order) p n here h = elim (or_cases (m == n) (is_in n order) here) [
+  | inl same ↦ or_left (p (get_or rows m [])) _ (subst (λ k. p (get_or rows k []) ≡ true) (sym (eqb-true m n same)) h)
+  | inr later ↦ or_right (p (get_or rows m [])) _ (named rows order p n later h)
+]
+
+-- an option that is not none
+is_some : (o : Option ℕ) → o ≢ None → (n : ℕ) × (o ≡ Some n)
+is_some None other = absurd (other refl)
+is_some (Some n) other = (n, refl)
+
+module _ (t : Table) (s : StoreRows) (known : List (Option ℕ)) (stands : IsStore s) (numbered : IsNumbered t s.rows known) (all : (e : ℕ) → e < length t.ends → get_or known e None ≢ None) where
+  covers_named : (p : List ℕ → Bool) (ns : List ℕ) → list_all (λ e. nat_lt e (length t.ends)) ns ≡ true → list_any p (map (cover_above t) ns) ≡ true → list_any p (lists_of s) ≡ true
+  covers_named p [] fits h = absurd (true≢false (sym h))
+  covers_named p (e ∷ ns) fits h =
+      let parts = and_parts (nat_lt e (length t.ends)) (list_all (λ e. nat_lt e (length t.ends)) ns) fits in
+      let le : e < length t.ends = ltb-true e (length t.ends) parts.0 in
+      elim (or_cases (p (cover_above t e)) (list_any p (map (cover_above t) ns)) h) [
+        | inl here ↦ (let number = is_some (get_or known e None) (all e le) in
+            let row = numbered.known e number.0 le number.1 in
+            named s.rows s.order p number.0 (stands.placed number.0 row.0) (subst (λ xs. p xs ≡ true) (sym row.1) here))
+        | inr later ↦ covers_named p ns parts.1 later
+      ]
+
+  -- the lists of the store are the distinct lists of the table
+  pub lists_are : lists_of s ≡ cover_lists t
+  lists_are = sym (sorted_set-rising lists_by_before (lists_of s) stands.rising) ∙ same-sorted_set lists_by_before (lists_of s) (covers_of t) (λ p. same-from_both _ _
+      (λ h. numbered.covers p (named_within s.rows s.order stands.within p h))
+      (λ h. covers_named p (edge_numbers t) (numbers_within (length t.ends)) h))
+
+  -- and there are few enough of them
+  pub few_are : IsFew t
+  few_are = (let same = stands.counted ∙ ap (sum_by length) lists_are in omega (arith, same, stands.few))
+
+  -- the place of the list of the number of an edge is that of the list above it
+  pub above_at : (places above : List ℕ) (e : ℕ) → e < length t.ends → ((n : ℕ) → n < length s.rows → IsAt (lists_of s) (get_or s.rows n []) (get_or places n 0)) → ((e n : ℕ) → get_or known e None ≡ Some n → get_or above e 0 ≡ get_or places n 0) → IsAt (cover_lists t) (cover_above t e) (get_or above e 0)
+  above_at places above e le each goes =
+      let number = is_some (get_or known e None) (all e le) in
+      let row = numbered.known e number.0 le number.1 in
+      let at = each number.0 row.0 in
+      let same = goes e number.0 number.1 in
+      record {
+        fits = subst (λ lists. get_or above e 0 < length lists) lists_are (subst (λ k. k < length (lists_of s)) (sym same) at.fits);
+        at = sym (ap (λ lists. get_or lists (get_or above e 0) []) lists_are) ∙ (ap (λ k. get_or (lists_of s) k []) same ∙ (at.at ∙ row.1));
+      }
+
+-- numbers that are known are those of rows
+pub known_fits : (t : Table) (rows : List (List ℕ)) (known : List (Option ℕ)) → IsNumbered t rows known → (e n : ℕ) → get_or known e None ≡ Some n → n < length rows
+known_fits t rows known numbered e n is = elim (cases_lt e (length t.ends)) [
+  | inl lt ↦ (numbered.known e n lt is).0
+  | inr le ↦ (let none : get_or known e None ≡ None = get_or_past known e None (omega (arith, numbered.as_many)) in cc (none, is))
+]
+
+-- ---- places
+-- the rows that the first i places of the order name have their places
+pub record ArePlaced (s : StoreRows) (i : ℕ) (places : List ℕ) : Type 0 where
+  pub as_many : length places ≡ length s.rows
+  pub each : (n : ℕ) → is_in n (take i s.order) ≡ true → IsAt (lists_of s) (get_or s.rows n []) (get_or places n 0)

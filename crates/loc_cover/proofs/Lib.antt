@@ -1,0 +1,10 @@
+pub mod Covered
+pub mod Descending
+pub mod Exchanging
+pub mod Gathered
+pub mod JustBelow
+pub mod Lasting
+pub mod Lexicographic
+pub mod Numbering
+pub mod Ranked
+pub mod Stored

@@ -1,0 +1,4 @@
+pub mod Exchanges
+pub mod Legends
+pub mod Numbered
+pub mod Stores

@@ -1,0 +1,218 @@
+// The list above each edge, from the list above the edge just below it.
+
+ghost use Rattle.std.specs.Prelude.{◌≡◌, ◌≢◌, ℕ, ◌<◌, [], Some, None, length, get_or, map, IfSome, IfOk, IfErr, OnOk};
+ghost use Rattle.loc_spec_plane.specs.Tables.{NoConflict};
+ghost use Rattle.loc_spec_plane.specs.Places.{IsJustBelow};
+ghost use Rattle.loc_spec_plane.specs.Covers.{cover_above, cover_lists, cover_of_floor};
+ghost use Rattle.loc_cover.specs.Legends.{IsFew, IsRefused};
+ghost use Rattle.loc_cover.specs.Numbered.{AreBelow, IsKnownUnder, IsNumbered, IsPath, KeepsKnown};
+ghost use Rattle.loc_cover.specs.Stores.{IsAt, IsStore};
+
+use crate::LegendFault;
+use crate::exchange::exchanged;
+use crate::store::Store;
+use loc_edges::EdgeTable;
+use std::alloc::{AllocError, Global};
+
+// The number of the list above an edge that may be missing.
+fn number_under(numbers: &[Option<u32>], below: Option<u32>) -> Option<u32>
+    requires { IfSome below (λ d. d < length numbers.now) }
+    ensures none { below ≡ None → result ≡ None }
+    ensures some { (d : ℕ) → below ≡ Some d → result ≡ get_or numbers.now d None }
+{
+    numbers[below? as usize]
+}
+
+// The edge just below an edge, where the list above it is not known.
+fn unknown_below(below: &[Option<u32>], numbers: &[Option<u32>], edge: u32) -> Option<u32>
+    requires in_range { edge < length below.now }
+    requires below_in_range { IfSome (get_or below.now edge None) (λ d. d < length numbers.now) }
+    ensures some { IfSome result (λ d. get_or below.now edge None ≡ Some d) }
+    ensures none { result ≡ None → IsKnownUnder numbers.now (get_or below.now edge None) }
+{
+    let next = below[edge as usize];
+    match number_under(numbers, next) {
+        Some(_) => None,
+        None => next,
+    }
+}
+
+// The way down from an edge to the last whose list is not known.
+fn path_down(
+    alloc: Global,
+    table: &EdgeTable,
+    below: &[Option<u32>],
+    numbers: &[Option<u32>],
+    edge: u32,
+) -> Result<Vec<u32>, AllocError>
+    requires apart { NoConflict table.now }
+    requires below { AreBelow table.now below.now }
+    requires as_many { length numbers.now ≡ length table.now.ends }
+    requires in_range { edge < length table.now.ends }
+    ensures { IfOk result (λ path. IsPath table.now below.now numbers.now edge path.items) }
+{
+    table.law();
+    let mut path = Vec::new(alloc);
+    path.push(edge)?;
+    let mut last = edge;
+    while let Some(next) = unknown_below(below, numbers, last) {
+        path.push(next)?;
+        last = next;
+    }
+    Ok(path)
+}
+
+// The list above an edge that may be missing: without an edge it is empty.
+fn list_under<'s>(
+    table: &EdgeTable,
+    store: &'s Store,
+    numbers: &[Option<u32>],
+    below: Option<u32>,
+) -> &'s [u32]
+    requires numbered { IsNumbered table.now store.now.rows numbers.now }
+    requires in_range { IfSome below (λ d. d < length table.now.ends) }
+    requires known { IsKnownUnder numbers.now below }
+    ensures { result.now ≡ cover_of_floor table.now below }
+{
+    match number_under(numbers, below) {
+        Some(number) => store.row(number),
+        None => &[],
+    }
+}
+
+// The list above an edge, from the list above the edge just below it.
+fn list_above(
+    alloc: Global,
+    table: &EdgeTable,
+    store: &Store,
+    numbers: &[Option<u32>],
+    below: Option<u32>,
+    edge: u32,
+) -> Result<Vec<u32>, AllocError>
+    requires apart { NoConflict table.now }
+    requires in_range { edge < length table.now.ends }
+    requires just_below { IsJustBelow table.now edge below }
+    requires numbered { IsNumbered table.now store.now.rows numbers.now }
+    requires known { IsKnownUnder numbers.now below }
+    ensures { IfOk result (λ list. list.items ≡ cover_above table.now edge) }
+{
+    table.law();
+    let list = list_under(table, store, numbers, below);
+    exchanged(alloc, list, table.marks(edge))
+}
+
+// Makes the list above an edge, and notes its number.
+fn number_edge(
+    alloc: Global,
+    table: &EdgeTable,
+    store: &mut Store,
+    numbers: &mut Vec<Option<u32>>,
+    below: Option<u32>,
+    edge: u32,
+) -> Result<(), LegendFault>
+    requires apart { NoConflict table.now }
+    requires in_range { edge < length table.now.ends }
+    requires just_below { IsJustBelow table.now edge below }
+    requires stands { IsStore store.old }
+    requires numbered { IsNumbered table.now store.old.rows numbers.old.items }
+    requires known { IsKnownUnder numbers.old.items below }
+    ensures stands { OnOk result (IsStore store.new) }
+    ensures numbered { OnOk result (IsNumbered table.now store.new.rows numbers.new.items) }
+    ensures known { OnOk result (get_or numbers.new.items edge None ≢ None) }
+    ensures kept { OnOk result (KeepsKnown numbers.old.items numbers.new.items) }
+    ensures refused { IfErr result (IsRefused table.now) }
+{
+    let list = list_above(alloc, table, store, numbers, below, edge)?;
+    let number = store.number_of(list)?;
+    numbers[edge as usize] = Some(number);
+    Ok(())
+}
+
+// Makes the list above an edge, after those above the edges on the way down from it.
+fn number_down(
+    alloc: Global,
+    table: &EdgeTable,
+    store: &mut Store,
+    numbers: &mut Vec<Option<u32>>,
+    below: &[Option<u32>],
+    edge: u32,
+) -> Result<(), LegendFault>
+    requires apart { NoConflict table.now }
+    requires in_range { edge < length table.now.ends }
+    requires below { AreBelow table.now below.now }
+    requires stands { IsStore store.old }
+    requires numbered { IsNumbered table.now store.old.rows numbers.old.items }
+    ensures stands { OnOk result (IsStore store.new) }
+    ensures numbered { OnOk result (IsNumbered table.now store.new.rows numbers.new.items) }
+    ensures known { OnOk result (get_or numbers.new.items edge None ≢ None) }
+    ensures kept { OnOk result (KeepsKnown numbers.old.items numbers.new.items) }
+    ensures refused { IfErr result (IsRefused table.now) }
+{
+    let mut path = path_down(alloc, table, below, numbers, edge)?;
+    while let Some(next) = path.pop() {
+        number_edge(alloc, table, store, numbers, below[next as usize], next)?;
+    }
+    Ok(())
+}
+
+// Makes the lists above all edges.
+fn number_all(
+    alloc: Global,
+    table: &EdgeTable,
+    below: &[Option<u32>],
+) -> Result<(Store, Vec<Option<u32>>), LegendFault>
+    requires apart { NoConflict table.now }
+    requires below { AreBelow table.now below.now }
+    ensures stands { IfOk result (λ made. IsStore made.0) }
+    ensures numbered { IfOk result (λ made. IsNumbered table.now made.0.rows made.1.items) }
+    ensures known { IfOk result (λ made. (e : ℕ) → e < length table.now.ends → get_or made.1.items e None ≢ None) }
+    ensures refused { IfErr result (IsRefused table.now) }
+{
+    table.law();
+    let mut store = Store::new(alloc);
+    let mut numbers = Vec::new(alloc);
+    numbers.resize(table.edge_count() as usize, None)?;
+    for edge in 0..table.edge_count() {
+        if numbers[edge as usize].is_none() {
+            number_down(alloc, table, &mut store, &mut numbers, below, edge)?;
+        }
+    }
+    Ok((store, numbers))
+}
+
+// For each edge the place of the list of its number.
+fn above_of(alloc: Global, numbers: &[Option<u32>], places: &[u32]) -> Result<Vec<u32>, AllocError>
+    requires in_range { (e n : ℕ) → get_or numbers.now e None ≡ Some n → n < length places.now }
+    ensures as_many { IfOk result (λ above. length above.items ≡ length numbers.now) }
+    ensures each { IfOk result (λ above. (e n : ℕ) → get_or numbers.now e None ≡ Some n → get_or above.items e 0 ≡ get_or places.now n 0) }
+{
+    let mut above = Vec::with_capacity(alloc, numbers.len())?;
+    for number in numbers {
+        above.push(match number {
+            Some(n) => places[*n as usize],
+            None => 0,
+        })?;
+    }
+    Ok(above)
+}
+
+// The distinct lists in lexicographic order, and for each edge the place of the list above it.
+pub(crate) fn cover_rows(
+    alloc: Global,
+    table: &EdgeTable,
+    below: &[Option<u32>],
+) -> Result<(Vec<Vec<u32>>, Vec<u32>), LegendFault>
+    requires apart { NoConflict table.now }
+    requires below { AreBelow table.now below.now }
+    ensures lists { IfOk result (λ made. map (λ list. list.items) made.0.items ≡ cover_lists table.now) }
+    ensures as_many { IfOk result (λ made. length made.1.items ≡ length table.now.ends) }
+    ensures above { IfOk result (λ made. (e : ℕ) → e < length table.now.ends → IsAt (cover_lists table.now) (cover_above table.now e) (get_or made.1.items e 0)) }
+    ensures few { IfOk result (λ _. IsFew table.now) }
+    ensures refused { IfErr result (IsRefused table.now) }
+{
+    let (store, numbers) = number_all(alloc, table, below)?;
+    let lists = store.lists(alloc)?;
+    let places = store.places(alloc)?;
+    let above = above_of(alloc, &numbers, &places)?;
+    Ok((lists, above))
+}

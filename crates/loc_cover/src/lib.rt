@@ -1,0 +1,15 @@
+//! What the answers of a table are made of: the ids, the features that touch each corner and each edge, and the lists of the features that
+//! cover what lies just above an edge.
+#![tactic(auto)]
+
+mod covers;
+mod exchange;
+mod fault;
+mod legend;
+mod store;
+#[cfg(test)]
+mod tests;
+mod touching;
+
+pub use fault::LegendFault;
+pub use legend::Legend;

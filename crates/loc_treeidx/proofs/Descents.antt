@@ -1,0 +1,222 @@
+-- The walk down the present tree to the place of a target, step by step.
+use Rattle.std.proofs.Common.{◌≡◌, ℕ, ◌+◌, ◌-◌, ◌^◌, ◌<◌, Bool, true, false, List, [], ◌∷◌, ◌++◌, length, get_or, refl, sym, ap, ◌∙◌, subst, arith, Option, Some, None, append_assoc, slice_get}
+use Rattle.std.specs.Prelude.{IfSome}
+use Rattle.std.specs.List.{All}
+use Rattle.std.proofs.lemmas.List.{length-append, get_or_append_left, get_or-append-add}
+use Rattle.std.proofs.lemmas.List.Elements.{All-get_or}
+use Rattle.std.proofs.lemmas.Option.{slice_get-get_or, slice_get_within, get_or_from_slice_get}
+use Rattle.loc_pool.specs.declared.Link.{Link}
+use Rattle.loc_pool.specs.declared.Turn.{Turn}
+use Rattle.loc_pool.specs.declared.Turn.TheVariants.{Left, Right}
+use Rattle.loc_pool.specs.declared.Colour.{Colour}
+use Rattle.loc_pool.specs.Maps.{has}
+use Rattle.loc_pool.specs.Rows as pool
+use Rattle.loc_rb.specs.Trees.{Row, Tree, leaf, node, items, Fits, plug, before, after, child_of}
+use Rattle.loc_rb.specs.Nodes.{Nodes, live}
+use Rattle.loc_rb.specs.Balance.{IsRedBlack}
+use Rattle.loc_rb.specs.Places.{Spot, Holds, Walk, LeadsTo}
+use Rattle.loc_rb.proofs.Trees.{fits-end, plug-snoc, items-plug}
+use Rattle.loc_rb.proofs.OneChange.{frame_of, live-rows, pushed}
+use Rattle.loc_rb.proofs.ReadCalls.{child-is}
+use Rattle.loc_rb.proofs.Descent.{no-tree, sided, sided-fits, before-left, after-left, before-right, after-right}
+use Rattle.loc_rb.proofs.Walks.{walk-node, walk-row, walk-short}
+use Rattle.loc_persist.specs.Meaning.{VersionsMeaning, present_nodes}
+use Rattle.loc_persist.proofs.Trees.{present-row, present-child, present-item}
+use Rattle.loc_status.specs.Targets.{IsSearchEnd}
+use Rattle.loc_treeidx.specs.Gaps.{IsLast, IsDescent, IsEnd}
+
+-- the item behind a front
+pub at-front : (front : List ℕ) (x : ℕ) (back : List ℕ) → slice_get (front ++ x ∷ back) (length front) ≡ Some x
+at-front [] x back = refl
+at-front (y ∷ front) x back = at-front front x back
+
+-- the last item of a list
+pub last-snoc : (front : List ℕ) (x : ℕ) → IsLast (front ++ x ∷ []) (Some x)
+last-snoc front x =
+    let n = length-append front (x ∷ []) in
+    let at : length front ≡ length (front ++ x ∷ []) - 1 = omega (arith, n) in
+    record { none = λ empty. absurd (omega (arith, n, empty)); some = λ more. sym (ap (λ k. slice_get (front ++ x ∷ []) k) (sym at) ∙ at-front front x []) }
+
+-- the item that is read at a node is that of its tree
+item-is : (n : Nodes) (at : Link) (left : Tree) (x : ℕ) (colour : Colour) (right : Tree) (item : ℕ) → Fits (live n) (node at left x colour right) → ((y : Row) → n.rows at ≡ Some y → item ≡ y.item) → item ≡ x
+item-is n at left x colour right item fits read = read _ (live-rows n at _ fits.0).0
+
+-- the node that a walk has reached, with its place in the list
+pub record Reached (n : Nodes) (path : List (Link × Turn)) (at : Link) (item : ℕ) (content : List ℕ) : Type 0 where
+  pub front : List ℕ
+  pub back : List ℕ
+  pub leads : LeadsTo n path at front item back
+  pub whole : front ++ item ∷ back ≡ content
+
+-- a walk to a node has its place
+pub reached : (n : Nodes) (path : List (Link × Turn)) (at : Link) (content : List ℕ) (item : ℕ) → Walk n path (Some at) content → ((y : Row) → n.rows at ≡ Some y → item ≡ y.item) → Reached n path at item content
+reached n path at content item walk read =
+    let found = walk-node n path at content walk in
+    let leads = found.3 in
+    let same : item ≡ found.1 = item-is n at leads.left found.1 leads.colour leads.right item (fits-end (live n) leads.frames (node at leads.left found.1 leads.colour leads.right) leads.spot.fits) read in
+    subst (λ x. Reached n path at x content) (sym same) (record { front = found.0; back = found.2; leads = leads; whole = found.4 })
+
+-- what holds of all items holds of it
+pub reached_all : (P : ℕ → Type 0) (n : Nodes) (path : List (Link × Turn)) (at : Link) (content : List ℕ) (item : ℕ) → Reached n path at item content → All P content → P item
+reached_all P n path at content item r all =
+    let there : slice_get content (length r.front) ≡ Some item = subst (λ xs. slice_get xs (length r.front) ≡ Some item) r.whole (at-front r.front item r.back) in
+    subst P (get_or_from_slice_get content (length r.front) item 0 there) (All-get_or P content (length r.front) 0 (slice_get_within content (length r.front) item there) all)
+
+module _ (passes : ℕ → Bool) (n : Nodes) (content : List ℕ) where
+  -- at the root
+  pub descent-start : Holds n content → IsDescent passes n content [] n.root None None
+  descent-start h = record {
+    walk = record { frames = []; tree = h.tree; spot = record { path = refl; fits = h.fits; apart = h.apart; root = h.root }; here = sym h.root; balanced = h.balanced; whole = h.list };
+    below = record { none = λ empty. refl; some = λ more. absurd (omega (arith, more)) };
+    above = refl;
+    passed = tt;
+    reached = tt;
+  }
+
+-- one node further down, to the right of an item that passes
+pub descent-right : (passes : ℕ → Bool) (n : Nodes) (content : List ℕ) (path longer : List (Link × Turn)) (at : Link) (next : Option Link) (below above : Option ℕ) (item : ℕ) → IsDescent passes n content path (Some at) below above
+    → ((y : Row) → n.rows at ≡ Some y → item ≡ y.item) → ((y : Row) → n.rows at ≡ Some y → next ≡ child_of Right y) → longer ≡ path ++ (at, Right) ∷ [] → passes item ≡ true → IsDescent passes n content longer next (Some item) above
+descent-right passes n content path longer at next below above item d read child entry pass =
+    let w = d.walk in
+    let s = sided Right at w.tree w.here in
+    let fr = frame_of (at, Right) s.item s.colour s.far in
+    let fits = sided-fits n path w.frames w.tree Right at w.spot s in
+    let same : item ≡ s.item = item-is n at s.far s.item s.colour s.near item fits read in
+    let same_tree : plug (w.frames ++ fr ∷ []) s.near ≡ plug w.frames w.tree = plug-snoc w.frames fr s.near ∙ ap (plug w.frames) (sym s.is) in
+    let front : (before w.frames ++ items s.far) ++ s.item ∷ [] ≡ before (w.frames ++ fr ∷ []) = append_assoc (before w.frames) (items s.far) (s.item ∷ []) ∙ sym (before-right w.frames at s.item s.colour s.far) in
+    record {
+      walk = record {
+        frames = w.frames ++ fr ∷ [];
+        tree = s.near;
+        spot = subst (λ (z : List (Link × Turn)). Spot n z (w.frames ++ fr ∷ []) s.near) (sym entry) (pushed n path (at, Right) w.frames s.near s.item s.colour s.far (subst (λ (t : Tree). Spot n path w.frames t) s.is w.spot));
+        here = sym (child-is n Right at s.near s.item s.colour s.far next fits child);
+        balanced = subst (λ (t : Tree). IsRedBlack t) (sym same_tree) w.balanced;
+        whole = ap items same_tree ∙ w.whole;
+      };
+      below = subst (λ xs. IsLast xs (Some item)) front (subst (λ x. IsLast ((before w.frames ++ items s.far) ++ x ∷ []) (Some item)) same (last-snoc (before w.frames ++ items s.far) item));
+      above = d.above ∙ ap (λ xs. slice_get xs 0) (sym (after-right w.frames at s.item s.colour s.far));
+      passed = pass;
+      reached = d.reached;
+    }
+
+-- one node further down, to the left of an item that does not pass
+pub descent-left : (passes : ℕ → Bool) (n : Nodes) (content : List ℕ) (path longer : List (Link × Turn)) (at : Link) (next : Option Link) (below above : Option ℕ) (item : ℕ) → IsDescent passes n content path (Some at) below above
+    → ((y : Row) → n.rows at ≡ Some y → item ≡ y.item) → ((y : Row) → n.rows at ≡ Some y → next ≡ child_of Left y) → longer ≡ path ++ (at, Left) ∷ [] → passes item ≡ false → IsDescent passes n content longer next below (Some item)
+descent-left passes n content path longer at next below above item d read child entry fail =
+    let w = d.walk in
+    let s = sided Left at w.tree w.here in
+    let fr = frame_of (at, Left) s.item s.colour s.far in
+    let fits = sided-fits n path w.frames w.tree Left at w.spot s in
+    let same : item ≡ s.item = item-is n at s.near s.item s.colour s.far item fits read in
+    let same_tree : plug (w.frames ++ fr ∷ []) s.near ≡ plug w.frames w.tree = plug-snoc w.frames fr s.near ∙ ap (plug w.frames) (sym s.is) in
+    record {
+      walk = record {
+        frames = w.frames ++ fr ∷ [];
+        tree = s.near;
+        spot = subst (λ (z : List (Link × Turn)). Spot n z (w.frames ++ fr ∷ []) s.near) (sym entry) (pushed n path (at, Left) w.frames s.near s.item s.colour s.far (subst (λ (t : Tree). Spot n path w.frames t) s.is w.spot));
+        here = sym (child-is n Left at s.near s.item s.colour s.far next fits child);
+        balanced = subst (λ (t : Tree). IsRedBlack t) (sym same_tree) w.balanced;
+        whole = ap items same_tree ∙ w.whole;
+      };
+      below = subst (λ xs. IsLast xs below) (sym (before-left w.frames at s.item s.colour s.far)) d.below;
+      above = ap Some same ∙ ap (λ xs. slice_get xs 0) (sym (after-left w.frames at s.item s.colour s.far));
+      passed = d.passed;
+      reached = fail;
+    }
+
+-- what a walk over versions knows of the node that it has reached
+module _ (passes : ℕ → Bool) (m : VersionsMeaning) (path : List (Link × Turn)) (next : Option Link) (at : Link) (lower upper : Option ℕ) (d : IsDescent passes (present_nodes m) m.list path next lower upper) (is : next ≡ Some at) where
+  here : IsDescent passes (present_nodes m) m.list path (Some at) lower upper
+  here = subst (λ o. IsDescent passes (present_nodes m) m.list path o lower upper) is d
+
+  -- it has a row, and the path to it is short
+  pub here_row : has m.rows at ≡ true
+  here_row = present-row m at (walk-row (present_nodes m) path at m.list here.walk)
+
+  -- in a list of fewer than 2 ^ 21 items the path is short
+  pub here_short : length m.list < 2 ^ 21 → length path < 42
+  here_short small = walk-short (present_nodes m) path at m.list here.walk small
+
+  module _ (item : ℕ) (read : item ≡ (pool.row m.rows at).item) where
+    -- its place in the list
+    pub here_item : Reached (present_nodes m) path at item m.list
+    here_item = reached (present_nodes m) path at m.list item here.walk (present-item m at item read)
+
+    -- what holds of all items holds of it
+    pub here_all : (P : ℕ → Type 0) → All P m.list → P item
+    here_all P all = reached_all P (present_nodes m) path at m.list item here_item all
+
+    -- one node further down, to the right of an item that passes
+    pub here_right : (longer : List (Link × Turn)) (child : Option Link) → child ≡ pool.child_at (length m.roots) Right (pool.row m.rows at) → longer ≡ path ++ (at, Right) ∷ [] → passes item ≡ true → IsDescent passes (present_nodes m) m.list longer child (Some item) upper
+    here_right longer child below entry pass = descent-right passes (present_nodes m) m.list path longer at child lower upper item here (present-item m at item read) (present-child m at Right child below) entry pass
+
+    -- to the left of an item that does not pass
+    pub here_left : (longer : List (Link × Turn)) (child : Option Link) → child ≡ pool.child_at (length m.roots) Left (pool.row m.rows at) → longer ≡ path ++ (at, Left) ∷ [] → passes item ≡ false → IsDescent passes (present_nodes m) m.list longer child lower (Some item)
+    here_left longer child below entry fail = descent-left passes (present_nodes m) m.list path longer at child lower upper item here (present-item m at item read) (present-child m at Left child below) entry fail
+
+-- a path with one more entry is nearer to its greatest length
+pub nearer : (path longer : List (Link × Turn)) (entry : Link × Turn) → longer ≡ path ++ entry ∷ [] → length path < 42 → 44 - length longer < 44 - length path
+nearer path longer entry is short = let e = ap length is in let n = length-append path (entry ∷ []) in omega (arith, e, n, short)
+
+-- the item before the end of a front, and the first of a back, by their places in the whole list
+pub last-passes : (passes : ℕ → Bool) (front back : List ℕ) (last : Option ℕ) → IsLast front last → IfSome last (λ item. passes item ≡ true) → 0 < length front → passes (get_or (front ++ back) (length front - 1) 0) ≡ true
+last-passes passes front back last is_last pass more =
+    let less : length front - 1 < length front = omega (arith, more) in
+    subst (λ x. passes x ≡ true) (sym (get_or_append_left front back 0 (length front - 1) less)) (subst (λ o. IfSome o (λ item. passes item ≡ true)) (is_last.some more ∙ slice_get-get_or front (length front - 1) 0 less) pass)
+
+first-fails : (passes : ℕ → Bool) (front back : List ℕ) (first : Option ℕ) → first ≡ slice_get back 0 → IfSome first (λ item. passes item ≡ false) → 0 < length back → passes (get_or (front ++ back) (length front) 0) ≡ false
+first-fails passes front back first is_first fail more =
+    let here : length front + 0 ≡ length front = omega arith in
+    subst (λ k. passes (get_or (front ++ back) k 0) ≡ false) here (subst (λ x. passes x ≡ false) (sym (get_or-append-add front back 0 0)) (subst (λ o. IfSome o (λ item. passes item ≡ false)) (is_first ∙ slice_get-get_or back 0 0 more) fail))
+
+-- a search by the test ends between the two
+pub search_end : (passes : ℕ → Bool) (front back content : List ℕ) (last first : Option ℕ) → front ++ back ≡ content → IsLast front last → first ≡ slice_get back 0 → IfSome last (λ item. passes item ≡ true) → IfSome first (λ item. passes item ≡ false) → IsSearchEnd passes content (length front)
+search_end passes front back content last first whole is_last is_first pass fail =
+    let n = length-append front back in
+    subst (λ xs. IsSearchEnd passes xs (length front)) whole (record {
+      within = omega (arith, n);
+      passed = last-passes passes front back last is_last pass;
+      reached = λ less. first-fails passes front back first is_first fail (omega (arith, n, less));
+    })
+
+-- the end of the walk
+pub descent-end : (passes : ℕ → Bool) (n : Nodes) (content : List ℕ) (path : List (Link × Turn)) (lower upper : Option ℕ) → IsDescent passes n content path None lower upper → IsEnd passes n content path lower upper
+descent-end passes n content path lower upper d =
+    let w = d.walk in
+    let e = no-tree w.tree w.here in
+    let whole : before w.frames ++ after w.frames ≡ content = sym (items-plug w.frames leaf) ∙ ap (λ t. items (plug w.frames t)) (sym e) ∙ w.whole in
+    record {
+      front = before w.frames;
+      back = after w.frames;
+      leads = record { frames = w.frames; spot = subst (λ (t : Tree). Spot n path w.frames t) e w.spot; balanced = subst (λ (t : Tree). IsRedBlack (plug w.frames t)) e w.balanced; low = refl; high = refl };
+      whole = whole;
+      below = d.below;
+      above = d.above;
+      end = search_end passes (before w.frames) (after w.frames) content lower upper whole d.below d.above d.passed d.reached;
+    }
+
+-- what stands at the end of a front
+pub last_there : (front back : List ℕ) (last : Option ℕ) → IsLast front last → 0 < length front → last ≡ slice_get (front ++ back) (length front - 1)
+last_there front back last is_last more =
+    let less : length front - 1 < length front = omega (arith, more) in
+    let n = length-append front back in
+    let inside : length front - 1 < length (front ++ back) = omega (arith, n, less) in
+    is_last.some more ∙ (slice_get-get_or front (length front - 1) 0 less ∙ (ap Some (sym (get_or_append_left front back 0 (length front - 1) less)) ∙ sym (slice_get-get_or (front ++ back) (length front - 1) 0 inside)))
+
+-- and behind it
+pub first_behind : (front back : List ℕ) → slice_get (front ++ back) (length front) ≡ slice_get back 0
+first_behind [] back = refl
+first_behind (x ∷ front) back = first_behind front back
+
+module _ (passes : ℕ → Bool) (n : Nodes) (content : List ℕ) (path : List (Link × Turn)) (lower upper : Option ℕ) (e : IsEnd passes n content path lower upper) where
+  -- the items beside the gap, by their places in the list
+  pub above_there : upper ≡ slice_get content (length e.front)
+  above_there = e.above ∙ (sym (first_behind e.front e.back) ∙ ap (λ xs. slice_get xs (length e.front)) e.whole)
+
+  -- the item just below stands before the end of the front
+  pub below_there : 0 < length e.front → lower ≡ slice_get content (length e.front - 1)
+  below_there more = last_there e.front e.back lower e.below more ∙ ap (λ xs. slice_get xs (length e.front - 1)) e.whole
+
+  -- or there is none
+  pub none_below : length e.front ≡ 0 → lower ≡ None
+  none_below = e.below.none

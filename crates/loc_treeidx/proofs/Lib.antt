@@ -1,0 +1,7 @@
+pub mod Beside
+pub mod Changes
+pub mod Descents
+pub mod Halving
+pub mod Searching
+pub mod Seeking
+pub mod Standing

@@ -1,0 +1,33 @@
+use Rattle.std.proofs.Common.{length, ap, arith}
+use Rattle.std.specs.Prelude.{Ok}
+use Rattle.loc_place.proofs.FoundPlace.{place_is_found}
+use Rattle.loc_spec_plane.specs.declared.Place.TheVariants.{Corner}
+use Rattle.loc_treeidx.specs.Steps.{alive_count}
+use Rattle.loc_treeidx.proofs.Halving.{both_within, within_most}
+use Rattle.loc_treeidx.proofs.Standing.{alive_few}
+use Rattle.loc_treeidx.proofs.tree_index.TreeIndexLocator.locate.Goals as goal
+
+pub returns-in-OnCorner-clause-found : goal.returns-in-OnCorner-clause-found
+returns-in-OnCorner-clause-found g c = ap (λ place. Ok place) (place_is_found c.args.views.now c.requires.planar c.args.p (Corner c.in-OnCorner.corner) c.in-OnCorner.ensures.standing)
+
+pub returns-in-OnCorner-clause-within : goal.returns-in-OnCorner-clause-within
+returns-in-OnCorner-clause-within g c =
+    let t = c.args.views.now in
+    let first = c.search_corners.ensures.few in
+    within_most t 0 c.args.steps.now c.search_corners.new.steps (omega arith) c.search_corners.ensures.counted (omega (arith, first))
+
+pub returns-in-Behind-clause-found : goal.returns-in-Behind-clause-found
+returns-in-Behind-clause-found g c = ap (λ place. Ok place) (place_is_found c.args.views.now c.requires.planar c.args.p c.search_behind.result c.search_behind.ensures.place)
+
+pub returns-in-Behind-clause-few : goal.returns-in-Behind-clause-few
+returns-in-Behind-clause-few g c =
+    let t = c.args.views.now in
+    both_within (length t.corners) (alive_count t c.args.p) c.args.steps.now c.search_corners.new.steps c.search_behind.new.steps c.search_corners.ensures.counted c.search_behind.ensures.counted c.search_corners.ensures.few c.search_behind.ensures.few
+
+pub returns-in-Behind-clause-within : goal.returns-in-Behind-clause-within
+returns-in-Behind-clause-within g c =
+    let t = c.args.views.now in
+    let first = c.search_corners.ensures.counted in
+    let second = c.search_behind.ensures.counted in
+    within_most t (alive_count t c.args.p) c.args.steps.now c.search_behind.new.steps (alive_few t c.args.p) (omega (arith, first, second))
+    (both_within (length t.corners) (alive_count t c.args.p) c.args.steps.now c.search_corners.new.steps c.search_behind.new.steps first second c.search_corners.ensures.few c.search_behind.ensures.few)

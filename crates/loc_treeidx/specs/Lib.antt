@@ -1,0 +1,5 @@
+pub mod Gaps
+pub mod Meaning
+pub mod Standing
+pub mod Steps
+pub mod Targets

@@ -1,0 +1,149 @@
+// The index of versions in a tree.
+
+ghost use Rattle.std.specs.Prelude.{◌≡◌, ◌+◌, ◌-◌, ◌^◌, ◌≤◌, [], Ok, IfOk, IsOkAnd, length};
+ghost use Rattle.loc_place.specs.Answers.{IsInRange};
+ghost use Rattle.loc_place.specs.Found.{place_at};
+ghost use Rattle.loc_place.proofs.FoundPlace.{place_at_is};
+ghost use Rattle.loc_spec_plane.specs.Places.{IsPlace};
+ghost use Rattle.loc_status.specs.Meaning.{IsFresh};
+ghost use Rattle.loc_treeidx.specs.Meaning.{meaning_of};
+ghost use Rattle.loc_treeidx.specs.Standing.{AreVersionsOf};
+ghost use Rattle.loc_treeidx.specs.Steps.{alive_count, search_bound, most_steps};
+
+use crate::corners::{Standing, search_corners};
+use crate::neighbours::{next_above, next_below};
+use crate::node::node_of;
+use crate::places::place_for;
+use crate::targets::Target;
+use crate::version::search_behind;
+use crate::walk::walk_to;
+use loc_edges::{Ranks, Views};
+use loc_geom::{Point, Steps};
+use loc_persist::Versions;
+use loc_place::{Deep, Locator, Place};
+use loc_status::{InsertFault, Status};
+use std::alloc::{AllocError, Global};
+use std::marker::Model;
+use std::sync::ledger::Ledger;
+
+// No table has more edges.
+const MOST_EDGES: u32 = 1 << 20;
+
+/// The index that keeps all lists of a sweep as the versions of one red-black tree. A search finds the last corner that does not come
+/// behind the point, and walks down the version that was sealed there. It stands for every planar table whose versions are the lists.
+#[derive(Drop)]
+pub struct TreeIndex {
+    versions: Versions,
+    count: u32,
+}
+
+impl Model for TreeIndex {
+    ghost use Rattle.loc_persist.specs.Meaning.{VersionsMeaning};
+    ghost use Rattle.loc_treeidx.specs.Meaning.{IsCount};
+
+    ghost Value = { VersionsMeaning };
+
+    ghost view = { λ index. index.versions };
+
+    ghost invariant = { λ index. IsCount index.versions index.count };
+}
+
+impl TreeIndex {
+    /// An index to which nothing was done.
+    pub fn new(alloc: Global) -> TreeIndex
+        ensures fresh { IsFresh (meaning_of result) }
+        ensures told { result.sealed_lists ≡ [] }
+    {
+        TreeIndex {
+            versions: Versions::new(alloc),
+            count: 0,
+        }
+    }
+
+    /// The versions of the tree.
+    pub fn versions(&self) -> &Versions
+        ensures { result.now ≡ self.now }
+    {
+        &self.versions
+    }
+}
+
+impl Status for TreeIndex {
+    ghost meaning = { meaning_of };
+
+    // No table has more edges than the limit, so it is never met; `Ranks` does not say how many there are.
+    fn insert(&mut self, ranks: &Ranks<'_>, edge: u32) -> Result<(), InsertFault> {
+        if self.count == MOST_EDGES {
+            return Err(InsertFault::NoMemory);
+        }
+        let path = place_for(&self.versions, ranks, edge)?;
+        match self.versions.insert_at(path, edge) {
+            Err(AllocError) => Err(InsertFault::NoMemory),
+            Ok(()) => {
+                self.count += 1;
+                Ok(())
+            }
+        }
+    }
+
+    fn remove(&mut self, ranks: &Ranks<'_>, edge: u32) -> Result<(), AllocError> {
+        let (path, at) = node_of(&self.versions, ranks, edge);
+        self.versions.remove_at(path, at)?;
+        self.count -= 1;
+        Ok(())
+    }
+
+    fn below(&self, ranks: &Ranks<'_>, edge: u32) -> Option<u32> {
+        next_below(&self.versions, ranks, edge)
+    }
+
+    fn above(&self, ranks: &Ranks<'_>, edge: u32) -> Option<u32> {
+        next_above(&self.versions, ranks, edge)
+    }
+
+    fn floor(&self, ranks: &Ranks<'_>, corner: u32) -> Option<u32> {
+        let gap = walk_to(&self.versions, ranks, Target::Corner(corner));
+        gap.below
+    }
+
+    fn seal(&mut self) -> Result<(), AllocError> {
+        self.versions.seal()
+    }
+}
+
+impl Locator for TreeIndex {
+    ghost fits = { λ m t. AreVersionsOf t m };
+
+    ghost stands = { λ m t. AreVersionsOf t m };
+
+    ghost finds = { λ _ t p. Ok (place_at t p) };
+
+    ghost most = { λ _ t. most_steps t };
+
+    // The first five clauses are those of the trait; the last counts only the edges that are alive at the point.
+    fn locate<L: Ledger>(
+        &self,
+        views: &Views<'_>,
+        p: Point,
+        steps: &mut Steps<L>,
+    ) -> Result<Place, Deep>
+        requires { AreVersionsOf views.now self.now }
+        ensures found { result ≡ Ok (place_at views.now p) }
+        ensures place { AreVersionsOf views.now self.now → IsOkAnd result (IsPlace views.now p) }
+        ensures in_range { IfOk result (IsInRange views.now) }
+        ensures counted { steps.old ≤ steps.new }
+        ensures within { steps.new ≤ steps.old + most_steps views.now }
+        ensures few { 2 ^ (steps.new - steps.old) ≤ search_bound (length views.now.corners) (alive_count views.now p) }
+    {
+        match search_corners(views, p, steps) {
+            Standing::OnCorner(corner) => Ok(Place::Corner(corner)),
+            Standing::Behind(passed) => Ok(search_behind(&self.versions, passed, views, p, steps)),
+        }
+    }
+
+    ghost stands_fits = { λ _ t stands. stands };
+
+    ghost stands_apart = { λ _ t stands. stands.planar.apart };
+
+    ghost stands_finds = { λ _ t p stands. place_at_is t stands.planar p };
+}
