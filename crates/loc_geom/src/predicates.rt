@@ -25,7 +25,7 @@ fn run(p: Point, q: Point) -> i128
     ensures value { result ≡ q.x -ℤ p.x }
     ensures bounded { IsSpan result }
 {
-    i128::from(q.x()) - i128::from(p.x())
+    i128::from(q.x() - p.x())
 }
 
 // How far q is above p.
@@ -33,7 +33,7 @@ fn rise(p: Point, q: Point) -> i128
     ensures value { result ≡ q.y -ℤ p.y }
     ensures bounded { IsSpan result }
 {
-    i128::from(q.y()) - i128::from(p.y())
+    i128::from(q.y() - p.y())
 }
 
 // Twice the signed area of the triangle l, h, p: positive where p is to the left of the way from l to h.
