@@ -3,7 +3,7 @@
 
 ghost use Rattle.std.specs.Prelude.{◌≡◌, ◌<◌};
 
-use loc_io::{FileShelf, StdSink, write_all};
+use loc_io::{FileShelf, StdSink};
 use loc_top::{Steps, run};
 use std::alloc::Global;
 use std::marker::Brand;
@@ -40,10 +40,8 @@ fn words(rt: &HostRuntime, alloc: Global) -> Option<Vec<String>> {
 
 fn main(rt: HostRuntime) -> ExitCode {
     let alloc = rt.alloc();
-    let Some(words) = words(&rt, alloc) else {
-        let err = rt.stderr();
-        let _ = write_all(&mut StdSink::new(io::writer(&err)), b"out of memory\n");
-        return ExitCode::from(NO_MEMORY);
-    };
-    ExitCode::from(start::<Brand>(&rt, alloc, words.as_slice(), Blank::new(1)))
+    match words(&rt, alloc) {
+        Some(words) => ExitCode::from(start::<Brand>(&rt, alloc, words.as_slice(), Blank::new(1))),
+        None => ExitCode::from(NO_MEMORY),
+    }
 }
