@@ -1,6 +1,5 @@
 mod Examples
 pub mod Layers
-pub mod LineLemmas
 pub mod Marks
 pub mod Machine
 pub mod Fields

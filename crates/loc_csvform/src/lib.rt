@@ -5,13 +5,11 @@
 mod csv_form;
 mod faults;
 mod line_form;
-mod lines;
 mod reader;
 mod records;
 mod rows;
 
 pub use faults::LayerFault;
-pub use lines::next_line;
 pub use loc_spec_text::Form;
 pub use reader::read_layer;
 

@@ -6,11 +6,11 @@ ghost use Rattle.loc_spec_text.specs.Reading.{reading};
 ghost use Rattle.loc_csvform.specs.Layer.{features_from, line_rows};
 ghost use Rattle.loc_csvform.specs.Faults.{IsFaultOf};
 
+use crate::LayerFault;
 use crate::rows::add_row;
-use crate::{LayerFault, next_line};
 use itoa::Buffer;
 use loc_rings::Layer;
-use loc_wkt::is_blank;
+use loc_wkt::{is_blank, next_line};
 use std::alloc::{AllocError, Global};
 
 // The number of a line in decimal, which is the feature's id.

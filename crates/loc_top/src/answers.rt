@@ -12,11 +12,10 @@ ghost use Rattle.loc_top.specs.Query.{Accepts};
 
 use crate::{Plane, Scale};
 use itoa::Buffer;
-use loc_csvform::next_line;
 use loc_geom::{Point, Steps};
 use loc_place::Place;
 use loc_rings::{Feature, covers, touches};
-use loc_wkt::read_point;
+use loc_wkt::{next_line, read_point};
 use std::alloc::{AllocError, Global};
 use std::sync::ledger::Ledger;
 

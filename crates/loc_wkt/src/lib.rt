@@ -5,6 +5,7 @@
 mod geometry;
 mod grid_numbers;
 mod grid_texts;
+mod lines;
 mod lists;
 mod marks;
 mod numbers;
@@ -15,8 +16,8 @@ mod values;
 pub use geometry::read_geometry;
 pub use grid_numbers::{GridNumber, grid_number, is_number};
 pub use grid_texts::print_grid;
+pub use lines::{is_blank, next_line};
 pub use loc_spec_text::TextFault;
-pub use marks::is_blank;
 pub use points::read_point;
 pub use tokens::{Token, Tokens};
 

@@ -4,20 +4,13 @@ ghost use Rattle.std.specs.Prelude.{◌≡◌, ◌+◌, ◌<◌, ◌≤◌, [], 
 ghost use Rattle.std.specs.Char.{is_ascii_alphabetic};
 ghost use Rattle.std.specs.List.{list_all};
 ghost use Rattle.std.specs.Str.{bytes_eq};
-ghost use Rattle.loc_spec_text.specs.Bytes.{capitals, drop_while, is_blank as is_blank_text, is_white as is_white_byte};
+ghost use Rattle.loc_spec_text.specs.Bytes.{capitals, drop_while, is_white as is_white_byte};
 ghost use Rattle.loc_spec_text.specs.Geometry.{piece_of, pieces};
 ghost use Rattle.loc_spec_text.specs.Number.{is_number as is_number_text};
 ghost use Rattle.loc_wkt.specs.Fronts.{empty_at, goes_on_at, is_word, mark_at, number_at, open_at};
 
 use crate::grid_numbers::is_number;
-use crate::tokens::{is_mark, is_white, next_piece, white_length};
-
-/// Whether a text is white space alone, or nothing.
-pub fn is_blank(text: &[u8]) -> bool
-    ensures { result ≡ is_blank_text text.now }
-{
-    text.iter().all(|b| is_white(*b))
-}
+use crate::tokens::{is_mark, next_piece, white_length};
 
 /// The text behind the white space at its front.
 pub(crate) fn skip_white(text: &[u8]) -> &[u8]

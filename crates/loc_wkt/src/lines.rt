@@ -1,7 +1,9 @@
-// The lines of a text.
+// The lines of a text, and white space alone.
 
 ghost use Rattle.std.specs.Prelude.{◌≡◌, ◌∷◌, ◌<◌, ◌≤◌, [], ◌==◌, length, position, MatchOption, IfSome};
-ghost use Rattle.loc_spec_text.specs.Bytes.{lines};
+ghost use Rattle.loc_spec_text.specs.Bytes.{is_blank as is_blank_text, lines};
+
+use crate::tokens::is_white;
 
 // Where the first LF stands.
 fn feed_place(text: &[u8]) -> Option<usize>
@@ -23,4 +25,11 @@ pub fn next_line(text: &[u8]) -> Option<(&[u8], &[u8])>
         Some(i) => Some((&text[..i], &text[i + 1..])),
         None => Some((text, &[])),
     }
+}
+
+/// Whether a text is white space alone, or nothing.
+pub fn is_blank(text: &[u8]) -> bool
+    ensures { result ≡ is_blank_text text.now }
+{
+    text.iter().all(|b| is_white(*b))
 }

@@ -1,6 +1,6 @@
 use Rattle.std.proofs.Common.{rules, sym, ◌∙◌}
-use Rattle.loc_csvform.proofs.LineLemmas.{cut_line, cut_last}
-use Rattle.loc_csvform.proofs.lines.next_line.Goals as goal
+use Rattle.loc_wkt.proofs.LineLemmas.{cut_line, cut_last}
+use Rattle.loc_wkt.proofs.lines.next_line.Goals as goal
 
 pub returns-in-Some-clause-found : goal.returns-in-Some-clause-found
 returns-in-Some-clause-found c = cut_line c.args.text.now c.in-Some.i (sym c.feed_place.ensures ∙ c.in-Some.is)
