@@ -1,5 +1,11 @@
--- Geometry texts: the well-known text of POLYGON and MULTIPOLYGON (OGC 06-103r4, 7.2.2), with free white space and words in any
--- ASCII case. A text is cut into pieces, and a tree of points is spelled by pieces.
+-- Geometry texts: the well-known text of POLYGON and MULTIPOLYGON (OGC 06-103r4, 7.2.2), with free white space and words in any ASCII
+-- case. A text is cut into pieces, and a tree of points is spelled by pieces. The words:
+--   Piece, is_mark, is_break, ends_piece, runs, piece_of, pieces  a text, cut
+--   separated, enclosed, enclosed_or_empty  lists, with commas between members, in parentheses, or EMPTY
+--   Ring, Polygon, PointText, WidePoint  trees of number texts
+--   numbers, wide_numbers         the number texts of a point
+--   point, ring, polygon, Spells  how a tree is spelled
+--   IsTree                        the tree of a text
 use Rattle.std.specs.Prelude.{◌≡◌, ◌≢◌, ◌⊎◌, ℕ, Bool, ◌||◌, List, [], ◌∷◌, ◌++◌, map, codes, ◌==◌, if◌then◌else◌, true}
 use Rattle.std.specs.Char.{is_ascii_alphabetic}
 use Rattle.std.specs.List.{list_all, onto_first, AllByRecursion}
@@ -49,7 +55,7 @@ piece_of run = if bytes_eq run (codes "(") then open_mark
 abbrev pub pieces : List ℕ → List Piece
 pieces text = map piece_of (runs text)
 
--- a list in parentheses, with commas between its members
+-- the members of a list, with commas between them
 abbrev pub separated : {X : Type 0} → (X → List Piece) → List X → List Piece
 separated spelled [] = []
 separated spelled (x ∷ []) = spelled x

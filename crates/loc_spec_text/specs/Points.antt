@@ -1,4 +1,9 @@
--- Point lines, printed coordinates, answer lines and the whole output.
+-- Point lines, printed coordinates, answer lines and the whole output (this product's own). The words:
+--   point_texts, is_grid_number, point_on_grid, point_of  the point that a line reads as
+--   padded_digits, fraction_text, grid_text, position_text  coordinates in print
+--   quoted_byte, quoted, ids_text  ids in print
+--   Answer, face_number, answer_text, ended  an answer, and its line
+--   answer_to, output              the answers to the lines of a text
 use Rattle.std.specs.Prelude.{ℕ, zero, suc, ◌+◌, ◌/◌, ◌%◌, ◌^◌, Bool, ◌&&◌, List, [], ◌∷◌, ◌++◌, length, codes, nat_le, ◌==◌, if◌then◌else◌, ℤ, pos, unsigned_abs, int_lt, Option, Some, None, option_map, option_and_then, unwrap_or}
 use Rattle.std.specs.Fmt.{decimal}
 use Rattle.std.specs.List.{flat_map}
@@ -19,8 +24,7 @@ point_texts _ = None
 abbrev pub is_grid_number : ℕ → List ℕ → Bool
 is_grid_number scale text = is_on_grid scale text && is_in_range scale text
 
--- The point that a line reads as at a scale: there is none where a number is off the grid or out of range, or where the line has
--- more than 4096 bytes.
+-- the point of two number texts at a scale: there is none where a number is off the grid or out of range
 abbrev pub point_on_grid : ℕ → PointText → Option Point
 point_on_grid scale p = if is_grid_number scale p.0 && is_grid_number scale p.1 then Some (position scale p) else None
 
@@ -33,12 +37,12 @@ abbrev pub padded_digits : ℕ → ℕ → List ℕ
 padded_digits zero n = []
 padded_digits (suc k) n = padded_digits k (n / 10) ++ (48 + n % 10) ∷ []
 
--- A grid value printed: a minus where it is negative, the whole part, and behind a point exactly as many digits as the scale says.
+-- a point and exactly as many digits as the scale says, or nothing at scale 0
 abbrev pub fraction_text : ℕ → ℕ → List ℕ
 fraction_text zero n = []
 fraction_text (suc k) n = byte "." ∷ padded_digits (suc k) n
 
--- sign, whole part, and fraction
+-- A grid value printed: a minus where it is negative, the whole part, and the fraction.
 abbrev pub grid_text : ℕ → ℤ → List ℕ
 grid_text scale value = (if int_lt value (pos 0) then codes "-" else [])
     ++ decimal (unsigned_abs value / 10 ^ scale)
@@ -48,11 +52,11 @@ grid_text scale value = (if int_lt value (pos 0) then codes "-" else [])
 abbrev pub position_text : ℕ → Point → List ℕ
 position_text scale p = grid_text scale p.x ++ byte " " ∷ grid_text scale p.y
 
--- an id in double quotes, each inner one doubled, with a space in front
+-- a byte of an id, a double quote doubled
 abbrev pub quoted_byte : ℕ → List ℕ
 quoted_byte b = if b == byte "\"" then b ∷ b ∷ [] else b ∷ []
 
--- the id in quotes
+-- an id in double quotes, each inner one doubled, with a space in front
 abbrev pub quoted : List ℕ → List ℕ
 quoted id = codes " \"" ++ flat_map quoted_byte id ++ codes "\""
 

@@ -1,4 +1,9 @@
--- A plain reader of the grammar, which computes a text's tree. Its law is that it gives exactly the tree that the grammar gives.
+-- A plain reader of the grammar, which computes a text's tree. Its law is that it gives exactly the tree that the grammar gives. The words:
+--   Reader                         what is read at the front of the pieces, and the pieces behind it
+--   onto, next, members_at, enclosed_at, list_at  lists in parentheses
+--   point_at, wide_end, wide_more, wide_point_at  points of two numbers, and of two, three or four
+--   one_of, all_of, tree_after, tree_of  a whole text
+--   geometry_of, wide_geometry_of  the tree of a text in each grammar
 use Rattle.std.specs.Prelude.{ℕ, zero, suc, Bool, true, false, List, [], ◌∷◌, length, codes, if◌then◌else◌, Option, Some, None, option_map, option_and_then}
 use Rattle.std.specs.Str.{bytes_eq}
 use Rattle.loc_spec_text.specs.Geometry.{Piece, word, number, open_mark, close_mark, comma, PointText, WidePoint, two, three, four, Polygon, pieces}
@@ -38,12 +43,12 @@ abbrev pub point_at : Reader PointText
 point_at (number x ∷ number y ∷ ps) = Some ((x, y), ps)
 point_at _ = None
 
--- points of two, three or four numbers
+-- three numbers, or four
 abbrev pub wide_end : List ℕ → List ℕ → List ℕ → Reader WidePoint
 wide_end x y z (number m ∷ ps) = Some (four x y z m, ps)
 wide_end x y z ps = Some (three x y z, ps)
 
--- two numbers, or more
+-- behind two numbers: none, one or two more
 abbrev pub wide_more : List ℕ → List ℕ → Reader WidePoint
 wide_more x y (number z ∷ ps) = wide_end x y z ps
 wide_more x y ps = Some (two x y, ps)

@@ -1,4 +1,11 @@
--- What a geometry text reads as at a scale: its rings on the grid, or its one fault.
+-- What a geometry text reads as at a scale: its rings on the grid, or its one fault. The words:
+--   Polygons                polygons of rings of points on the grid
+--   word_fault, number_fault, ring_fault  the fault of the words at the front, of a number, of a ring
+--   all_rings, all_numbers  the rings and numbers of a tree in the order of the text
+--   position, positions     a point and a tree with their grid values
+--   value_fault, value_of   the first fault of a tree's values, or its polygons
+--   reading_without, reading_of, reading  what a text reads as, computed
+--   OutsideGrammar, InWideGrammar, ReadsTree, Reads  the same by the grammar alone
 use Rattle.std.specs.Prelude.{◌≡◌, ◌⊎◌, ℕ, ◌||◌, not, List, [], ◌∷◌, map, length, codes, nat_lt, ◌==◌, if◌then◌else◌, Option, Some, None, Result, Err, MatchOption, slice_index_or}
 use Rattle.std.specs.List.{flat_map}
 use Rattle.std.specs.Str.{bytes_eq}
@@ -42,7 +49,7 @@ all_rings polygons = flat_map (λ rings. rings) polygons
 abbrev pub all_numbers : List (Polygon PointText) → List (List ℕ)
 all_numbers polygons = flat_map (λ r. flat_map numbers r) (all_rings polygons)
 
--- the tree on the grid
+-- a point of two number texts, on the grid
 abbrev pub position : ℕ → PointText → Point
 position scale p = record { x = grid_value scale p.0; y = grid_value scale p.1 }
 
