@@ -1,27 +1,35 @@
 //! The top call: the words, the command, the status and the line on notes.
-ghost use Rattle.std.specs.Prelude.{◌≡◌, ◌≤◌, ℕ, map, string_bytes};
-ghost use Rattle.loc_io.specs.Meaning.{KeepsFiles};
-ghost use Rattle.loc_top.specs.Words.{asked};
-ghost use Rattle.loc_top.specs.Run.{Ends, Done, Succeeds, ReadsFail, WritesFail, NoCountRose, RefusesWords, RefusesTexts, RefusedOnly, HandsOnly, Notes, OutGrows, Cause, Counts, Settled};
 
-use crate::check::check;
-use crate::query::query;
-use crate::{RunFault, Scale};
+ghost use Rattle.std.specs.Prelude.{◌≡◌, ◌≤◌, ℕ, IfSome, Some, map, string_bytes};
+ghost use Rattle.loc_io.specs.Meaning.{KeepsFiles};
+ghost use Rattle.loc_spec_text.specs.declared.Form.{Form};
+ghost use Rattle.loc_words.specs.Words.{command_of, query};
+ghost use Rattle.loc_course.specs.Courses.{Course, Text};
+ghost use Rattle.loc_course.specs.Moments.{moment};
+ghost use Rattle.loc_course.specs.Sentences.{Counts, Done, Misses, Names, NoCountRose, Notes, ReadsFail, RefusedOnly, Refuses, RefusesPartly, Succeeds, WritesFail};
+ghost use Rattle.loc_maps.specs.MapCourses.{layer_file};
+ghost use Rattle.loc_query.specs.Headline.{Headline};
+ghost use Rattle.loc_top.specs.Run.{OutOf, Ran, RefusesWords, course_of};
+
+use loc_course::{Scale, Stop, report, write_text};
 use loc_geom::Steps;
 use loc_io::{Shelf, Sink};
-use loc_words::{Command, WordsFault, command_of};
+use loc_maps::check;
+use loc_query::query;
+use loc_words::{Command, WordsFault, command_of, usage_text};
 use std::alloc::Global;
 use std::sync::ledger::Ledger;
 
-fn ended<F: Shelf, O: Sink, L: Ledger>(
+// Runs the command that the words are.
+fn run_course<F: Shelf, O: Sink, N: Sink, L: Ledger>(
     alloc: Global,
     words: &[String],
     shelf: &mut F,
     out: &mut O,
+    notes: &mut N,
     steps: &mut Steps<L>,
-) -> Result<(), RunFault>
-    ensures steps { Counts (asked (map string_bytes words.now)) (F.meaning shelf.old) steps.old steps.new }
-    ensures ends { Ends (asked (map string_bytes words.now)) (F.meaning shelf.old) (F.meaning shelf.new) (O.faults out.old) (O.faults out.new) (O.written out.old) (O.written out.new) result }
+) -> u8
+    ensures { Ran (course_of (map string_bytes words.now)) (moment (F.meaning shelf.old) (O.written out.old) (O.faults out.old) steps.old) (moment (F.meaning shelf.new) (O.written out.new) (O.faults out.new) steps.new) (N.faults notes.old) (N.faults notes.new) (N.written notes.old) (N.written notes.new) result }
 {
     match command_of(alloc, words) {
         Ok(
@@ -31,21 +39,28 @@ fn ended<F: Shelf, O: Sink, L: Ledger>(
                 scale,
                 form,
             },
-        ) => query(
-            alloc,
-            layer,
-            points,
-            form,
-            Scale::new(scale),
-            shelf,
-            out,
-            steps,
-        ),
-        Ok(Command::Check { layer, scale, form }) => {
-            check(alloc, layer, form, Scale::new(scale), shelf, out)
+        ) => {
+            let outcome = query(
+                alloc,
+                layer,
+                points,
+                form,
+                Scale::new(scale),
+                shelf,
+                out,
+                steps,
+            );
+            report(outcome, notes)
         }
-        Err(WordsFault::Refused) => Err(RunFault::Words),
-        Err(WordsFault::NoMemory) => Err(RunFault::NoMemory),
+        Ok(Command::Check { layer, scale, form }) => {
+            let outcome = check(alloc, layer, form, Scale::new(scale), shelf, out);
+            report(outcome, notes)
+        }
+        Err(WordsFault::Refused) => {
+            let _ = write_text(notes, usage_text().as_bytes());
+            2
+        }
+        Err(WordsFault::NoMemory) => report(Err(Stop::NoMemory), notes),
     }
 }
 
@@ -58,28 +73,25 @@ pub fn run<F: Shelf, O: Sink, N: Sink, L: Ledger>(
     notes: &mut N,
     steps: &mut Steps<L>,
 ) -> u8
-    ensures done { Done (asked (map string_bytes words.now)) (F.meaning shelf.old) (O.written out.old) (O.written out.new) result }
-    ensures succeeds { Succeeds (asked (map string_bytes words.now)) (F.meaning shelf.old) (F.meaning shelf.new) (O.faults out.old) (O.faults out.new) (O.written out.old) (O.written out.new) result }
-    ensures refuses_texts { RefusesTexts (asked (map string_bytes words.now)) (F.meaning shelf.old) (F.meaning shelf.new) (N.faults notes.old) (N.faults notes.new) (N.written notes.old) (N.written notes.new) result }
-    ensures refused_only { RefusedOnly (asked (map string_bytes words.now)) (F.meaning shelf.old) (N.faults notes.old) (N.faults notes.new) (N.written notes.old) (N.written notes.new) result }
-    ensures reads_fail { ReadsFail (F.meaning shelf.old) (F.meaning shelf.new) result }
-    ensures writes_fail { WritesFail (O.faults out.old) (O.faults out.new) result }
-    ensures no_count_rose { NoCountRose (F.meaning shelf.old) (F.meaning shelf.new) (O.faults out.old) (O.faults out.new) result }
-    ensures refuses_words { RefusesWords (asked (map string_bytes words.now)) result }
-    ensures files { KeepsFiles (F.meaning shelf.old) (F.meaning shelf.new) }
-    ensures names { HandsOnly (asked (map string_bytes words.now)) (F.meaning shelf.old) (F.meaning shelf.new) }
+    ensures headline { (layer points : Text) (scale : ℕ) (form : Form) → command_of (map string_bytes words.now) ≡ Some (query layer points scale form)
+        → Headline (layer_file layer form scale) points (moment (F.meaning shelf.old) (O.written out.old) (O.faults out.old) steps.old) (moment (F.meaning shelf.new) (O.written out.new) (O.faults out.new) steps.new) (N.faults notes.old) (N.faults notes.new) (N.written notes.old) (N.written notes.new) result }
+    ensures ran { Ran (course_of (map string_bytes words.now)) (moment (F.meaning shelf.old) (O.written out.old) (O.faults out.old) steps.old) (moment (F.meaning shelf.new) (O.written out.new) (O.faults out.new) steps.new) (N.faults notes.old) (N.faults notes.new) (N.written notes.old) (N.written notes.new) result }
+    ensures done { IfSome (course_of (map string_bytes words.now)) (λ (c : Course). Done c (moment (F.meaning shelf.old) (O.written out.old) (O.faults out.old) steps.old) (moment (F.meaning shelf.new) (O.written out.new) (O.faults out.new) steps.new) result) }
+    ensures succeeds { IfSome (course_of (map string_bytes words.now)) (λ (c : Course). Succeeds c (moment (F.meaning shelf.old) (O.written out.old) (O.faults out.old) steps.old) (moment (F.meaning shelf.new) (O.written out.new) (O.faults out.new) steps.new) result) }
+    ensures refuses { IfSome (course_of (map string_bytes words.now)) (λ (c : Course). Refuses c (moment (F.meaning shelf.old) (O.written out.old) (O.faults out.old) steps.old) (moment (F.meaning shelf.new) (O.written out.new) (O.faults out.new) steps.new) (N.faults notes.old) (N.faults notes.new) (N.written notes.old) (N.written notes.new) result) }
+    ensures refuses_partly { IfSome (course_of (map string_bytes words.now)) (λ (c : Course). RefusesPartly c (moment (F.meaning shelf.old) (O.written out.old) (O.faults out.old) steps.old) (moment (F.meaning shelf.new) (O.written out.new) (O.faults out.new) steps.new) (N.faults notes.old) (N.faults notes.new) (N.written notes.old) (N.written notes.new) result) }
+    ensures refused_only { IfSome (course_of (map string_bytes words.now)) (λ (c : Course). RefusedOnly c (moment (F.meaning shelf.old) (O.written out.old) (O.faults out.old) steps.old) (moment (F.meaning shelf.new) (O.written out.new) (O.faults out.new) steps.new) (N.faults notes.old) (N.faults notes.new) (N.written notes.old) (N.written notes.new) result) }
+    ensures refuses_words { RefusesWords (course_of (map string_bytes words.now)) (moment (F.meaning shelf.old) (O.written out.old) (O.faults out.old) steps.old) (moment (F.meaning shelf.new) (O.written out.new) (O.faults out.new) steps.new) (N.faults notes.old) (N.faults notes.new) (N.written notes.old) (N.written notes.new) result }
+    ensures misses { IfSome (course_of (map string_bytes words.now)) (λ (c : Course). Misses c (moment (F.meaning shelf.old) (O.written out.old) (O.faults out.old) steps.old) result) }
+    ensures reads_fail { ReadsFail (moment (F.meaning shelf.old) (O.written out.old) (O.faults out.old) steps.old) (moment (F.meaning shelf.new) (O.written out.new) (O.faults out.new) steps.new) result }
+    ensures writes_fail { WritesFail (moment (F.meaning shelf.old) (O.written out.old) (O.faults out.old) steps.old) (moment (F.meaning shelf.new) (O.written out.new) (O.faults out.new) steps.new) result }
+    ensures no_count_rose { NoCountRose (moment (F.meaning shelf.old) (O.written out.old) (O.faults out.old) steps.old) (moment (F.meaning shelf.new) (O.written out.new) (O.faults out.new) steps.new) result }
+    ensures out { OutOf (course_of (map string_bytes words.now)) (moment (F.meaning shelf.old) (O.written out.old) (O.faults out.old) steps.old) (moment (F.meaning shelf.new) (O.written out.new) (O.faults out.new) steps.new) result }
     ensures notes { Notes (N.faults notes.old) (N.faults notes.new) (N.written notes.old) (N.written notes.new) result }
-    ensures out { OutGrows (asked (map string_bytes words.now)) (F.meaning shelf.old) (O.written out.old) (O.written out.new) result }
-    ensures cause { Cause (asked (map string_bytes words.now)) (F.meaning shelf.old) (F.meaning shelf.new) (N.faults notes.old) (N.faults notes.new) (N.written notes.old) (N.written notes.new) result }
-    ensures settled { Settled (asked (map string_bytes words.now)) (F.meaning shelf.old) (F.meaning shelf.new) (O.faults out.old) (O.faults out.new) (O.written out.old) (O.written out.new) result }
+    ensures names { IfSome (course_of (map string_bytes words.now)) (λ (c : Course). Names c (moment (F.meaning shelf.old) (O.written out.old) (O.faults out.old) steps.old) (moment (F.meaning shelf.new) (O.written out.new) (O.faults out.new) steps.new) result) }
+    ensures files { KeepsFiles (F.meaning shelf.old) (F.meaning shelf.new) }
+    ensures steps { IfSome (course_of (map string_bytes words.now)) (λ (c : Course). Counts c (moment (F.meaning shelf.old) (O.written out.old) (O.faults out.old) steps.old) (moment (F.meaning shelf.new) (O.written out.new) (O.faults out.new) steps.new)) }
     ensures range { result ≤ 5 }
-    ensures steps { Counts (asked (map string_bytes words.now)) (F.meaning shelf.old) steps.old steps.new }
 {
-    match ended(alloc, words, shelf, out, steps) {
-        Ok(()) => 0,
-        Err(fault) => {
-            let _ = fault.write_note(notes);
-            fault.status()
-        }
-    }
+    run_course(alloc, words, shelf, out, notes, steps)
 }

@@ -1,45 +1,62 @@
-use Rattle.std.proofs.Common.{Some, None, refl, rules}
-use Rattle.loc_top.proofs.Handing.{hands_only, hands_when, keeps_files}
-use Rattle.loc_top.proofs.Refusals.{refuses_texts, refused_only, no_count_rose, out_grows, reads_fail, refuses_words, writes_fail}
+use Rattle.std.proofs.Common.{ap, map, string_bytes}
+use Rattle.std.specs.Prelude.{option_map}
+use Rattle.loc_words.specs.Words.{command_of}
+use Rattle.loc_maps.specs.MapCourses.{layer_file}
+use Rattle.loc_query.specs.QueryCourses.{query_course}
+use Rattle.loc_query.proofs.Headlines.{headline}
+use Rattle.loc_top.specs.Run.{course_by}
+use Rattle.loc_top.proofs.Runs.{keeps_files, no_count_rose, notes_of, of_course, out_of, range, reads_fail, refuses_words, sentences_of, writes_fail}
 use Rattle.loc_top.proofs.top.run.Goals as goal
 
-pub returns-in-Err-clause-refuses_texts : goal.returns-in-Err-clause-refuses_texts
-returns-in-Err-clause-refuses_texts g c = rw c.status.ensures (refuses_texts _ _ _ _ _ _ _ _ _ _ _ c.in-Err.fault (rw c.in-Err.is at c.ended.ensures.ends) (search rules))
+pub returns-clause-headline : goal.returns-clause-headline
+returns-clause-headline g c layer points scale form is =
+    let course = query_course (layer_file layer form scale) points in
+    headline (layer_file layer form scale) points _ _ _ _ _ _ _ (sentences_of _ _ _ _ _ _ c.run_course.result _ c.run_course.ensures course (ap (option_map course_by) is))
 
-pub returns-in-Err-clause-refused_only : goal.returns-in-Err-clause-refused_only
-returns-in-Err-clause-refused_only g c = rw c.status.ensures (refused_only _ _ _ _ _ _ _ _ _ _ _ c.in-Err.fault (rw c.in-Err.is at c.ended.ensures.ends) (search rules))
+pub returns-clause-done : goal.returns-clause-done
+returns-clause-done g c = of_course _ _ _ _ _ _ c.run_course.result _ _ c.run_course.ensures (λ course s. s.done)
 
-pub returns-in-Err-clause-no_count_rose : goal.returns-in-Err-clause-no_count_rose
-returns-in-Err-clause-no_count_rose g c = rw c.status.ensures (no_count_rose _ _ _ _ _ _ _ c.in-Err.fault (rw c.in-Err.is at c.ended.ensures.ends))
+pub returns-clause-succeeds : goal.returns-clause-succeeds
+returns-clause-succeeds g c = of_course _ _ _ _ _ _ c.run_course.result _ _ c.run_course.ensures (λ course s. s.succeeds)
 
-pub returns-in-Err-clause-out : goal.returns-in-Err-clause-out
-returns-in-Err-clause-out g c = rw c.status.ensures (out_grows _ _ _ _ _ _ _ c.in-Err.fault (rw c.in-Err.is at c.ended.ensures.ends))
+pub returns-clause-refuses : goal.returns-clause-refuses
+returns-clause-refuses g c = of_course _ _ _ _ _ _ c.run_course.result _ _ c.run_course.ensures (λ course s. s.refuses)
 
-pub returns-in-Err-clause-cause : goal.returns-in-Err-clause-cause
-returns-in-Err-clause-cause g c = record {
-  fault = Some c.in-Err.fault;
-  status_is = c.status.ensures;
-  note = search rules;
-  bytes = λ names is. hands_when _ names _ _ _ _ _ _ c.ended.result c.in-Err.fault c.ended.ensures.ends c.in-Err.is is;
-}
+pub returns-clause-refuses_partly : goal.returns-clause-refuses_partly
+returns-clause-refuses_partly g c = of_course _ _ _ _ _ _ c.run_course.result _ _ c.run_course.ensures (λ course s. s.refuses_partly)
 
-pub returns-in-Ok-clause-settled : goal.returns-in-Ok-clause-settled
-returns-in-Ok-clause-settled g c = (None, rw c.in-Ok.is at c.ended.ensures.ends, refl)
+pub returns-clause-refused_only : goal.returns-clause-refused_only
+returns-clause-refused_only g c = of_course _ _ _ _ _ _ c.run_course.result _ _ c.run_course.ensures (λ course s. s.refused_only)
 
-pub returns-in-Err-clause-settled : goal.returns-in-Err-clause-settled
-returns-in-Err-clause-settled g c = (Some c.in-Err.fault, rw c.in-Err.is at c.ended.ensures.ends, c.status.ensures)
+pub returns-clause-misses : goal.returns-clause-misses
+returns-clause-misses g c = of_course _ _ _ _ _ _ c.run_course.result _ _ c.run_course.ensures (λ course s. s.misses)
 
-pub returns-in-Err-clause-reads_fail : goal.returns-in-Err-clause-reads_fail
-returns-in-Err-clause-reads_fail g c = rw c.status.ensures (reads_fail _ _ _ _ _ _ _ c.in-Err.fault (rw c.in-Err.is at c.ended.ensures.ends))
+pub returns-clause-names : goal.returns-clause-names
+returns-clause-names g c = of_course _ _ _ _ _ _ c.run_course.result _ _ c.run_course.ensures (λ course s. s.names)
 
-pub returns-in-Err-clause-writes_fail : goal.returns-in-Err-clause-writes_fail
-returns-in-Err-clause-writes_fail g c = rw c.status.ensures (writes_fail _ _ _ _ _ _ _ c.in-Err.fault (rw c.in-Err.is at c.ended.ensures.ends))
+pub returns-clause-steps : goal.returns-clause-steps
+returns-clause-steps g c = of_course _ _ _ _ _ _ c.run_course.result _ _ c.run_course.ensures (λ course s. s.steps)
 
-pub returns-in-Err-clause-names : goal.returns-in-Err-clause-names
-returns-in-Err-clause-names g c = hands_only _ _ _ _ _ _ _ c.ended.result c.ended.ensures.ends
+pub returns-clause-refuses_words : goal.returns-clause-refuses_words
+returns-clause-refuses_words g c = refuses_words _ _ _ _ _ _ c.run_course.result _ c.run_course.ensures
 
-pub returns-in-Err-clause-files : goal.returns-in-Err-clause-files
-returns-in-Err-clause-files g c = keeps_files _ _ _ _ _ _ _ c.ended.result c.ended.ensures.ends
+pub returns-clause-reads_fail : goal.returns-clause-reads_fail
+returns-clause-reads_fail g c = reads_fail _ _ _ _ _ _ c.run_course.result _ c.run_course.ensures
 
-pub returns-in-Err-clause-refuses_words : goal.returns-in-Err-clause-refuses_words
-returns-in-Err-clause-refuses_words g c = rw c.status.ensures (refuses_words _ _ _ _ _ _ _ c.in-Err.fault (rw c.in-Err.is at c.ended.ensures.ends))
+pub returns-clause-writes_fail : goal.returns-clause-writes_fail
+returns-clause-writes_fail g c = writes_fail _ _ _ _ _ _ c.run_course.result _ c.run_course.ensures
+
+pub returns-clause-no_count_rose : goal.returns-clause-no_count_rose
+returns-clause-no_count_rose g c = no_count_rose _ _ _ _ _ _ c.run_course.result _ c.run_course.ensures
+
+pub returns-clause-notes : goal.returns-clause-notes
+returns-clause-notes g c = notes_of _ _ _ _ _ _ c.run_course.result _ c.run_course.ensures
+
+pub returns-clause-range : goal.returns-clause-range
+returns-clause-range g c = range _ _ _ _ _ _ c.run_course.result _ c.run_course.ensures
+
+pub returns-clause-files : goal.returns-clause-files
+returns-clause-files g c = keeps_files _ _ _ _ _ _ c.run_course.result (command_of (map string_bytes c.args.words.now)) c.run_course.ensures
+
+pub returns-clause-out : goal.returns-clause-out
+returns-clause-out g c = out_of _ _ _ _ _ _ c.run_course.result (command_of (map string_bytes c.args.words.now)) c.run_course.ensures

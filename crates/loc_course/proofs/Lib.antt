@@ -1,0 +1,10 @@
+pub mod Along
+pub mod Counted
+pub mod Going
+pub mod Grown
+pub mod Makings
+pub mod Plain
+pub mod Statuses
+pub mod Streamed
+pub mod Told
+pub mod Writing

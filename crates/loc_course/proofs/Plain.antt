@@ -1,0 +1,16 @@
+-- Courses that write at once and make no file.
+use Rattle.std.proofs.Common.{ℕ, Bool}
+use Rattle.loc_course.specs.Courses.{Text, Source, Course, refuses, reads, searches, writes}
+use Rattle.loc_course.specs.Sentences.{IsPlain}
+
+pub plain_refuses : (passes : Text → Bool) → IsPlain (refuses passes)
+plain_refuses passes = record { at_once = tt; makes_none = λ name maker. maker }
+
+pub plain_writes : (passes : Text → Bool) → IsPlain (writes passes)
+plain_writes passes = record { at_once = tt; makes_none = λ name maker. maker }
+
+pub plain_searches : (k : ℕ) (c : Course) → IsPlain c → IsPlain (searches k c)
+plain_searches k c plain = record { at_once = plain.at_once; makes_none = plain.makes_none }
+
+pub plain_reads : (s : Source) (next : Text → Course) → ((text : Text) → IsPlain (next text)) → IsPlain (reads s next)
+plain_reads s next plain = record { at_once = λ text. (plain text).at_once; makes_none = λ name maker. (plain maker.0).makes_none name maker.1 }

@@ -1,0 +1,4 @@
+mod Examples
+pub mod Checked
+pub mod Judged
+pub mod Shown

@@ -1,0 +1,13 @@
+//! The layer of a command: its file, its plane, and why it is refused. The check of a layer.
+#![tactic(auto)]
+
+mod checking;
+mod laws;
+mod lines;
+mod maps;
+mod plane;
+
+pub use checking::check;
+pub use laws::check_law;
+pub use maps::{judge, read_layer_file};
+pub use plane::Plane;

@@ -1,0 +1,4 @@
+pub mod Outputs
+mod Examples
+pub mod Headlines
+pub mod Rows

@@ -1,0 +1,4 @@
+pub mod Answered
+pub mod Fronts
+pub mod Headline
+pub mod QueryCourses

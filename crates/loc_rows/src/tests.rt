@@ -1,0 +1,476 @@
+//! What no clause says: that the answers come where there is memory, on worked layers and with each call failing in turn.
+
+ghost use Rattle.std.specs.Prelude.{◌≡◌, ◌<◌};
+
+use loc_io::{MemShelf, MemSink};
+use loc_top::{Steps, run};
+use std::alloc::Global;
+use std::marker::Brand;
+use std::sync::ledger::{Blank, Ledger};
+use std::test::Fail;
+
+const SQUARE: &[u8] = b"POLYGON ((0 0, 4 0, 4 4, 0 4, 0 0))\n";
+
+// Points inside, outside, at corners, on a border, and in the open face beside.
+const POINTS: &[u8] = b"2 2\n5 2\n0 0\n4 4\n4 2\n4 5\n0 -1\n-1 4\n5 0\n";
+
+const ANSWERS: &[u8] =
+    b"face in \"1\"\nface in\ncorner 0 on \"1\" in\ncorner 3 on \"1\" in\nborder 3 on \"1\" in\nface in\nface in\nface in\nface in\n";
+
+const BOW_TIE: &[u8] = b"POLYGON ((0 0, 4 4, 4 0, 0 4, 0 0))";
+
+// The layer, the points, the scale, the status, and what stands on out and on notes.
+type Row = (
+    &'static [u8],
+    &'static [u8],
+    &'static str,
+    u8,
+    &'static [u8],
+    &'static [u8],
+);
+
+const ROWS: [Row; 28] = [
+    (SQUARE, POINTS, "0", 0, ANSWERS, b""),
+    (
+        b"POLYGON((0 0,2 -2,4 0,2 2,0 0))",
+        b"-1 0\n1 0",
+        "0",
+        0,
+        b"face in\nface in \"1\"\n",
+        b"",
+    ),
+    (
+        b"POLYGON ((0 0, 4 0, 4 4, 0 4, 0 0))\nPOLYGON ((1 1, 2 1, 2 2, 1 2, 1 1))\n",
+        b"1 1\n2 2\n3 3\n",
+        "0",
+        0,
+        b"corner 2 on \"2\" in \"1\"\ncorner 5 on \"2\" in \"1\"\nface in \"1\"\n",
+        b"",
+    ),
+    (
+        b"\npolygon((0 0,4 0,4 4,0 4,0 0))\n \t\nPOLYGON ((4 0, 8 0, 8 4, 4 4, 4 0))",
+        b"4 2\n\n 6\t1 \nx\nPOINT(6 1)\n",
+        "0",
+        0,
+        b"border 3 on \"2\" \"4\" in\nunread\nface in \"4\"\nunread\nface in \"4\"\n",
+        b"",
+    ),
+    (
+        b"POLYGON ((0 0, 4 0, 4 4, 0 4, 0 0), (1 1, 1 3, 3 3, 3 1, 1 1))",
+        b"2 2\n0.5 0.5\n0.55 0.5\n",
+        "1",
+        0,
+        b"face in\nface in \"1\"\nunread\n",
+        b"",
+    ),
+    (
+        b"MULTIPOLYGON (((0 0, 4 0, 4 4, 0 4, 0 0), (1 1, 1 3, 3 3, 3 1, 1 1)), ((1.5 1.5, 2.5 1.5, 2.5 2.5, 1.5 2.5, 1.5 1.5)))",
+        b"2 2\n1.2 1.2\n1.5 2\n",
+        "1",
+        0,
+        b"face in \"1\"\nface in\nborder 6 on \"1\" in\n",
+        b"",
+    ),
+    (
+        b"POLYGON ((0 0, 1000.000000000000001 0, 4 4, 0 0))",
+        b"4 2\n2 2\n6 1",
+        "15",
+        1,
+        b"",
+        b"layer line 1: number 3 out of range\n",
+    ),
+    (
+        b"MULTIPOLYGON (((0 0, 4 0, 4 4, 0 4, 0 0)), ((4 0, 8 0, 8 4, 4 4, 4 0)))",
+        b"4 2\n2 2\n6 1",
+        "15",
+        0,
+        b"border 3 on \"1\" in\nface in \"1\"\nface in \"1\"\n",
+        b"",
+    ),
+    (
+        b"\xEF\xBB\xBFPOLYGON EMPTY",
+        b"1 1",
+        "0",
+        0,
+        b"face in\n",
+        b"",
+    ),
+    (
+        b"POLYGON EMPTY\nMULTIPOLYGON EMPTY",
+        b"1 1",
+        "0",
+        0,
+        b"face in\n",
+        b"",
+    ),
+    (b"", b"1 1\n2 2", "0", 0, b"face in\nface in\n", b""),
+    (SQUARE, b"", "0", 0, b"", b""),
+    (
+        b"POLYGON ((-1000000000000000000 -1000000000000000000, 1000000000000000000 -1000000000000000000, 1000000000000000000 1000000000000000000, -1000000000000000000 -1000000000000000000))",
+        b"0 0\n0 -1\n0 1\n",
+        "0",
+        0,
+        b"border 1 on \"1\" in\nface in \"1\"\nface in\n",
+        b"",
+    ),
+    (
+        b"POLYGON ((-1e18 -1e18, 1e18 -1e18, 1e18 1e18, -1e18 1e18, -1e18 -1e18))",
+        b"0 0\n1000000000000000000 0\n-1000000000000000000 1000000000000000000\n1000000000000000001 0\n",
+        "0",
+        0,
+        b"face in \"1\"\nborder 3 on \"1\" in\ncorner 1 on \"1\" in\nunread\n",
+        b"",
+    ),
+    (
+        b"POLYGON ((1000000000000000001 0, 4 0, 4 4, 1000000000000000001 0))",
+        b"0 0\n",
+        "0",
+        1,
+        b"",
+        b"layer line 1: number 1 out of range\n",
+    ),
+    (
+        b"POLYGON ((0 0, 12.55 0, 12.55 4, 0 4, 0 0))",
+        b"0 0\n",
+        "1",
+        1,
+        b"",
+        b"layer line 1: number 3 off grid\n",
+    ),
+    (
+        b"POLYGON ((0 0, 4",
+        b"1 1\n",
+        "0",
+        1,
+        b"",
+        b"layer line 1: syntax\n",
+    ),
+    (
+        b"POLYGON (EMPTY)",
+        b"1 1\n",
+        "0",
+        1,
+        b"",
+        b"layer line 1: syntax\n",
+    ),
+    (
+        b"\n \n5 5\n",
+        b"1 1\n",
+        "0",
+        1,
+        b"",
+        b"layer line 3: syntax\n",
+    ),
+    (b"\n \nx\n", b"1 1\n", "0", 1, b"", b"layer line 3: tag\n"),
+    (
+        b"LINESTRING (0 0, 1 1)",
+        b"1 1\n",
+        "0",
+        1,
+        b"",
+        b"layer line 1: tag\n",
+    ),
+    (
+        b"POLYGON ((0 0, 4 0 1, 4 4, 0 0))",
+        b"1 1\n",
+        "0",
+        1,
+        b"",
+        b"layer line 1: dimension\n",
+    ),
+    (
+        b"POLYGON ((0 0, 4 0, 4 4, 0 4, 1 1))",
+        b"1 1\n",
+        "0",
+        1,
+        b"",
+        b"layer line 1: ring 1 open\n",
+    ),
+    (
+        b"POLYGON ((0 0, 4 0, 4 4, 0 4, 0 0), (1 1, 2 2, 1 1))",
+        b"1 1\n",
+        "0",
+        1,
+        b"",
+        b"layer line 1: ring 2 short\n",
+    ),
+    (
+        BOW_TIE,
+        b"1 1\n",
+        "0",
+        1,
+        b"",
+        b"layer: edges 0 0, 4 4 and 0 4, 4 0 cross\n",
+    ),
+    (
+        BOW_TIE,
+        b"1 1\n",
+        "1",
+        1,
+        b"",
+        b"layer: edges 0.0 0.0, 4.0 4.0 and 0.0 4.0, 4.0 0.0 cross\n",
+    ),
+    (
+        b"POLYGON ((0 0, 4 0, 4 4, 0 4, 0 0))\nPOLYGON ((4 0, 6 0, 6 2, 4 2, 4 0))",
+        b"1 1\n",
+        "0",
+        1,
+        b"",
+        b"layer: edges 4 0, 4 2 and 4 0, 4 4 touch\n",
+    ),
+    (
+        b"POLYGON ((0 0, 4 0, 0 0))",
+        b"1 1\n",
+        "0",
+        1,
+        b"",
+        b"layer line 1: ring 1 short\n",
+    ),
+];
+
+const USAGE: &[u8] =
+    b"usage: locate query LAYER POINTS --scale K [--form lines|csv]\n       locate check LAYER --scale K [--form lines|csv]\n";
+
+// Words that are no command.
+const REFUSED: [[&str; 5]; 6] = [
+    ["query", "layer", "points", "--scale", "16"],
+    ["query", "layer", "points", "--scale", "1.5"],
+    ["query", "layer", "points", "--form", "csv"],
+    ["query", "-layer", "points", "--scale", "0"],
+    ["query", "layer", "", "--scale", "0"],
+    ["ask", "layer", "points", "--scale", "0"],
+];
+
+const LOTS: &[u8] =
+    b"WKT,id,name\r\n\"POLYGON ((13.3775 52.5165, 13.3785 52.5165, 13.3785 52.5175, 13.3775 52.5165))\",\"Lot 7 \"\"east\"\"\",x\r\n";
+
+// The words, the layer, the status, and what stands on out and on notes.
+type CommandRow = (
+    &'static [&'static str],
+    &'static [u8],
+    u8,
+    &'static [u8],
+    &'static [u8],
+);
+
+const COMMANDS: [CommandRow; 8] = [
+    (
+        &["check", "layer", "--scale", "0"],
+        SQUARE,
+        0,
+        b"features 1 corners 4 edges 4\n",
+        b"",
+    ),
+    (
+        &["check", "layer", "--form=csv", "--scale=6"],
+        LOTS,
+        0,
+        b"features 1 corners 3 edges 3\n",
+        b"",
+    ),
+    (
+        &["query", "layer", "points", "--form", "csv", "--scale", "6"],
+        LOTS,
+        0,
+        b"corner 0 on \"Lot 7 \"\"east\"\"\" in\n",
+        b"",
+    ),
+    (
+        &["query", "layer", "points", "--scale=0"],
+        SQUARE,
+        0,
+        b"unread\n",
+        b"",
+    ),
+    (
+        &["check", "layer", "--scale", "0", "--form", "csv"],
+        b"geom,id\n",
+        1,
+        b"",
+        b"layer: no wkt column\n",
+    ),
+    (
+        &["check", "layer", "--scale", "0", "--form", "csv"],
+        b"wkt,id\nPOLYGON EMPTY,a,b\n",
+        1,
+        b"",
+        b"layer row 1: fields\n",
+    ),
+    (
+        &["check", "layer", "--scale", "1"],
+        BOW_TIE,
+        1,
+        b"",
+        b"layer: edges 0.0 0.0, 4.0 4.0 and 0.0 4.0, 4.0 0.0 cross\n",
+    ),
+    (&["query", "layer", "points"], SQUARE, 2, b"", USAGE),
+];
+
+// The layer, empty where a missing file is asked for; which call of the shelf, of out and of notes fails, the status, and what stands on
+// out and on notes.
+const FAILING: [(&[u8], u64, u64, u64, u8, &[u8], &[u8]); 14] = [
+    (b"", 0, 0, 0, 3, b"", b"read failed\n"),
+    (SQUARE, 1, 0, 0, 3, b"", b"read failed\n"),
+    (SQUARE, 2, 0, 0, 3, b"", b"read failed\n"),
+    (SQUARE, 3, 0, 0, 3, b"", b"read failed\n"),
+    (SQUARE, 4, 0, 0, 3, b"", b"read failed\n"),
+    (SQUARE, 5, 0, 0, 3, b"", b"read failed\n"),
+    (SQUARE, 6, 0, 0, 3, b"", b"read failed\n"),
+    (SQUARE, 7, 0, 0, 0, ANSWERS, b""),
+    (SQUARE, 0, 1, 0, 4, b"", b"write failed\n"),
+    (SQUARE, 0, 1, 1, 4, b"", b""),
+    (SQUARE, 0, 2, 0, 0, ANSWERS, b""),
+    (SQUARE, 1, 0, 1, 3, b"", b""),
+    (BOW_TIE, 0, 0, 1, 1, b"", b""),
+    (BOW_TIE, 0, 0, 3, 1, b"", b"layer: edges 0"),
+];
+
+// A list of one call number, or of none.
+fn calls(alloc: Global, number: u64) -> Result<Vec<u64>, Fail> {
+    let mut numbers = Vec::new(alloc);
+    if number > 0 {
+        numbers.push(number)?;
+    }
+    Ok(numbers)
+}
+
+fn words_of(alloc: Global, words: &[&str]) -> Result<Vec<String>, Fail> {
+    let mut all = Vec::new(alloc);
+    for word in words {
+        all.push(String::from_str(alloc, word)?)?;
+    }
+    Ok(all)
+}
+
+// A shelf with a layer and points, and which of its calls fails.
+fn shelf_of(alloc: Global, layer: &[u8], points: &[u8], failing: u64) -> Result<MemShelf, Fail> {
+    let mut shelf = MemShelf::new(alloc, calls(alloc, failing)?);
+    shelf.put("layer", layer)?;
+    shelf.put("points", points)?;
+    Ok(shelf)
+}
+
+// The status of a run whose steps are counted in a ledger that is blank.
+fn status<L: Ledger>(
+    alloc: Global,
+    words: &[String],
+    shelf: &mut MemShelf,
+    out: &mut MemSink,
+    notes: &mut MemSink,
+    blank: Blank,
+) -> u8
+    requires name { blank.name ≡ L.name }
+    requires parts { blank.parts ≡ L.parts }
+    requires some { 0 < L.parts }
+{
+    let mut steps = Steps::<L>::new(blank);
+    run(alloc, words, shelf, out, notes, &mut steps)
+}
+
+// What a run leaves: its status, and what stands on out and on notes.
+#[derive(Drop)]
+struct Outcome {
+    status: u8,
+    out: MemSink,
+    notes: MemSink,
+}
+
+// What the words leave, run over a shelf where one call of out and one of notes fails.
+fn outcome_of(
+    alloc: Global,
+    words: &[&str],
+    mut shelf: MemShelf,
+    out_call: u64,
+    notes_call: u64,
+) -> Result<Outcome, Fail> {
+    let words = words_of(alloc, words)?;
+    let mut out = MemSink::new(alloc, calls(alloc, out_call)?);
+    let mut notes = MemSink::new(alloc, calls(alloc, notes_call)?);
+    let status = status::<Brand>(
+        alloc,
+        &words,
+        &mut shelf,
+        &mut out,
+        &mut notes,
+        Blank::new(1),
+    );
+    Ok(Outcome { status, out, notes })
+}
+
+#[test]
+fn worked_layers(rt: HostRuntime) -> Result<(), Fail> {
+    let alloc = rt.alloc();
+    for (layer, points, scale, status, out, notes) in ROWS {
+        let shelf = shelf_of(alloc, layer, points, 0)?;
+        let words = ["query", "layer", "points", "--scale", scale];
+        let outcome = outcome_of(alloc, &words, shelf, 0, 0)?;
+        assert_eq!(rt; outcome.status, status);
+        assert_eq!(rt; outcome.out.bytes(), out);
+        assert_eq!(rt; outcome.notes.bytes(), notes);
+    }
+    Ok(())
+}
+
+#[test]
+fn refused_words(rt: HostRuntime) -> Result<(), Fail> {
+    let alloc = rt.alloc();
+    for words in REFUSED {
+        let outcome = outcome_of(alloc, &words, MemShelf::new(alloc, Vec::new(alloc)), 0, 0)?;
+        assert_eq!(rt; outcome.status, 2);
+        assert_eq!(rt; outcome.out.bytes().len(), 0);
+        assert_eq!(rt; outcome.notes.bytes(), USAGE);
+    }
+    Ok(())
+}
+
+#[test]
+fn failing_calls(rt: HostRuntime) -> Result<(), Fail> {
+    let alloc = rt.alloc();
+    for (layer, shelf_call, out_call, notes_call, status, out, notes) in FAILING {
+        let name = if layer.is_empty() { "absent" } else { "layer" };
+        let words = ["query", name, "points", "--scale", "0"];
+        let shelf = shelf_of(alloc, layer, POINTS, shelf_call)?;
+        let outcome = outcome_of(alloc, &words, shelf, out_call, notes_call)?;
+        assert_eq!(rt;
+            outcome.status,
+            status,
+            "at {shelf_call} {out_call} {notes_call}"
+        );
+        assert_eq!(rt; outcome.out.bytes(), out);
+        assert_eq!(rt; outcome.notes.bytes(), notes);
+    }
+    Ok(())
+}
+
+#[test]
+fn long_lines(rt: HostRuntime) -> Result<(), Fail> {
+    let alloc = rt.alloc();
+    let mut points = Vec::new(alloc);
+    points.extend_from_slice(b"2 2\n\n0.12345678901234567 1\n")?;
+    for _ in 0..5000 {
+        points.push(b'a')?;
+    }
+    points.extend_from_slice(b"\n2 2")?;
+    let shelf = shelf_of(alloc, SQUARE, &points, 0)?;
+    let words = ["query", "layer", "points", "--scale", "3"];
+    let outcome = outcome_of(alloc, &words, shelf, 0, 0)?;
+    assert_eq!(rt; outcome.status, 0);
+    assert_eq!(rt;
+        outcome.out.bytes(),
+        b"face in \"1\"\nunread\nunread\nunread\nface in \"1\"\n".as_slice()
+    );
+    Ok(())
+}
+
+#[test]
+fn commands(rt: HostRuntime) -> Result<(), Fail> {
+    let alloc = rt.alloc();
+    for (words, layer, status, out, notes) in COMMANDS {
+        let shelf = shelf_of(alloc, layer, b"POINT (13.3775 52.5165)", 0)?;
+        let outcome = outcome_of(alloc, words, shelf, 0, 0)?;
+        assert_eq!(rt; outcome.status, status);
+        assert_eq!(rt; outcome.out.bytes(), out);
+        assert_eq!(rt; outcome.notes.bytes(), notes);
+    }
+    Ok(())
+}
