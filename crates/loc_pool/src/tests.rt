@@ -2,7 +2,7 @@
 ghost use Rattle.std.specs.Prelude.{IsTrue, IfOk};
 ghost use Rattle.loc_pool.specs.Maps.{has};
 
-use crate::loose::Loose;
+use crate::heap::Loose;
 use crate::node::Node;
 use crate::{Colour, Extra, Link, Pool, Turn};
 use std::alloc::{AllocError, Allocator, Global};
