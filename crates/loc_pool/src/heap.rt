@@ -95,8 +95,8 @@ impl Heap {
         Link { at }
     }
 
-    // Takes a node out.
-    fn give(&mut self, alloc: Global, at: Link) -> Loose<Node, Global>
+    /// Takes a node out, to be freed.
+    pub(crate) fn give(&mut self, alloc: Global, at: Link) -> Loose<Node, Global>
         requires { IsTrue (has self.old.cells at) }
         ensures cells { self.new.cells ≡ without self.old.cells at }
         ensures value { result.value ≡ node_at self.old.cells at }
@@ -110,14 +110,6 @@ impl Heap {
         ensures cells { self.new.cells ≡ self.old.cells ++ (result, block.value) ∷ [] }
     {
         self.own(Loose::of(block))
-    }
-
-    /// Takes a node out and frees its block.
-    pub(crate) fn free(&mut self, alloc: Global, at: Link)
-        requires { IsTrue (has self.old.cells at) }
-        ensures { self.new.cells ≡ without self.old.cells at }
-    {
-        self.give(alloc, at).free();
     }
 
     /// Ends the heap, once no node is left.

@@ -212,7 +212,7 @@ fn free_all(heap: &mut Heap, alloc: Global, order: &[Link])
     ensures { heap.new.cells ≡ [] }
 {
     'frees: for at in order {
-        heap.free(alloc, *at);
+        heap.give(alloc, *at).free();
     }
 }
 
