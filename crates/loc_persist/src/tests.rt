@@ -8,11 +8,11 @@ ghost use Rattle.loc_persist.specs.Reading.{IsThere};
 ghost use Rattle.loc_persist.specs.Meaning.{present_nodes};
 ghost use Rattle.loc_persist.specs.Small.{IsSmall};
 
-use crate::node_row::NodeRow;
 use crate::present::push;
 use crate::versions::Versions;
 use loc_pool::{Link, Turn};
 use loc_rb::Path;
+use loc_spec_index::NodeRow;
 use std::alloc::{AllocError, Global};
 
 /// The way down to an item in the present tree: its node, or the missing child where it belongs.
