@@ -5,7 +5,7 @@ ghost use Rattle.loc_spec_plane.specs.Lists.{is_in};
 ghost use Rattle.loc_status.specs.Lists.{IsNextBelow, IsNextAbove, IsSearchable};
 
 use crate::targets::Target;
-use crate::walk::walk_to;
+use crate::walk::walk_beside;
 use loc_edges::Ranks;
 use loc_persist::Versions;
 
@@ -29,11 +29,11 @@ pub(crate) fn next_below(versions: &Versions, ranks: &Ranks<'_>, edge: u32) -> O
     ensures { IsNextBelow edge versions.now.list result }
 {
     ranks.law();
-    let begin = walk_to(versions, ranks, Target::Begin(edge));
+    let begin = walk_beside(versions, ranks, Target::Begin(edge));
     if is_found(begin.above, edge) {
         return begin.below;
     }
-    let end = walk_to(versions, ranks, Target::End(edge));
+    let end = walk_beside(versions, ranks, Target::End(edge));
     end.below
 }
 
@@ -46,10 +46,10 @@ pub(crate) fn next_above(versions: &Versions, ranks: &Ranks<'_>, edge: u32) -> O
     ensures { IsNextAbove edge versions.now.list result }
 {
     ranks.law();
-    let begin = walk_to(versions, ranks, Target::PastBegin(edge));
+    let begin = walk_beside(versions, ranks, Target::PastBegin(edge));
     if is_found(begin.below, edge) {
         return begin.above;
     }
-    let end = walk_to(versions, ranks, Target::PastEnd(edge));
+    let end = walk_beside(versions, ranks, Target::PastEnd(edge));
     end.above
 }

@@ -1,8 +1,8 @@
-// The walk down the present tree to the place of a target.
+// The walk down the present tree to the place of a target, with the path to it or with the edges beside it alone.
 
 ghost use Rattle.std.specs.Prelude.{◌≡◌, ◌<◌, ◌^◌, ◌++◌, [], ◌∷◌, length};
 ghost use Rattle.std.specs.List.{All};
-ghost use Rattle.loc_treeidx.specs.Gaps.{IsGap};
+ghost use Rattle.loc_treeidx.specs.Gaps.{IsGap, IsBeside};
 ghost use Rattle.loc_treeidx.specs.Targets.{IsTarget, is_passed};
 
 use crate::targets::{Target, passes};
@@ -15,6 +15,13 @@ use loc_rb::Path;
 #[derive(Drop)]
 pub(crate) struct Gap {
     pub(crate) path: Path,
+    pub(crate) below: Option<u32>,
+    pub(crate) above: Option<u32>,
+}
+
+// The edges just below and just above a place in the list.
+#[derive(Clone, Copy, Drop)]
+pub(crate) struct Beside {
     pub(crate) below: Option<u32>,
     pub(crate) above: Option<u32>,
 }
@@ -56,4 +63,31 @@ pub(crate) fn walk_to(versions: &Versions, ranks: &Ranks<'_>, target: Target) ->
         }
     }
     gap
+}
+
+// The edges beside the place where the target stands, by the same way down.
+pub(crate) fn walk_beside(versions: &Versions, ranks: &Ranks<'_>, target: Target) -> Beside
+    requires small { length versions.now.list < 2 ^ 21 }
+    requires in_range { All (λ e. e < length ranks.now.ends) versions.now.list }
+    requires target_in_range { IsTarget ranks.now target }
+    ensures { IsBeside (is_passed ranks.now target) versions.now result }
+{
+    // tells that the present tree is red-black
+    let _sealed = versions.sealed();
+    let mut found = Beside {
+        below: None,
+        above: None,
+    };
+    let mut next = versions.newest_root();
+    'down: while let Some(at) = next {
+        let edge = versions.item(at);
+        if passes(ranks, target, edge) {
+            found.below = Some(edge);
+            next = versions.newest_child(at, Turn::Right);
+        } else {
+            found.above = Some(edge);
+            next = versions.newest_child(at, Turn::Left);
+        }
+    }
+    found
 }
