@@ -17,7 +17,6 @@ use std::alloc::{AllocError, Global};
 
 /// The way down to an item in the present tree: its node, or the missing child where it belongs.
 fn search(versions: &Versions, item: u32) -> (Path, Option<Link>)
-    requires { length versions.now.list < 2 ^ 21 }
     ensures { Found (present_nodes versions.now) result.0.items result.1 versions.now.list }
 {
     // tells that the present tree is red-black

@@ -36,7 +36,7 @@ height-is n (node l a x c b) (suc deep) fits within =
     ap (λ o. tall o (height deep n)) fits.0 ∙ (λ i. max (left i) (right i) + 1)
 
 -- on a walk over versions it falls from a node to its child
-pub here_lower : (passes : ℕ → Bool) (m : VersionsMeaning) (path : List (Link × Turn)) (next : Option Link) (at : Link) (below above : Option ℕ) → IsDescent passes (present_nodes m) m.list path next below above → next ≡ Some at → length m.list < 2 ^ 21
+pub here_lower : (passes : ℕ → Bool) (m : VersionsMeaning) (path : List (Link × Turn)) (next : Option Link) (at : Link) (below above : Option ℕ) → IsDescent passes (present_nodes m) m.list path next below above → next ≡ Some at → length m.list ≤ 2 ^ 21
     → (turn : Turn) (child : Option Link) → child ≡ pool.child_at (length m.roots) turn (pool.row m.rows at) → height 42 (present_nodes m) child < height 42 (present_nodes m) next
 here_lower passes m path next at below above d is small turn child read =
     let n = present_nodes m in

@@ -22,7 +22,6 @@ fn is_found(found: Option<u32>, edge: u32) -> bool
 
 // The edge just below an edge of the list, or none where it is the lowest.
 pub(crate) fn next_below(versions: &Versions, ranks: &Ranks<'_>, edge: u32) -> Option<u32>
-    requires small { length versions.now.list < 2 ^ 21 }
     requires in_range { edge < length ranks.now.ends }
     requires listed { IsTrue (is_in edge versions.now.list) }
     requires searchable { IsSearchable ranks.now edge versions.now.list }
@@ -39,7 +38,6 @@ pub(crate) fn next_below(versions: &Versions, ranks: &Ranks<'_>, edge: u32) -> O
 
 // The edge just above an edge of the list, or none where it is the highest.
 pub(crate) fn next_above(versions: &Versions, ranks: &Ranks<'_>, edge: u32) -> Option<u32>
-    requires small { length versions.now.list < 2 ^ 21 }
     requires in_range { edge < length ranks.now.ends }
     requires listed { IsTrue (is_in edge versions.now.list) }
     requires searchable { IsSearchable ranks.now edge versions.now.list }

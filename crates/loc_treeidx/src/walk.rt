@@ -37,7 +37,6 @@ pub(crate) fn push(path: &mut Path, at: Link, turn: Turn)
 // The way down to the missing child where the target stands: to the right of each edge that stands before it, and to the left of the
 // others.
 pub(crate) fn walk_to(versions: &Versions, ranks: &Ranks<'_>, target: Target) -> Gap
-    requires small { length versions.now.list < 2 ^ 21 }
     requires in_range { All (λ e. e < length ranks.now.ends) versions.now.list }
     requires target_in_range { IsTarget ranks.now target }
     ensures { IsGap (is_passed ranks.now target) versions.now result }
@@ -67,7 +66,6 @@ pub(crate) fn walk_to(versions: &Versions, ranks: &Ranks<'_>, target: Target) ->
 
 // The edges beside the place where the target stands, by the same way down.
 pub(crate) fn walk_beside(versions: &Versions, ranks: &Ranks<'_>, target: Target) -> Beside
-    requires small { length versions.now.list < 2 ^ 21 }
     requires in_range { All (λ e. e < length ranks.now.ends) versions.now.list }
     requires target_in_range { IsTarget ranks.now target }
     ensures { IsBeside (is_passed ranks.now target) versions.now result }

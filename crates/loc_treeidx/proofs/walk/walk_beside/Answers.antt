@@ -27,10 +27,10 @@ pub newest_child-next-requires-else-passes : goal.newest_child-next-requires-els
 newest_child-next-requires-else-passes c = here_row _ c.args.versions.now _ _ c.in-Some.at _ _ c.down.invariant.1 c.in-Some.is
 
 pub down-smaller-then-passes : goal.down-smaller-then-passes
-down-smaller-then-passes c = here_lower _ c.args.versions.now _ _ c.in-Some.at _ _ c.down.invariant.1 c.in-Some.is c.requires.small Right _ c.newest_child-next.ensures
+down-smaller-then-passes c = here_lower _ c.args.versions.now _ _ c.in-Some.at _ _ c.down.invariant.1 c.in-Some.is c.sealed-sealed.ensures.facts.small Right _ c.newest_child-next.ensures
 
 pub down-smaller : goal.down-smaller
-down-smaller c = here_lower _ c.args.versions.now _ _ c.in-Some.at _ _ c.down.invariant.1 c.in-Some.is c.requires.small Left _ c.newest_child-next-else-passes.ensures
+down-smaller c = here_lower _ c.args.versions.now _ _ c.in-Some.at _ _ c.down.invariant.1 c.in-Some.is c.sealed-sealed.ensures.facts.small Left _ c.newest_child-next-else-passes.ensures
 
 pub down-preserved-then-passes : goal.down-preserved-then-passes
 down-preserved-then-passes c = (
