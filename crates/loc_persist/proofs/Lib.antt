@@ -1,5 +1,7 @@
 -- Lemmas, from the rows up to what versions mean. Versions stay by Keeping, a change is met by Exchanges, and Trees is for callers.
 pub mod Rows
+pub mod Bounds
+pub mod ByNumber
 pub mod Keeping
 pub mod Use
 pub mod Places

@@ -67,6 +67,7 @@ facts-of s spare i r p b h k =
       items = k.items;
       stamps = h.present.stamps;
       settled = k.settled;
+      small = k.small;
       counted = k.counted;
       least = omega (arith, c, m);
       most = omega (arith, a, d);

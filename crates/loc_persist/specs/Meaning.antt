@@ -68,6 +68,7 @@ pub record IsMeaning (m : VersionsMeaning) : Type 0 where
   pub stamps : (link : Link) (extra : Extra) → has m.rows link ≡ true → (row m.rows link).extra ≡ Some extra → extra.version ≤ length m.roots
   pub settled : m.is_changed ≡ false → (link : Link) (extra : Extra) → has m.rows link ≡ true → (row m.rows link).extra ≡ Some extra → extra.version < length m.roots
   -- how many items and nodes there are
+  pub small : length m.list ≤ 2 ^ 21
   pub counted : length m.list + m.removed ≡ m.inserted
   pub least : m.inserted ≤ length m.rows
   pub most : length m.rows ≤ 8 * m.inserted + 14 * m.removed

@@ -1,12 +1,12 @@
--- A node's row with its pointers by number: `IsNodeRow`.
-use Rattle.std.specs.Prelude.{◌≡◌, ℕ, Option, None, Some}
+-- A node's row with its pointers by number: `IsNodeRow`; and the bounds of its fields: `IsWithin`.
+use Rattle.std.specs.Prelude.{◌≡◌, ◌<◌, ◌≤◌, ℕ, Bool, false, Option, None, Some}
 use Rattle.loc_pool.specs.declared.Link.{Link}
 use Rattle.loc_pool.specs.declared.Extra.{Extra}
 use Rattle.loc_pool.specs.declared.Turn.{Turn}
 use Rattle.loc_pool.specs.declared.Turn.TheVariants.{Left, Right}
 use Rattle.loc_pool.specs.Maps.{Map, links}
 use Rattle.loc_pool.specs.Rows.{Row, IsPlace}
-use Rattle.loc_persist.specs.declared.node_row.NodeRow.{NodeRow}
+use Rattle.loc_spec_index.specs.declared.NodeRow.{NodeRow}
 
 -- the number of the node to which a pointer leads, or 0 where it leads to none
 abbrev pub IsNumber : Map Row → Option Link → ℕ → Type 0
@@ -41,3 +41,15 @@ pub record IsNodeRow (rows : Map Row) (row : Row) (numbered : NodeRow) : Type 0 
   pub side : numbered.side ≡ side_of row.extra
   pub stamp : numbered.stamp ≡ stamp_of row.extra
   pub extra : IsNumber rows (to_of row.extra) numbered.extra
+
+-- of a row where there are so many items, sealed versions and nodes, changed since the last seal or not: each field has its bound, and what is said of an extra is 0 where there is none
+pub record IsWithin (items versions nodes : ℕ) (is_changed : Bool) (numbered : NodeRow) : Type 0 where
+  pub item : numbered.item < items
+  pub left : numbered.left ≤ nodes
+  pub right : numbered.right ≤ nodes
+  pub side : numbered.side ≤ 2
+  pub stamp : numbered.stamp ≤ versions
+  pub extra : numbered.extra ≤ nodes
+  pub settled : is_changed ≡ false → 0 < numbered.side → numbered.stamp < versions
+  pub no_stamp : numbered.side ≡ 0 → numbered.stamp ≡ 0
+  pub no_extra : numbered.side ≡ 0 → numbered.extra ≡ 0

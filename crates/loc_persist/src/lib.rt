@@ -4,6 +4,7 @@
 #![tactic(auto)]
 
 mod copied;
+pub mod laws;
 mod node_row;
 mod present;
 mod store;
@@ -11,5 +12,5 @@ mod store;
 mod tests;
 mod versions;
 
-pub use node_row::NodeRow;
+pub use loc_spec_index::NodeRow;
 pub use versions::Versions;

@@ -7,19 +7,7 @@ ghost use Rattle.loc_persist.specs.Numbered.{IsNumber, turn_number, side_of, sta
 ghost use Rattle.loc_persist.specs.Present.{IsClosed};
 
 use loc_pool::{Extra, Link, Pool, Turn};
-
-/// A node's row. A pointer is the number of its node, in the order of making from 1 on, and 0 where it leads to none.
-#[derive(Clone, Copy, Debug, Drop, PartialEq, Eq)]
-pub struct NodeRow {
-    pub item: u32,
-    pub left: u32,
-    pub right: u32,
-    /// The side of the extra pointer: 1 is left, 2 is right, and 0 is no extra.
-    pub side: u8,
-    /// The version from which on the extra pointer counts.
-    pub stamp: u32,
-    pub extra: u32,
-}
+use loc_spec_index::NodeRow;
 
 /// The row of a node of the pool.
 pub(crate) fn numbered(pool: &Pool, at: Link) -> NodeRow

@@ -9,10 +9,11 @@ ghost use Rattle.loc_persist.specs.Present.{IsPresent};
 ghost use Rattle.loc_persist.specs.Stored.{nodes_of, IsStored};
 
 use crate::copied::Copied;
-use crate::node_row::{NodeRow, number_of, numbered};
+use crate::node_row::{number_of, numbered};
 use crate::present::{Present, Sealed};
 use loc_pool::{Colour, Link, Pool, Turn};
 use loc_rb::{Links, Path};
+use loc_spec_index::NodeRow;
 use std::alloc::{AllocError, Global};
 use std::marker::Model;
 

@@ -8,16 +8,15 @@ ghost use Rattle.loc_persist.specs.Reading.{IsThere};
 ghost use Rattle.loc_persist.specs.Meaning.{present_nodes};
 ghost use Rattle.loc_persist.specs.Small.{IsSmall};
 
-use crate::node_row::NodeRow;
 use crate::present::push;
 use crate::versions::Versions;
 use loc_pool::{Link, Turn};
 use loc_rb::Path;
+use loc_spec_index::NodeRow;
 use std::alloc::{AllocError, Global};
 
 /// The way down to an item in the present tree: its node, or the missing child where it belongs.
 fn search(versions: &Versions, item: u32) -> (Path, Option<Link>)
-    requires { length versions.now.list < 2 ^ 21 }
     ensures { Found (present_nodes versions.now) result.0.items result.1 versions.now.list }
 {
     // tells that the present tree is red-black

@@ -5,12 +5,12 @@ ghost use Rattle.loc_pool.specs.Maps.{has, links};
 ghost use Rattle.loc_pool.specs.Rows.{row, child_at, AreNames, IsPlace};
 ghost use Rattle.loc_rb.specs.Places.{LeadsToGap, LeadsTo};
 ghost use Rattle.loc_persist.specs.Meaning.{IsMeaning, Inserts, Removes, Seals, fresh, present_nodes};
-ghost use Rattle.loc_persist.specs.Numbered.{IsNumber, IsNodeRow};
+ghost use Rattle.loc_persist.specs.Numbered.{IsNumber, IsNodeRow, IsWithin};
 
-use crate::node_row::NodeRow;
 use crate::store::Store;
 use loc_pool::{Link, Turn};
 use loc_rb::{Links, Path, insert, remove};
+use loc_spec_index::NodeRow;
 use std::alloc::{AllocError, Global};
 use std::marker::Model;
 
@@ -91,15 +91,19 @@ impl Versions {
     /// The row of the node with this number.
     pub fn row(&self, number: u32) -> NodeRow
         requires { (1 ≤ number) × (number ≤ length self.now.rows) }
-        ensures { (link : Link) × IsPlace (links self.now.rows) link number × IsNodeRow self.now.rows (row self.now.rows link) result }
+        ensures row { (link : Link) × IsPlace (links self.now.rows) link number × IsNodeRow self.now.rows (row self.now.rows link) result }
+        ensures bounds { IsWithin self.now.past_greatest (length self.now.roots) (length self.now.rows) self.now.is_changed result }
     {
+        // tells what holds of the rows
+        let _sealed = self.store.sealed();
         self.store.row(number)
     }
 
     /// The number of the root of a sealed version, or 0 where it has none.
     pub fn root_number(&self, version: u32) -> u32
         requires { version < length self.now.roots }
-        ensures { (root : Option Link) × (slice_get self.now.roots version ≡ Some root) × IsNumber self.now.rows root result }
+        ensures number { (root : Option Link) × (slice_get self.now.roots version ≡ Some root) × IsNumber self.now.rows root result }
+        ensures bound { result ≤ length self.now.rows }
     {
         self.store.root_number(version)
     }

@@ -6,7 +6,6 @@ ghost use Rattle.loc_pool.specs.declared.Turn.TheVariants.{Left};
 ghost use Rattle.loc_pool.specs.Rows.{no_link};
 
 mod heap;
-mod loose;
 mod node;
 mod pool;
 #[cfg(test)]

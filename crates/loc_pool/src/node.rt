@@ -1,27 +1,59 @@
 //! A node as it lies in memory.
 ghost use Rattle.std.specs.Prelude.{◌≡◌};
-ghost use Rattle.loc_pool.specs.Rows.{new_row, plain_child, with_child, child_at, stamped};
-ghost use Rattle.loc_pool.specs.Cells.{row_of};
+ghost use Rattle.loc_pool.specs.declared.Link.{Link};
+ghost use Rattle.loc_pool.specs.Rows.{no_link, new_row, plain_child, with_child, child_at, stamped};
+ghost use Rattle.loc_pool.specs.Cells.{if_there, row_of, mark_of};
 
 use crate::{Colour, Extra, Link, Turn};
 
-/// A row, its extra in parts so that a node fits 64 bytes, and the place in the order of making.
+/// What there is of an extra: none, or one on a side that ends there or leads to a node.
 #[derive(Clone, Copy, Drop)]
-pub struct Node {
-    pub left: Option<Link>,
-    pub right: Option<Link>,
-    /// Where the extra leads.
-    pub to: Option<Link>,
-    pub item: u32,
-    pub number: u32,
-    /// The version of the extra.
-    pub version: u32,
-    /// The side of the extra, where there is one.
-    pub side: Option<Turn>,
-    pub colour: Colour,
+pub enum Mark {
+    Free,
+    LeftEnd,
+    LeftTo,
+    RightEnd,
+    RightTo,
 }
 
-const _: () = prove!(size_of::<Node>() <= 64);
+/// A row in 40 bytes, and the place in the order of making. An `Option` of a link would take 16 bytes, so whether a link is there is told
+/// apart from it.
+#[derive(Clone, Copy, Drop)]
+pub struct Node {
+    left: Link,
+    right: Link,
+    /// Where the extra leads.
+    to: Link,
+    item: u32,
+    number: u32,
+    /// The version of the extra.
+    version: u32,
+    has_left: bool,
+    has_right: bool,
+    mark: Mark,
+    colour: Colour,
+}
+
+const _: () = prove!(size_of::<Node>() <= 40);
+
+// A link where it is there.
+fn if_present(there: bool, at: Link) -> Option<Link>
+    ensures { result ≡ if_there there at }
+{
+    if there { Some(at) } else { None }
+}
+
+// What there is of an extra on a side.
+fn extra_mark(turn: Turn, leads: bool) -> Mark
+    ensures { result ≡ mark_of turn leads }
+{
+    match (turn, leads) {
+        (Turn::Left, false) => Mark::LeftEnd,
+        (Turn::Left, true) => Mark::LeftTo,
+        (Turn::Right, false) => Mark::RightEnd,
+        (Turn::Right, true) => Mark::RightTo,
+    }
+}
 
 impl Node {
     /// A node with no extra.
@@ -36,26 +68,55 @@ impl Node {
         ensures number { result.number ≡ number }
     {
         Node {
-            left,
-            right,
-            to: None,
+            left: left.unwrap_or_default(),
+            right: right.unwrap_or_default(),
+            to: Link::default(),
             item,
             number,
             version: 0,
-            side: None,
+            has_left: left.is_some(),
+            has_right: right.is_some(),
+            mark: Mark::Free,
             colour,
         }
+    }
+
+    /// The item.
+    pub fn item(&self) -> u32
+        ensures { result ≡ (row_of self.now).item }
+    {
+        self.item
+    }
+
+    /// The place in the order of making.
+    pub fn number(&self) -> u32
+        ensures { result ≡ self.now.number }
+    {
+        self.number
+    }
+
+    /// The colour.
+    pub fn colour(&self) -> Colour
+        ensures { result ≡ (row_of self.now).colour }
+    {
+        self.colour
     }
 
     /// The extra of its parts.
     pub fn extra(&self) -> Option<Extra>
         ensures { result ≡ (row_of self.now).extra }
     {
-        let turn = self.side?;
+        let (turn, to) = match self.mark {
+            Mark::Free => return None,
+            Mark::LeftEnd => (Turn::Left, None),
+            Mark::LeftTo => (Turn::Left, Some(self.to)),
+            Mark::RightEnd => (Turn::Right, None),
+            Mark::RightTo => (Turn::Right, Some(self.to)),
+        };
         Some(Extra {
             turn,
             version: self.version,
-            to: self.to,
+            to,
         })
     }
 
@@ -64,8 +125,8 @@ impl Node {
         ensures { result ≡ plain_child turn (row_of self.now) }
     {
         match turn {
-            Turn::Left => self.left,
-            Turn::Right => self.right,
+            Turn::Left => if_present(self.has_left, self.left),
+            Turn::Right => if_present(self.has_right, self.right),
         }
     }
 
@@ -73,9 +134,12 @@ impl Node {
     pub fn child(&self, turn: Turn, version: u32) -> Option<Link>
         ensures { result ≡ child_at version turn (row_of self.now) }
     {
-        match (self.side, turn) {
-            (Some(Turn::Left), Turn::Left) if self.version <= version => self.to,
-            (Some(Turn::Right), Turn::Right) if self.version <= version => self.to,
+        if version < self.version {
+            return self.plain(turn);
+        }
+        match (self.mark, turn) {
+            (Mark::LeftEnd, Turn::Left) | (Mark::RightEnd, Turn::Right) => None,
+            (Mark::LeftTo, Turn::Left) | (Mark::RightTo, Turn::Right) => Some(self.to),
             _ => self.plain(turn),
         }
     }
@@ -84,9 +148,19 @@ impl Node {
     pub fn with_plain(self, turn: Turn, to: Option<Link>) -> Node
         ensures { row_of result ≡ with_child turn to (row_of self) }
     {
+        let link = to.unwrap_or_default();
+        let there = to.is_some();
         match turn {
-            Turn::Left => Node { left: to, ..self },
-            Turn::Right => Node { right: to, ..self },
+            Turn::Left => Node {
+                left: link,
+                has_left: there,
+                ..self
+            },
+            Turn::Right => Node {
+                right: link,
+                has_right: there,
+                ..self
+            },
         }
     }
 
@@ -95,9 +169,9 @@ impl Node {
         ensures { row_of result ≡ stamped version turn to (row_of self) }
     {
         Node {
-            side: Some(turn),
+            mark: extra_mark(turn, to.is_some()),
             version,
-            to,
+            to: to.unwrap_or_default(),
             ..self
         }
     }
@@ -107,5 +181,13 @@ impl Node {
         ensures { row_of result ≡ record (row_of self) { colour = colour } }
     {
         Node { colour, ..self }
+    }
+
+    /// The node at another place in the order of making.
+    pub fn with_number(self, number: u32) -> Node
+        ensures row { row_of result ≡ row_of self }
+        ensures number { result.number ≡ number }
+    {
+        Node { number, ..self }
     }
 }

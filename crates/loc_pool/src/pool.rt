@@ -5,7 +5,6 @@ ghost use Rattle.loc_pool.specs.Rows.{row, new_row, plain_child, with_child, chi
 ghost use Rattle.loc_pool.specs.Cells.{row_of};
 
 use crate::heap::Heap;
-use crate::loose::Loose;
 use crate::node::Node;
 use crate::{Colour, Extra, Link, Turn};
 use std::alloc::{AllocError, Global};
@@ -78,7 +77,7 @@ impl Pool {
         let number = self.order.len() as u32 + 1;
         let mut block = self.blocks.pop().unwrap();
         *block = Node::new(item, left, right, colour, number);
-        let at = self.heap.own(Loose::of(block));
+        let at = self.heap.take(block);
         self.order.push(at).unwrap();
         self.ready -= 1;
         at
@@ -89,7 +88,7 @@ impl Pool {
         requires { IsTrue (has self.now.rows at) }
         ensures { result ≡ (row self.now.rows at).item }
     {
-        self.node(at).item
+        self.node(at).item()
     }
 
     /// The colour of a node.
@@ -97,7 +96,7 @@ impl Pool {
         requires { IsTrue (has self.now.rows at) }
         ensures { result ≡ (row self.now.rows at).colour }
     {
-        self.node(at).colour
+        self.node(at).colour()
     }
 
     /// The extra of a node.
@@ -157,7 +156,7 @@ impl Pool {
         requires { IsTrue (has self.now.rows at) }
         ensures { IsPlace (links self.now.rows) at result }
     {
-        self.node(at).number
+        self.node(at).number()
     }
 
     /// The number of nodes.
@@ -189,8 +188,8 @@ impl Pool {
         requires { IsTrue (has self.old.rows at) }
         ensures { self.new ≡ record self.old { rows = put self.old.rows at (row_of node) } }
     {
-        let number = self.heap.get(at).number;
-        self.heap.set(at, Node { number, ..node });
+        let number = self.heap.get(at).number();
+        self.heap.set(at, node.with_number(number));
     }
 }
 

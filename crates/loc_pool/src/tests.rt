@@ -2,7 +2,7 @@
 ghost use Rattle.std.specs.Prelude.{IsTrue, IfOk};
 ghost use Rattle.loc_pool.specs.Maps.{has};
 
-use crate::loose::Loose;
+use crate::heap::Loose;
 use crate::node::Node;
 use crate::{Colour, Extra, Link, Pool, Turn};
 use std::alloc::{AllocError, Allocator, Global};
@@ -60,11 +60,14 @@ fn answers(rt: HostRuntime) -> Result<(), AllocError> {
 fn drops_many(rt: HostRuntime) -> Result<(), AllocError> {
     let mut pool = Pool::new(rt.alloc());
     let mut last = None;
-    'nodes: for item in 0..10_000u32 {
-        pool.reserve()?;
+    // one reservation is room for 640 nodes
+    'nodes: for item in 0..10_240u32 {
+        if item % 640 == 0 {
+            pool.reserve()?;
+        }
         last = Some(pool.make(item, last, None, Colour::Red));
     }
-    assert_eq!(rt; pool.len(), 10_000);
+    assert_eq!(rt; pool.len(), 10_240);
     Ok(())
 }
 

@@ -34,8 +34,8 @@ walk-step n es ps at turn o list w h e =
       whole = ap items same_tree ∙ w.whole;
     }
 
--- in a tree of fewer than 2 ^ 21 items the path stays short, and there is room for one entry more
-pub walk-short : (n : Nodes) (es : List (Link × Turn)) (at : Link) (list : List ℕ) → Walk n es (Some at) list → length list < 2 ^ 21 → length es < 42
+-- in a tree of at most 2 ^ 21 items the path stays short, and there is room for one entry more
+pub walk-short : (n : Nodes) (es : List (Link × Turn)) (at : Link) (list : List ℕ) → Walk n es (Some at) list → length list ≤ 2 ^ 21 → length es < 42
 walk-short n es at list w h =
     let s = sided Left at w.tree w.here in
     let a = at-most-42 (plug w.frames w.tree) w.balanced (let e = ap length w.whole in omega (arith, e, h)) in let d = depth-plug w.frames w.tree in

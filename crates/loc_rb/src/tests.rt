@@ -15,7 +15,7 @@ use std::alloc::{AllocError, Global};
 
 /// The way down to an item: its node, or the missing child where it belongs.
 fn search<K: Links>(links: &K, item: u32) -> (Path, Option<Link>)
-    requires { (list : List ℕ) × Holds (K.nodes links.now) list × (length list < 2 ^ 21) }
+    requires { (list : List ℕ) × Holds (K.nodes links.now) list × (length list ≤ 2 ^ 21) }
     ensures { (list : List ℕ) → Holds (K.nodes links.now) list → Found (K.nodes links.now) result.0.items result.1 list }
 {
     let mut path = Path::new();

@@ -1,5 +1,5 @@
 -- The walk down the present tree to the place of a target, step by step.
-use Rattle.std.proofs.Common.{◌≡◌, ℕ, ◌+◌, ◌-◌, ◌^◌, ◌<◌, Bool, true, false, List, [], ◌∷◌, ◌++◌, length, get_or, refl, sym, ap, ◌∙◌, subst, arith, Option, Some, None, append_assoc, slice_get}
+use Rattle.std.proofs.Common.{◌≡◌, ℕ, ◌+◌, ◌-◌, ◌^◌, ◌<◌, ◌≤◌, Bool, true, false, List, [], ◌∷◌, ◌++◌, length, get_or, refl, sym, ap, ◌∙◌, subst, arith, Option, Some, None, append_assoc, slice_get}
 use Rattle.std.specs.Prelude.{IfSome}
 use Rattle.std.specs.List.{All}
 use Rattle.std.proofs.lemmas.List.{length-append, get_or_append_left, get_or-append-add}
@@ -133,8 +133,8 @@ module _ (passes : ℕ → Bool) (m : VersionsMeaning) (path : List (Link × Tur
   pub here_row : has m.rows at ≡ true
   here_row = present-row m at (walk-row (present_nodes m) path at m.list here.walk)
 
-  -- in a list of fewer than 2 ^ 21 items the path is short
-  pub here_short : length m.list < 2 ^ 21 → length path < 42
+  -- in a list of at most 2 ^ 21 items the path is short
+  pub here_short : length m.list ≤ 2 ^ 21 → length path < 42
   here_short small = walk-short (present_nodes m) path at m.list here.walk small
 
   module _ (item : ℕ) (read : item ≡ (pool.row m.rows at).item) where

@@ -2,6 +2,7 @@ pub mod Beside
 pub mod Changes
 pub mod Descents
 pub mod Halving
+pub mod Heights
 pub mod Searching
 pub mod Seeking
 pub mod Standing

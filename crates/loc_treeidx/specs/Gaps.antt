@@ -1,4 +1,4 @@
--- Where a walk down the present tree has come, and where it ends: `IsDescent`, `IsGap`, `IsPlaceFor` and `IsNode`.
+-- Where a walk down the present tree has come, and where it ends: `IsDescent`, `IsGap`, `IsBeside`, `IsPlaceFor` and `IsNode`.
 use Rattle.std.specs.Prelude.{◌≡◌, ℕ, ◌-◌, ◌<◌, Bool, true, false, List, ◌∷◌, ◌++◌, length, Option, None, IfSome, slice_get}
 use Rattle.loc_pool.specs.declared.Link.{Link}
 use Rattle.loc_pool.specs.declared.Turn.{Turn}
@@ -10,6 +10,7 @@ use Rattle.loc_spec_plane.specs.Tables.{Table}
 use Rattle.loc_status.specs.Lists.{GoesAbove, GoesBelow}
 use Rattle.loc_status.specs.Targets.{IsSearchEnd}
 use Rattle.loc_treeidx.specs.declared.walk.Gap.{Gap}
+use Rattle.loc_treeidx.specs.declared.walk.Beside.{Beside}
 
 -- the last member of a list, or none
 pub record IsLast (list : List ℕ) (last : Option ℕ) : Type 0 where
@@ -37,6 +38,10 @@ pub record IsEnd (passes : ℕ → Bool) (nodes : Nodes) (content : List ℕ) (p
 -- the same in the present tree
 abbrev pub IsGap : (ℕ → Bool) → VersionsMeaning → Gap → Type 0
 IsGap passes m gap = IsEnd passes (present_nodes m) m.list gap.path.items gap.below gap.above
+
+-- these items stand beside the missing child where some path ends
+abbrev pub IsBeside : (ℕ → Bool) → VersionsMeaning → Beside → Type 0
+IsBeside passes m found = (path : List (Link × Turn)) × IsEnd passes (present_nodes m) m.list path found.below found.above
 
 -- the path leads to a missing child of the present tree, between the edges that edge e is above and those that it is below
 pub record IsPlaceFor (t : Table) (e : ℕ) (m : VersionsMeaning) (path : List (Link × Turn)) : Type 0 where

@@ -10,11 +10,12 @@ ghost use Rattle.loc_treeidx.specs.Steps.{most_steps, search_bound};
 use crate::TreeIndex;
 use loc_edges::EdgeTable;
 
-/// An index that swept a table without conflicts stands for it, and has at most 24 nodes for each edge.
+/// An index that swept a table without conflicts stands for it, and has at least one node and at most 24 for each edge.
 pub fn swept_stands(table: &EdgeTable, index: &TreeIndex)
     requires apart { NoConflict table.now }
     requires swept { IsSwept table.now (meaning_of index.now) }
     ensures stands { AreVersionsOf table.now index.now }
+    ensures many { length table.now.ends ≤ length index.now.rows }
     ensures few { length index.now.rows ≤ 24 * length table.now.ends }
 {
     table.law();

@@ -15,7 +15,6 @@ use loc_rb::Path;
 
 // The way down to the node of an edge, in a chain at the corner before its upper end.
 pub(crate) fn node_of(versions: &Versions, ranks: &Ranks<'_>, edge: u32) -> (Path, Link)
-    requires small { length versions.now.list < 2 ^ 21 }
     requires in_range { edge < length ranks.now.ends }
     requires chain { IsTrue (is_chain_at ranks.now (hi_of ranks.now edge - 1) versions.now.list) }
     requires listed { IsTrue (is_in edge versions.now.list) }

@@ -20,7 +20,6 @@ pub(crate) fn place_for(
     ranks: &Ranks<'_>,
     edge: u32,
 ) -> Result<Path, InsertFault>
-    requires small { length versions.now.list < 2 ^ 21 }
     requires in_range { edge < length ranks.now.ends }
     requires chain { IsTrue (is_chain_at ranks.now (lo_of ranks.now edge) versions.now.list) }
     requires is_new { IsTrue (not (is_in edge versions.now.list)) }

@@ -16,7 +16,7 @@ use crate::node::node_of;
 use crate::places::place_for;
 use crate::targets::Target;
 use crate::version::search_behind;
-use crate::walk::walk_to;
+use crate::walk::walk_beside;
 use loc_edges::{Ranks, Views};
 use loc_geom::{Point, Steps};
 use loc_persist::Versions;
@@ -102,8 +102,7 @@ impl Status for TreeIndex {
     }
 
     fn floor(&self, ranks: &Ranks<'_>, corner: u32) -> Option<u32> {
-        let gap = walk_to(&self.versions, ranks, Target::Corner(corner));
-        gap.below
+        walk_beside(&self.versions, ranks, Target::Corner(corner)).below
     }
 
     fn seal(&mut self) -> Result<(), AllocError> {

@@ -29,11 +29,11 @@ newest_child-next-requires c =
 
 pub push-requires : goal.push-requires
 push-requires c =
-    let m = c.args.versions.now in let n = present_nodes m in let s = walk-short n c.down.path.items c.in-Some.at m.list (subst (λ (o : Option Link). Walk n c.down.path.items o m.list) c.in-Some.is c.down.invariant) c.requires in omega (arith, s)
+    let m = c.args.versions.now in let n = present_nodes m in let s = walk-short n c.down.path.items c.in-Some.at m.list (subst (λ (o : Option Link). Walk n c.down.path.items o m.list) c.in-Some.is c.down.invariant) c.sealed-sealed.ensures.facts.small in omega (arith, s)
 
 pub down-smaller : goal.down-smaller
 down-smaller c =
-    let m = c.args.versions.now in let n = present_nodes m in let s = walk-short n c.down.path.items c.in-Some.at m.list (subst (λ (o : Option Link). Walk n c.down.path.items o m.list) c.in-Some.is c.down.invariant) c.requires in
+    let m = c.args.versions.now in let n = present_nodes m in let s = walk-short n c.down.path.items c.in-Some.at m.list (subst (λ (o : Option Link). Walk n c.down.path.items o m.list) c.in-Some.is c.down.invariant) c.sealed-sealed.ensures.facts.small in
     let e = ap length c.push.ensures in let l = length-append c.down.path.items ((c.in-Some.at, c.side-turn.result) ∷ []) in omega (arith, s, e, l)
 
 pub down-preserved : goal.down-preserved

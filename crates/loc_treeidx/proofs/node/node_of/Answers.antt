@@ -35,10 +35,10 @@ pub newest_child-next-requires : goal.newest_child-next-requires
 newest_child-next-requires c = let w = c.down.invariant in here_row _ c.args.versions.now _ _ c.in-Some.at w.below w.above w.descent c.in-Some.is
 
 pub push-requires : goal.push-requires
-push-requires c = let w = c.down.invariant in let short = here_short _ c.args.versions.now _ _ c.in-Some.at w.below w.above w.descent c.in-Some.is c.requires.small in omega (arith, short)
+push-requires c = let w = c.down.invariant in let short = here_short _ c.args.versions.now _ _ c.in-Some.at w.below w.above w.descent c.in-Some.is c.sealed-sealed.ensures.facts.small in omega (arith, short)
 
 pub down-smaller : goal.down-smaller
-down-smaller c = let w = c.down.invariant in nearer c.down.path.items _ (c.in-Some.at, c.turn_to-turn.result) c.push.ensures (here_short _ c.args.versions.now _ _ c.in-Some.at w.below w.above w.descent c.in-Some.is c.requires.small)
+down-smaller c = let w = c.down.invariant in nearer c.down.path.items _ (c.in-Some.at, c.turn_to-turn.result) c.push.ensures (here_short _ c.args.versions.now _ _ c.in-Some.at w.below w.above w.descent c.in-Some.is c.sealed-sealed.ensures.facts.small)
 
 pub down-preserved : goal.down-preserved
 down-preserved c =

@@ -1,4 +1,5 @@
-use Rattle.std.proofs.Common.{◌≡◌, true, length, sym, ◌∙◌, subst, Some, None}
+use Rattle.std.proofs.Common.{◌≡◌, true, not, true≢false, length, sym, ap, ◌∙◌, subst, Some, None}
+use Rattle.loc_spec_plane.specs.Lists.{is_in}
 use Rattle.std.proofs.lemmas.Option.{slice_get_within, get_or_from_slice_get}
 use Rattle.loc_persist.specs.Meaning.{present_nodes}
 use Rattle.loc_spec_plane.specs.Places.{alive_at}
@@ -13,6 +14,15 @@ use Rattle.loc_treeidx.proofs.places.place_for.Goals as goal
 
 pub walk_to-gap-requires-clause-in_range : goal.walk_to-gap-requires-clause-in_range
 walk_to-gap-requires-clause-in_range c = let t = c.args.ranks.now in chain_in_range t (corner t (lo_of t c.args.edge)) c.args.versions.now.list c.requires.chain
+
+pub placing-requires-clause-different : goal.placing-requires-clause-different
+placing-requires-clause-different c same =
+    let m = c.args.versions.now in
+    let gap = c.walk_to-gap.result in
+    let g = c.walk_to-gap.ensures in
+    let at = sym (above_there (begins_before c.args.ranks.now c.args.edge) (present_nodes m) m.list gap.path.items gap.below gap.above g) ∙ c.in-Some.is in
+    let member = subst (λ k. is_in k m.list ≡ true) same (is_in-get m.list (length g.front) c.in-Some.next at) in
+    true≢false (sym c.requires.is_new ∙ ap not member)
 
 pub placing-requires-clause-first_alive : goal.placing-requires-clause-first_alive
 placing-requires-clause-first_alive c =

@@ -28,16 +28,16 @@ pub newest_child-next-requires-else-passes : goal.newest_child-next-requires-els
 newest_child-next-requires-else-passes c = here_row _ c.args.versions.now _ _ c.in-Some.at _ _ c.down.invariant c.in-Some.is
 
 pub push-requires : goal.push-requires
-push-requires c = let short = here_short _ c.args.versions.now _ _ c.in-Some.at _ _ c.down.invariant c.in-Some.is c.requires.small in omega (arith, short)
+push-requires c = let short = here_short _ c.args.versions.now _ _ c.in-Some.at _ _ c.down.invariant c.in-Some.is c.sealed-sealed.ensures.facts.small in omega (arith, short)
 
 pub push-requires-else-passes : goal.push-requires-else-passes
-push-requires-else-passes c = let short = here_short _ c.args.versions.now _ _ c.in-Some.at _ _ c.down.invariant c.in-Some.is c.requires.small in omega (arith, short)
+push-requires-else-passes c = let short = here_short _ c.args.versions.now _ _ c.in-Some.at _ _ c.down.invariant c.in-Some.is c.sealed-sealed.ensures.facts.small in omega (arith, short)
 
 pub down-smaller-then-passes : goal.down-smaller-then-passes
-down-smaller-then-passes c = nearer c.down.gap.path.items _ (c.in-Some.at, Right) c.push.ensures (here_short _ c.args.versions.now _ _ c.in-Some.at _ _ c.down.invariant c.in-Some.is c.requires.small)
+down-smaller-then-passes c = nearer c.down.gap.path.items _ (c.in-Some.at, Right) c.push.ensures (here_short _ c.args.versions.now _ _ c.in-Some.at _ _ c.down.invariant c.in-Some.is c.sealed-sealed.ensures.facts.small)
 
 pub down-smaller : goal.down-smaller
-down-smaller c = nearer c.down.gap.path.items _ (c.in-Some.at, Left) c.push-else-passes.ensures (here_short _ c.args.versions.now _ _ c.in-Some.at _ _ c.down.invariant c.in-Some.is c.requires.small)
+down-smaller c = nearer c.down.gap.path.items _ (c.in-Some.at, Left) c.push-else-passes.ensures (here_short _ c.args.versions.now _ _ c.in-Some.at _ _ c.down.invariant c.in-Some.is c.sealed-sealed.ensures.facts.small)
 
 pub down-preserved-then-passes : goal.down-preserved-then-passes
 down-preserved-then-passes c =

@@ -10,8 +10,8 @@ use Rattle.loc_status.proofs.Standing.{chain_in_range, none_above_later}
 use Rattle.loc_treeidx.proofs.Descents.{below_there, none_below}
 use Rattle.loc_treeidx.proofs.tree_index.TreeIndexStatus.floor.Goals as goal
 
-pub walk_to-gap-requires-clause-in_range : goal.walk_to-gap-requires-clause-in_range
-walk_to-gap-requires-clause-in_range c =
+pub walk_beside-requires-clause-in_range : goal.walk_beside-requires-clause-in_range
+walk_beside-requires-clause-in_range c =
     let t = c.args.ranks.now in
     subst (λ es. All (λ e. e < length t.ends) es) (sym (ap (λ (m : VersionsMeaning). m.list) c.self.view_is)) (chain_in_range t (corner t c.args.corner) c.args.self.now.list c.requires.chain)
 
@@ -19,10 +19,10 @@ pub returns : goal.returns
 returns c =
     let t = c.args.ranks.now in
     let m = c.self.inside.versions in
-    let gap = c.walk_to-gap.result in
-    let g = c.walk_to-gap.ensures in
+    let gap = c.walk_beside.result in
+    let g = c.walk_beside.ensures.1 in
     let test : ℕ → Bool = λ e. is_above (edge t e) (corner t c.args.corner) in
     let list_is = ap (λ (m : VersionsMeaning). m.list) c.self.view_is in
     let chain = subst (λ es. is_chain_at t c.args.corner es ≡ true) (sym list_is) c.requires.chain in
     subst (λ es. gap.below ≡ last_that test es) list_is
-    (last_found test m.list (length g.front) gap.below g.end (none_above_later t c.args.corner m.list chain (length g.front) g.end) (none_below test (present_nodes m) m.list gap.path.items gap.below gap.above g) (below_there test (present_nodes m) m.list gap.path.items gap.below gap.above g))
+    (last_found test m.list (length g.front) gap.below g.end (none_above_later t c.args.corner m.list chain (length g.front) g.end) (none_below test (present_nodes m) m.list c.walk_beside.ensures.0 gap.below gap.above g) (below_there test (present_nodes m) m.list c.walk_beside.ensures.0 gap.below gap.above g))
