@@ -1,5 +1,5 @@
 -- The table of a layer of closed rings: every corner is an end, and marks are even at every corner.
-use Rattle.std.proofs.Common.{◌≡◌, ℕ, zero, suc, ◌+◌, ◌-◌, ◌<◌, ◌≤◌, Bool, true, false, ◌||◌, ◌&&◌, Some, List, [], ◌∷◌, length, get_or, map, refl, sym, ◌∙◌, ap, subst, inl, inr, ◌⊎◌, arith}
+use Rattle.std.proofs.Common.{◌≡◌, ℕ, zero, suc, ◌+◌, ◌-◌, ◌<◌, ◌≤◌, Bool, true, false, ◌||◌, ◌&&◌, Some, List, [], ◌∷◌, length, get_or, refl, sym, ◌∙◌, ap, subst, inl, inr, ◌⊎◌, arith}
 use Rattle.std.specs.Prelude.{◌==◌, All, slice_get}
 use Rattle.std.specs.List.{list_any, list_all, filter_map, enumerate_from, cons_option, range_with_len}
 use Rattle.std.proofs.lemmas.Bool.{cases_Bool, cases_eq, cases_lt, cond-true, cond-false, false_from_ne_true, both_ways, not_from_false, and_parts, eq-eqb, ne_eqb}
@@ -9,20 +9,18 @@ use Rattle.loc_spec_plane.specs.declared.Mark.{Mark}
 use Rattle.loc_spec_plane.specs.Points.{Point, Edge, before, same_point, same_edge, edge_before, is_end}
 use Rattle.loc_spec_plane.specs.Lists.{numbers, exactly_one, odd_many, is_rising}
 use Rattle.loc_spec_plane.specs.Rings.{Ring, Rings, ring_segments, segments, segment_between}
-use Rattle.loc_spec_plane.specs.Tables.{Table, table_of, table_by, corner_numbers, corner, ends_at, has_odd, edge_marks, mark_of, whole, pieces_of, layer_segments, layer_corners, AllEnds, AllEven}
+use Rattle.loc_spec_plane.specs.Tables.{table_of, table_by, corner, ends_at, has_odd, edge_marks, mark_of, whole, pieces_of, layer_segments, layer_corners, AllEnds, AllEven}
 use Rattle.loc_laws_order.proofs.Sides.{same_point-true, same_point_refl}
 use Rattle.loc_laws_order.proofs.Tests.{same_edge_decides}
 use Rattle.loc_laws_order.proofs.TableOrder.{is_end_is, origin_point}
 use Rattle.loc_laws_rays.proofs.Parity.{exactly_one_chain, exactly_one_same, exactly_one-false, odd_many-exactly_one, odd_many-same, odd_many-append, never}
 use Rattle.loc_rings.specs.Values.{IsRing}
-use Rattle.loc_edges.specs.Ending.{ending_among}
-use Rattle.loc_edges.specs.Kept.{IsSmallLayer, IsKept}
 use Rattle.loc_edges.specs.Layers.{ends_of}
 use Rattle.loc_edges.proofs.Layers.{pieces_of-whole, pieces_rise, corners_from_edges, any-ends_of}
 use Rattle.loc_edges.proofs.MarkRows.{is_hit, odd_none}
 use Rattle.loc_edges.proofs.Ordered.{edge_is_piece, as_many_ends, table_of-is_table}
 use Rattle.loc_edges.proofs.Orders.{points_by_before, edges_by_before}
-use Rattle.loc_edges.proofs.Counts.{few_corners, few_edges, or_true}
+use Rattle.loc_edges.proofs.Counts.{or_true}
 use Rattle.loc_edges.proofs.SortedSet.{any-sorted_set, irrefl}
 
 -- ---- rings
@@ -230,20 +228,3 @@ module _ (layer : List Rings) where
       rings_closed : (f < length layer) ⊎ (length layer ≤ f) → All IsRing (get_or layer f [])
       rings_closed (inl fits) = closed f [] fits
       rings_closed (inr past) = subst (All IsRing) (sym (get_or_past layer f [] past)) (λ k d lt. absurd (omega arith))
-
-  -- and so it is kept
-  table_of-is_kept : IsSmallLayer layer → All (All IsRing) layer → IsKept (pieces_of whole layer) (map (ending_among (table_of layer).ends (length (table_of layer).ends)) (corner_numbers (table_of layer))) (table_of layer)
-  unfolding table_by
-  table_of-is_kept small closed = record {
-    few_corners = omega (arith, few_corners layer, small.few_points);
-    few_edges = omega (arith, few_edges layer, as_many_ends layer, small.few_points);
-    as_many = sym (as_many_ends layer);
-    is_table = table_of-is_table layer;
-    all_ends = table_of-all_ends;
-    all_even = table_of-all_even closed;
-    edges_are = edge_is_piece layer;
-    ending_are = refl;
-  }
-
-  pub kept_where_same : IsSmallLayer layer → All (All IsRing) layer → (es : List Edge) (rows : List (List ℕ)) (t : Table) → es ≡ pieces_of whole layer → rows ≡ map (ending_among t.ends (length t.ends)) (corner_numbers t) → t ≡ table_of layer → IsKept es rows t
-  kept_where_same small closed es rows t es_are rows_are t_is = subst (λ ps. IsKept ps rows t) (sym es_are) (subst (λ rs. IsKept (pieces_of whole layer) rs t) (sym rows_are) (subst (λ u. IsKept (pieces_of whole layer) (map (ending_among u.ends (length u.ends)) (corner_numbers u)) u) (sym t_is) (table_of-is_kept small closed)))

@@ -1,11 +1,13 @@
 pub mod EndingRows
 pub mod Even
+pub mod Firsts
 pub mod Hits
 pub mod Layers
 pub mod EdgeRows
 pub mod MarkRows
 pub mod Ordered
 pub mod Orders
+pub mod PartRows
 pub mod Places
 pub mod Counts
 pub mod SortedSet

@@ -6,7 +6,8 @@ use Rattle.loc_spec_plane.specs.Points.{Point}
 use Rattle.loc_spec_plane.specs.Tables.{Table, IsTable, NoConflict, edge, lo_of, hi_of}
 use Rattle.loc_spec_plane.specs.Places.{alive, alive_at, is_edge, IsListAt}
 use Rattle.loc_sweep.specs.Line.{reaches}
-use Rattle.loc_sweep.specs.Swept.{AreVersions, IsSwept}
+use Rattle.loc_status.specs.Versions.{AreVersions}
+use Rattle.loc_sweep.specs.Swept.{IsSwept}
 use Rattle.loc_sweep.proofs.Whole.{reaches_next}
 use Rattle.loc_scan.specs.Standing.{IsBehind}
 use Rattle.loc_scan.specs.Versions.{Versions, meaning_of, AreVersionsOf}

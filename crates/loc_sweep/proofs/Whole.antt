@@ -17,7 +17,9 @@ use Rattle.loc_status.specs.Lists.{IsNextBelow}
 use Rattle.loc_status.specs.Meaning.{StatusMeaning, IsFresh, Seals}
 use Rattle.loc_sweep.specs.Course.{IsBefore, IsNoted, HasSealed}
 use Rattle.loc_sweep.specs.Line.{IsChainOf, IsBegun, reaches}
-use Rattle.loc_sweep.specs.Swept.{AreVersions, IsSwept, AreFloors}
+use Rattle.loc_edges.specs.Floors.{AreFloors}
+use Rattle.loc_status.specs.Versions.{AreVersions}
+use Rattle.loc_sweep.specs.Swept.{IsSwept}
 use Rattle.loc_sweep.proofs.JustBelow.{just_below}
 
 -- ---- the line from one corner to the next
