@@ -1,9 +1,7 @@
 -- The walk over the words behind the places agrees with the settings that they are.
 use Rattle.std.proofs.Common.{◌≡◌, ◌==◌, ◌&&◌, ℕ, true, false, List, [], ◌∷◌, Option, Some, None, option_map, refl, sym, ◌∙◌, ap, ap₂, append-nil, subst, inl, inr}
-use Rattle.std.specs.Prelude.{◌⊎◌, find}
+use Rattle.std.specs.Prelude.{◌⊎◌}
 use Rattle.std.specs.List.{before_first, after_first, list_any, list_all}
-use Rattle.std.specs.Option.{option_map_or}
-use Rattle.std.specs.Str.{bytes_eq}
 use Rattle.std.proofs.lemmas.Bool.{and_parts, cases_Bool, ne_eqb, or_cases}
 use Rattle.std.proofs.lemmas.Bool.Decides.{Decides-eqb}
 use Rattle.clap.specs.Walk.{Row, Rule, arg_by_long, settled_rows, walked}
@@ -13,30 +11,21 @@ use Rattle.clap.specs.Simple.{Shape}
 use Rattle.clap.proofs.OnLiterals.{clap_on_literals}
 use Rattle.loc_words.specs.Rows.{Text, OptionRow, Entry, are_different, is_equals, is_of, is_value, named, option_in, settings, settings_of, takes}
 use Rattle.loc_words.specs.Tested.{is_long, has_value, is_tested}
-use Rattle.loc_words.specs.declared.row.OptionKind.{OptionKind}
-use Rattle.loc_words.specs.declared.row.OptionKind.TheVariants.{Required, Optional, Flag}
 use Rattle.loc_words.proofs.Agrees.{Agrees, agrees_as, behind, faulty, one_use, or_else-nil, refused, repeated, walk_end, walk_on, walk_total}
 use Rattle.loc_words.proofs.Cuts.{after-dashes, before-cons, before-dashes, before-whole}
 use Rattle.loc_words.proofs.Distinct.{ids}
 use Rattle.loc_words.proofs.Walking.{IsFlag, IsOption, IsPastPlaces, held, state, wanting, name_of, value_of, used_once, stray, unknown, joined, joined_fault, apart, apart_fault, valued, valued_fault, empty_fault, once_fault, settles, long_fault, unknown_fault, flagged, flagged_fault, flag_valued, flag_fault, no_fault}
 
--- what the rules have under a name, by the option of that name
-abbrev pub HasKind : List Rule → Text → OptionKind → Type 0
-HasKind rules name Flag = IsFlag rules name
-HasKind rules name kind = IsOption rules name
-
-abbrev pub Known : List Rule → Text → Option OptionRow → Type 0
-Known rules name None = arg_by_long rules name ≡ None
-Known rules name (Some option) = HasKind rules name option.kind
-
--- the option of this name
-abbrev pub by_name : List OptionRow → Text → Option OptionRow
-by_name options name = find (λ option. bytes_eq option.name name) options
+-- what stands under a name of two hyphens, among the options and the rules: nothing, an option that takes a value, or a flag
+pub data Stands (rules : List Rule) (options : List OptionRow) (name : Text) : Type 0 where
+  nothing : ((value : Option Text) → is_of options (45 ∷ 45 ∷ name, value) ≡ false) → arg_by_long rules name ≡ None → Stands rules options name
+  option : ((value : Text) → is_of options (45 ∷ 45 ∷ name, Some value) ≡ is_value value) → is_of options (45 ∷ 45 ∷ name, None) ≡ false → IsOption rules name → Stands rules options name
+  flag : ((value : Text) → is_of options (45 ∷ 45 ∷ name, Some value) ≡ false) → is_of options (45 ∷ 45 ∷ name, None) ≡ true → IsFlag rules name → Stands rules options name
 
 -- a command that takes no more places, with these options
 pub record HasOptions (s : Shape) (place : ℕ) (options : List OptionRow) : Type 0 where
   pub past : IsPastPlaces s place
-  pub known : (name : Text) → Known s.rules name (by_name options name)
+  pub known : (name : Text) → Stands s.rules options name
 
 -- a word that may stand behind the places is a value or an option
 pub record IsPlain (word : Text) : Type 0 where
@@ -134,18 +123,6 @@ module _ (s : Shape) (place : ℕ) (options : List OptionRow) (c : HasOptions s 
   abbrev pub AgreesOn : List Text → Type 0
   AgreesOn words = (so_far : List Row) (pending : Option (Text × List Text)) → list_all is_tested words ≡ true → AgreesAt so_far pending words
 
-  -- what stands with an option of two hyphens is taken by its kind
-  of_name : (name : Text) (value : Option Text) (o : Option OptionRow) → by_name options name ≡ o → is_of options (45 ∷ 45 ∷ name, value) ≡ option_map_or (λ option. takes option.kind value) o false
-  of_name name value o is = ap (λ (z : Option OptionRow). option_map_or (λ option. takes option.kind value) z false) is
-
-  not_of : (name : Text) (value : Option Text) (o : Option OptionRow) (found : List Entry) → by_name options name ≡ o → option_map_or (λ option. takes option.kind value) o false ≡ false
-      → settings_of options ((45 ∷ 45 ∷ name, value) ∷ found) ≡ None
-  not_of name value o found is none = no_setting options (45 ∷ 45 ∷ name, value) found (of_name name value o is ∙ none)
-
-  one_of : (name : Text) (value : Option Text) (o : Option OptionRow) (found : List Entry) → by_name options name ≡ o → option_map_or (λ option. takes option.kind value) o false ≡ true
-      → settings_of options ((45 ∷ 45 ∷ name, value) ∷ found) ≡ option_map (λ given. (name, value) ∷ given) (settings_of options found)
-  one_of name value o found is all = one_setting options (45 ∷ 45 ∷ name, value) found (of_name name value o is ∙ all)
-
   -- a use that one word makes, and then the others
   used_at_once : (so_far : List Row) (pending : Option (Text × List Text)) (word : Text) (words : List Text) (e : Entry) → AgreesOn words → list_all is_tested words ≡ true
       → walked s.rules [] (state place so_far pending) word ≡ state place (used_once e (settled_rows s.rules pending so_far)) None
@@ -172,64 +149,36 @@ module _ (s : Shape) (place : ℕ) (options : List OptionRow) (c : HasOptions s 
   -- an option with its value in the same word
   with_joined : (y : ℕ) (ys : Text) (words : List Text) → AgreesOn words → list_all is_tested words ≡ true → list_any is_equals (y ∷ ys) ≡ true → is_value (value_of (y ∷ ys)) ≡ true
       → (so_far : List Row) (pending : Option (Text × List Text)) → AgreesAt so_far pending ((45 ∷ 45 ∷ y ∷ ys) ∷ words)
-  with_joined y ys words more tested has value so_far pending = by_case (by_name options name) refl (c.known name)
+  with_joined y ys words more tested has value so_far pending = elim (c.known (name_of (y ∷ ys))) [
+    | nothing none rule ↦ refused_at so_far pending (45 ∷ 45 ∷ y ∷ ys) words (first ∙ no_setting options x (settings words) (none x.1)) (λ quiet. cc (unknown s place so_far pending y ys rule, quiet))
+    | option takes alone rule ↦ used_at_once so_far pending (45 ∷ 45 ∷ y ∷ ys) words (named x) more tested (joined s place so_far pending y ys has rule) (joined_fault s place c.past so_far pending y ys has rule)
+        (first ∙ one_setting options x (settings words) (takes (value_of (y ∷ ys)) ∙ value))
+    | flag none alone rule ↦ refused_at so_far pending (45 ∷ 45 ∷ y ∷ ys) words (first ∙ no_setting options x (settings words) (none (value_of (y ∷ ys)))) (λ quiet. cc (flag_valued s place so_far pending y ys has rule, quiet))
+  ]
     where
-      word : Text
-      word = 45 ∷ 45 ∷ y ∷ ys
+      x : Entry
+      x = (45 ∷ 45 ∷ name_of (y ∷ ys), Some (value_of (y ∷ ys)))
 
-      name : Text
-      name = name_of (y ∷ ys)
-
-      given : Option Text
-      given = Some (value_of (y ∷ ys))
-
-      first : settings_of options (settings (word ∷ words)) ≡ settings_of options ((45 ∷ 45 ∷ name, given) ∷ settings words)
-      first = ap (settings_of options) (joined_first word words has ∙ ap₂ (λ (a b : Text). (a, Some b) ∷ settings words) (before-dashes (y ∷ ys)) (after-dashes (y ∷ ys)))
-
-      taken : (option : OptionRow) → by_name options name ≡ Some option → takes option.kind given ≡ true → IsOption s.rules name → AgreesAt so_far pending (word ∷ words)
-      taken option is takes_it rule = used_at_once so_far pending word words (name, given) more tested
-          (joined s place so_far pending y ys has rule) (joined_fault s place c.past so_far pending y ys has rule)
-          (first ∙ one_of name given (Some option) (settings words) is takes_it)
-
-      by_kind : (option : OptionRow) (kind : OptionKind) → by_name options name ≡ Some option → option.kind ≡ kind → HasKind s.rules name kind → AgreesAt so_far pending (word ∷ words)
-      by_kind option Required is k rule = taken option is (ap (λ z. takes z given) k ∙ value) rule
-      by_kind option Optional is k rule = taken option is (ap (λ z. takes z given) k ∙ value) rule
-      by_kind option Flag is k rule = refused_at so_far pending word words (first ∙ not_of name given (Some option) (settings words) is (ap (λ z. takes z given) k))
-          (λ quiet. cc (flag_valued s place so_far pending y ys has rule, quiet))
-
-      by_case : (o : Option OptionRow) → by_name options name ≡ o → Known s.rules name o → AgreesAt so_far pending (word ∷ words)
-      by_case None is rule = refused_at so_far pending word words (first ∙ not_of name given None (settings words) is refl) (λ quiet. cc (unknown s place so_far pending y ys rule, quiet))
-      by_case (Some option) is rule = by_kind option option.kind is refl rule
+      first : settings_of options (settings ((45 ∷ 45 ∷ y ∷ ys) ∷ words)) ≡ settings_of options (x ∷ settings words)
+      first = ap (settings_of options) (joined_first (45 ∷ 45 ∷ y ∷ ys) words has ∙ ap₂ (λ (a b : Text). (a, Some b) ∷ settings words) (before-dashes (y ∷ ys)) (after-dashes (y ∷ ys)))
 
   -- a flag alone, and what is no flag
   alone : (y : ℕ) (ys : Text) (words : List Text) → AgreesOn words → list_all is_tested words ≡ true → list_any is_equals (y ∷ ys) ≡ false
       → settings ((45 ∷ 45 ∷ y ∷ ys) ∷ words) ≡ (45 ∷ 45 ∷ y ∷ ys, None) ∷ settings words
       → ((so_far : List Row) (pending : Option (Text × List Text)) → IsOption s.rules (name_of (y ∷ ys)) → walk_total s (state place so_far pending) ((45 ∷ 45 ∷ y ∷ ys) ∷ words) ≡ [] → ⊥)
       → (so_far : List Row) (pending : Option (Text × List Text)) → AgreesAt so_far pending ((45 ∷ 45 ∷ y ∷ ys) ∷ words)
-  alone y ys words more tested lacks first_is wants so_far pending = by_case (by_name options name) refl (c.known name)
+  alone y ys words more tested lacks first_is wants so_far pending = elim (c.known (name_of (y ∷ ys))) [
+    | nothing none rule ↦ refused_at so_far pending (45 ∷ 45 ∷ y ∷ ys) words (first ∙ no_setting options x (settings words) (none None)) (λ quiet. cc (unknown s place so_far pending y ys rule, quiet))
+    | option takes none rule ↦ refused _ _ _ _ _ (first ∙ no_setting options x (settings words) none) (wants so_far pending rule)
+    | flag none takes rule ↦ used_at_once so_far pending (45 ∷ 45 ∷ y ∷ ys) words (named x) more tested (flagged s place so_far pending y ys lacks rule) (flagged_fault s place c.past so_far pending y ys lacks rule)
+        (first ∙ one_setting options x (settings words) takes)
+  ]
     where
-      word : Text
-      word = 45 ∷ 45 ∷ y ∷ ys
+      x : Entry
+      x = (45 ∷ 45 ∷ name_of (y ∷ ys), None)
 
-      name : Text
-      name = name_of (y ∷ ys)
-
-      first : settings_of options (settings (word ∷ words)) ≡ settings_of options ((45 ∷ 45 ∷ name, None) ∷ settings words)
+      first : settings_of options (settings ((45 ∷ 45 ∷ y ∷ ys) ∷ words)) ≡ settings_of options (x ∷ settings words)
       first = ap (settings_of options) (first_is ∙ ap (λ (t : Text). (45 ∷ 45 ∷ t, None) ∷ settings words) (sym (before-whole (y ∷ ys) lacks)))
-
-      valueless : (option : OptionRow) → by_name options name ≡ Some option → takes option.kind None ≡ false → IsOption s.rules name → AgreesAt so_far pending (word ∷ words)
-      valueless option is none rule = refused _ _ _ _ _ (first ∙ not_of name None (Some option) (settings words) is none) (wants so_far pending rule)
-
-      by_kind : (option : OptionRow) (kind : OptionKind) → by_name options name ≡ Some option → option.kind ≡ kind → HasKind s.rules name kind → AgreesAt so_far pending (word ∷ words)
-      by_kind option Required is k rule = valueless option is (ap (λ z. takes z None) k) rule
-      by_kind option Optional is k rule = valueless option is (ap (λ z. takes z None) k) rule
-      by_kind option Flag is k rule = used_at_once so_far pending word words (name, None) more tested
-          (flagged s place so_far pending y ys lacks rule) (flagged_fault s place c.past so_far pending y ys lacks rule)
-          (first ∙ one_of name None (Some option) (settings words) is (ap (λ z. takes z None) k))
-
-      by_case : (o : Option OptionRow) → by_name options name ≡ o → Known s.rules name o → AgreesAt so_far pending (word ∷ words)
-      by_case None is rule = refused_at so_far pending word words (first ∙ not_of name None None (settings words) is refl) (λ quiet. cc (unknown s place so_far pending y ys rule, quiet))
-      by_case (Some option) is rule = by_kind option option.kind is refl rule
 
   -- an option behind which nothing stands
   nothing_behind : (y : ℕ) (ys : Text) → list_any is_equals (y ∷ ys) ≡ false → (so_far : List Row) (pending : Option (Text × List Text)) → IsOption s.rules (name_of (y ∷ ys))
@@ -248,30 +197,29 @@ module _ (s : Shape) (place : ℕ) (options : List OptionRow) (c : HasOptions s 
       let rows = settled_rows s.rules pending so_far in
       let next = wanting place rows (name_of (y ∷ ys)) in
       let on = walk_on s (state place so_far pending) next (45 ∷ 45 ∷ y ∷ ys) ((45 ∷ 45 ∷ z ∷ zs) ∷ words) _ (apart_fault s place c.past so_far pending y ys lacks rule) (apart s place so_far pending y ys lacks rule) in
-      faulty s next (45 ∷ 45 ∷ z ∷ zs) words (by_case (by_name options (name_of (z ∷ zs))) (c.known (name_of (z ∷ zs)))) (no_fault _ _ (sym on.0 ∙ quiet)).1
-    where
-      by_kind : (kind : OptionKind) → HasKind s.rules (name_of (z ∷ zs)) kind → turn_fault s [] (wanting place (settled_rows s.rules pending so_far) (name_of (y ∷ ys))) (45 ∷ 45 ∷ z ∷ zs) ≡ [] → ⊥
-      by_kind Required other turn = cc (long_fault s place c.past (settled_rows s.rules pending so_far) (name_of (y ∷ ys)) z zs rule other, turn)
-      by_kind Optional other turn = cc (long_fault s place c.past (settled_rows s.rules pending so_far) (name_of (y ∷ ys)) z zs rule other, turn)
-      by_kind Flag other turn = flag_fault s place c.past (settled_rows s.rules pending so_far) (name_of (y ∷ ys)) z zs rule other turn
-
-      by_case : (o : Option OptionRow) → Known s.rules (name_of (z ∷ zs)) o → turn_fault s [] (wanting place (settled_rows s.rules pending so_far) (name_of (y ∷ ys))) (45 ∷ 45 ∷ z ∷ zs) ≡ [] → ⊥
-      by_case None other turn = cc (unknown_fault s place (settled_rows s.rules pending so_far) (name_of (y ∷ ys)) z zs other, turn)
-      by_case (Some option) other turn = by_kind option.kind other turn
+      faulty s next (45 ∷ 45 ∷ z ∷ zs) words (λ turn. elim (c.known (name_of (z ∷ zs))) [
+        | nothing none other ↦ cc (unknown_fault s place rows (name_of (y ∷ ys)) z zs other, turn)
+        | option takes alone other ↦ cc (long_fault s place c.past rows (name_of (y ∷ ys)) z zs rule other, turn)
+        | flag none takes other ↦ flag_fault s place c.past rows (name_of (y ∷ ys)) z zs rule other turn
+      ]) (no_fault _ _ (sym on.0 ∙ quiet)).1
 
   -- an option with its value in the next word, or a flag behind which a word stands
   with_apart : (y : ℕ) (ys : Text) (x : ℕ) (xs : Text) (words : List Text) → AgreesOn words → list_all is_tested words ≡ true → list_any is_equals (y ∷ ys) ≡ false → (x == 45) ≡ false
       → (so_far : List Row) (pending : Option (Text × List Text)) → AgreesAt so_far pending ((45 ∷ 45 ∷ y ∷ ys) ∷ (x ∷ xs) ∷ words)
-  with_apart y ys x xs words more tested lacks plain so_far pending = by_case (by_name options name) refl (c.known name)
+  with_apart y ys x xs words more tested lacks plain so_far pending = elim (c.known (name_of (y ∷ ys))) [
+    | nothing none rule ↦ refused_at so_far pending word ((x ∷ xs) ∷ words) (first ∙ no_setting options given (settings words) (none given.1)) (λ quiet. cc (unknown s place so_far pending y ys rule, quiet))
+    | option takes alone rule ↦ taken (takes (x ∷ xs) ∙ value) rule
+    | flag none takes rule ↦ refused _ _ _ _ _ (first ∙ no_setting options given (settings words) (none (x ∷ xs))) (λ quiet.
+        let next = state place (used_once (name_of (y ∷ ys), None) rows) None in
+        let on = walk_on s (state place so_far pending) next word ((x ∷ xs) ∷ words) _ refl (flagged s place so_far pending y ys lacks rule) in
+        faulty s next (x ∷ xs) words (λ turn. cc (stray s place c.past (used_once (name_of (y ∷ ys), None) rows) None x xs plain, turn)) (no_fault _ _ (sym on.0 ∙ quiet)).1)
+  ]
     where
       word : Text
       word = 45 ∷ 45 ∷ y ∷ ys
 
-      name : Text
-      name = name_of (y ∷ ys)
-
-      given : Option Text
-      given = Some (x ∷ xs)
+      given : Entry
+      given = (45 ∷ 45 ∷ name_of (y ∷ ys), Some (x ∷ xs))
 
       rows : List Row
       rows = settled_rows s.rules pending so_far
@@ -279,33 +227,20 @@ module _ (s : Shape) (place : ℕ) (options : List OptionRow) (c : HasOptions s 
       value : is_value (x ∷ xs) ≡ true
       value = simp plain
 
-      first : settings_of options (settings (word ∷ (x ∷ xs) ∷ words)) ≡ settings_of options ((45 ∷ 45 ∷ name, given) ∷ settings words)
-      first = ap (settings_of options) (apart_first word (x ∷ xs) words lacks value ∙ ap (λ (t : Text). (45 ∷ 45 ∷ t, given) ∷ settings words) (sym (before-whole (y ∷ ys) lacks)))
+      first : settings_of options (settings (word ∷ (x ∷ xs) ∷ words)) ≡ settings_of options (given ∷ settings words)
+      first = ap (settings_of options) (apart_first word (x ∷ xs) words lacks value ∙ ap (λ (t : Text). (45 ∷ 45 ∷ t, Some (x ∷ xs)) ∷ settings words) (sym (before-whole (y ∷ ys) lacks)))
 
-      taken : (option : OptionRow) → by_name options name ≡ Some option → takes option.kind given ≡ true → IsOption s.rules name → AgreesAt so_far pending (word ∷ (x ∷ xs) ∷ words)
-      taken option is takes_it rule =
-          let next = wanting place rows name in
-          let end = state place rows (Some (name, (x ∷ xs) ∷ [])) in
+      taken : is_of options given ≡ true → IsOption s.rules (name_of (y ∷ ys)) → AgreesAt so_far pending (word ∷ (x ∷ xs) ∷ words)
+      taken takes_it rule =
+          let next = wanting place rows (name_of (y ∷ ys)) in
+          let used : Option (Text × List Text) = Some (name_of (y ∷ ys), (x ∷ xs) ∷ []) in
+          let end = state place rows used in
           let one = walk_on s (state place so_far pending) next word ((x ∷ xs) ∷ words) _ (apart_fault s place c.past so_far pending y ys lacks rule ∙ or_else-nil _) (apart s place so_far pending y ys lacks rule) in
-          let two = walk_on s next end (x ∷ xs) words _ (valued_fault s place rows name x xs plain) (valued s place rows name x xs plain rule) in
+          let two = walk_on s next end (x ∷ xs) words _ (valued_fault s place rows (name_of (y ∷ ys)) x xs plain) (valued s place rows (name_of (y ∷ ys)) x xs plain rule) in
           let q = settle_fault s.rules false (held so_far pending) in
-          agrees_as q rows _ _ _ _ _ _ (first ∙ one_of name given (Some option) (settings words) is takes_it) (one.0 ∙ ap (or_else q) two.0) (one.1 ∙ two.1)
-          (one_use q rows (name, given) (settled_rows s.rules (Some (name, (x ∷ xs) ∷ [])) rows) (settings_of options (settings words)) (walk_total s end words) (walk_end s end words)
-          (settles s rows name (x ∷ xs) rule)
-          (subst (λ k. Agrees k (settled_rows s.rules (Some (name, (x ∷ xs) ∷ [])) rows) (settings_of options (settings words)) (walk_total s end words) (walk_end s end words))
-          (once_fault s rows name (x ∷ xs) rule) (more rows (Some (name, (x ∷ xs) ∷ [])) tested)))
-
-      by_kind : (option : OptionRow) (kind : OptionKind) → by_name options name ≡ Some option → option.kind ≡ kind → HasKind s.rules name kind → AgreesAt so_far pending (word ∷ (x ∷ xs) ∷ words)
-      by_kind option Required is k rule = taken option is (ap (λ z. takes z given) k ∙ value) rule
-      by_kind option Optional is k rule = taken option is (ap (λ z. takes z given) k ∙ value) rule
-      by_kind option Flag is k rule = refused _ _ _ _ _ (first ∙ not_of name given (Some option) (settings words) is (ap (λ z. takes z given) k))
-          (λ quiet. let next = state place (used_once (name, None) rows) None in
-          let on = walk_on s (state place so_far pending) next word ((x ∷ xs) ∷ words) _ refl (flagged s place so_far pending y ys lacks rule) in
-          faulty s next (x ∷ xs) words (λ turn. cc (stray s place c.past (used_once (name, None) rows) None x xs plain, turn)) (no_fault _ _ (sym on.0 ∙ quiet)).1)
-
-      by_case : (o : Option OptionRow) → by_name options name ≡ o → Known s.rules name o → AgreesAt so_far pending (word ∷ (x ∷ xs) ∷ words)
-      by_case None is rule = refused_at so_far pending word ((x ∷ xs) ∷ words) (first ∙ not_of name given None (settings words) is refl) (λ quiet. cc (unknown s place so_far pending y ys rule, quiet))
-      by_case (Some option) is rule = by_kind option option.kind is refl rule
+          agrees_as q rows _ _ _ _ _ _ (first ∙ one_setting options given (settings words) takes_it) (one.0 ∙ ap (or_else q) two.0) (one.1 ∙ two.1)
+          (one_use q rows (named given) (settled_rows s.rules used rows) (settings_of options (settings words)) (walk_total s end words) (walk_end s end words) (settles s rows (name_of (y ∷ ys)) (x ∷ xs) rule)
+          (subst (λ k. Agrees k (settled_rows s.rules used rows) (settings_of options (settings words)) (walk_total s end words) (walk_end s end words)) (once_fault s rows (name_of (y ∷ ys)) (x ∷ xs) rule) (more rows used tested)))
 
   stray_first : (x : ℕ) (xs : Text) (words : List Text) → (x == 45) ≡ false → (so_far : List Row) (pending : Option (Text × List Text)) → AgreesAt so_far pending ((x ∷ xs) ∷ words)
   stray_first x xs words plain so_far pending = refused_at so_far pending (x ∷ xs) words (no_first options x xs words plain) (λ quiet. cc (stray s place c.past so_far pending x xs plain, quiet))

@@ -1,19 +1,21 @@
 -- The rules that a row makes, and what is found among them by name and by number.
-use Rattle.std.proofs.Common.{◌≡◌, ◌==◌, ◌+◌, ◌<◌, ◌&&◌, ◌||◌, ℕ, Bool, true, false, not, List, [], ◌∷◌, ◌++◌, map, length, Option, Some, None, is_some, option_map, refl, sym, ◌∙◌, ap, arith, inl, inr}
+use Rattle.std.proofs.Common.{◌≡◌, ◌==◌, ◌+◌, ◌<◌, ◌||◌, ℕ, Bool, true, false, not, List, [], ◌∷◌, ◌++◌, map, length, Option, Some, None, option_map, refl, sym, ◌∙◌, ap, arith, inl, inr}
+use Rattle.std.specs.Prelude.{find}
 use Rattle.std.specs.List.{list_any}
+use Rattle.std.specs.Option.{option_map_or}
 use Rattle.std.specs.Str.{bytes_eq}
 use Rattle.std.proofs.lemmas.Bool.{and_parts, cases_Bool, ne_eqb, not-true, or_parts}
 use Rattle.std.proofs.lemmas.Bool.Decides.{Decides-eqb}
 use Rattle.std.proofs.lemmas.List.Folds.{list_any-append}
 use Rattle.std.proofs.lemmas.Slice.Eq.{bytes_eq-Decides}
 use Rattle.clap.specs.Lexer.{usize_max}
-use Rattle.clap.specs.Walk.{Rule, arg_by_id, arg_by_index, arg_by_long, has_long}
-use Rattle.clap.specs.Simple.{filled, filled_from, index_after, with_index}
-use Rattle.loc_words.specs.Apps.{kind_rule, option_rule, place_rule}
-use Rattle.loc_words.specs.Rows.{Text, OptionRow, are_different}
+use Rattle.clap.specs.Walk.{Rule, arg_by_id, arg_by_index, arg_by_long}
+use Rattle.clap.specs.Simple.{filled, filled_from, with_index}
+use Rattle.loc_words.specs.Apps.{option_rule, place_rule}
+use Rattle.loc_words.specs.Rows.{Text, OptionRow, are_different, is_of, takes}
 use Rattle.loc_words.specs.declared.row.OptionKind.{OptionKind}
 use Rattle.loc_words.specs.declared.row.OptionKind.TheVariants.{Required, Optional, Flag}
-use Rattle.loc_words.proofs.Options.{HasKind, Known, by_name}
+use Rattle.loc_words.proofs.Options.{Stands, nothing, option, flag}
 use Rattle.loc_words.proofs.Places.{HasPlaces, next, place_after}
 
 -- the rules of the places from the number n on, and of the options
@@ -22,65 +24,31 @@ placed_rules n [] = []
 placed_rules n (place ∷ places) = with_index n (filled (place_rule place)) ∷ placed_rules (next n) places
 
 abbrev pub filled_option : OptionRow → Rule
-filled_option option = filled (option_rule option)
-
-no_number : (n : ℕ) (name : Text) (kind : OptionKind) → with_index n (filled (kind_rule name kind)) ≡ filled (kind_rule name kind)
-no_number n name Required = refl
-no_number n name Optional = refl
-no_number n name Flag = refl
-
-same_number : (n : ℕ) (name : Text) (kind : OptionKind) → index_after n (kind_rule name kind) ≡ n
-same_number n name Required = refl
-same_number n name Optional = refl
-same_number n name Flag = refl
+filled_option o = filled (option_rule o)
 
 options_filled : (n : ℕ) (options : List OptionRow) → filled_from n (map option_rule options) ≡ map filled_option options
 options_filled n [] = refl
-options_filled n (o ∷ options) =
-    ap (λ (a : Rule). a ∷ filled_from (index_after n (option_rule o)) (map option_rule options)) (no_number n o.name o.kind)
-    ∙ ap (λ i. filled_option o ∷ filled_from i (map option_rule options)) (same_number n o.name o.kind) ∙ ap (λ (l : List Rule). filled_option o ∷ l) (options_filled n options)
+options_filled n (o ∷ options) = ap (λ (l : List Rule). filled_option o ∷ l) (options_filled n options)
 
 pub rules_filled : (n : ℕ) (places : List Text) (options : List OptionRow) → filled_from n (map place_rule places ++ map option_rule options) ≡ placed_rules n places ++ map filled_option options
 rules_filled n [] options = options_filled n options
 rules_filled n (place ∷ places) options = ap (λ (l : List Rule). with_index n (filled (place_rule place)) ∷ l) (rules_filled (next n) places options)
 
--- an option is found by its name
-or_none : (b : Bool) → (b || false) ≡ b
-or_none true = refl
-or_none false = refl
-
-long_kind : (name other : Text) (kind : OptionKind) → (not (is_some (filled (kind_rule name kind)).index) && has_long (filled (kind_rule name kind)) other) ≡ bytes_eq name other
-long_kind name other Required = or_none (bytes_eq name other)
-long_kind name other Optional = or_none (bytes_eq name other)
-long_kind name other Flag = or_none (bytes_eq name other)
-
-id_kind : (name other : Text) (kind : OptionKind) → bytes_eq (filled (kind_rule name kind)).id other ≡ bytes_eq name other
-id_kind name other Required = refl
-id_kind name other Optional = refl
-id_kind name other Flag = refl
-
-number_kind : (name : Text) (kind : OptionKind) → (filled (kind_rule name kind)).index ≡ None
-number_kind name Required = refl
-number_kind name Optional = refl
-number_kind name Flag = refl
+-- the option of this name, and its rule
+abbrev by_name : List OptionRow → Text → Option OptionRow
+by_name options name = find (λ option. bytes_eq option.name name) options
 
 long_options : (options : List OptionRow) (name : Text) → arg_by_long (map filled_option options) name ≡ option_map filled_option (by_name options name)
 long_options [] name = refl
-long_options (o ∷ options) name = let test = long_kind o.name name o.kind in elim (cases_Bool (bytes_eq o.name name)) [
-  | inl is ↦ simp (test, is)
-  | inr other ↦ simp (test, other) (long_options options name)
-]
+long_options (o ∷ options) name = elim (cases_Bool (bytes_eq o.name name)) [ inl is ↦ simp is | inr other ↦ simp other (long_options options name) ]
 
 id_options : (options : List OptionRow) (name : Text) → arg_by_id (map filled_option options) name ≡ option_map filled_option (by_name options name)
 id_options [] name = refl
-id_options (o ∷ options) name = let test = id_kind o.name name o.kind in elim (cases_Bool (bytes_eq o.name name)) [
-  | inl is ↦ simp (test, is)
-  | inr other ↦ simp (test, other) (id_options options name)
-]
+id_options (o ∷ options) name = elim (cases_Bool (bytes_eq o.name name)) [ inl is ↦ simp is | inr other ↦ simp other (id_options options name) ]
 
 number_options : (options : List OptionRow) (n : ℕ) → arg_by_index (map filled_option options) n ≡ None
 number_options [] n = refl
-number_options (o ∷ options) n = let none = number_kind o.name o.kind in simp none (number_options options n)
+number_options (o ∷ options) n = number_options options n
 
 long_places : (n : ℕ) (places : List Text) (rest : List Rule) (name : Text) → arg_by_long (placed_rules n places ++ rest) name ≡ arg_by_long rest name
 long_places n [] rest name = refl
@@ -120,29 +88,30 @@ no_place_name (place ∷ places) names name d h =
       | inr other ↦ simp other (no_place_name places names name parts.1 h)
     ]
 
-kind_known : (rules : List Rule) (name : Text) (kind : OptionKind) → arg_by_long rules name ≡ Some (filled (kind_rule name kind)) → arg_by_id rules name ≡ Some (filled (kind_rule name kind)) → HasKind rules name kind
-kind_known rules name Required long id = record { required = true; by_long = long; by_id = id }
-kind_known rules name Optional long id = record { required = false; by_long = long; by_id = id }
-kind_known rules name Flag long id = record { by_long = long }
-
--- the options of a row are those that its rules have
+-- what stands under a name among the options of a row is what its rules have
 pub options_known : (n : ℕ) (places : List Text) (options : List OptionRow) → are_different (places ++ map (λ o. o.name) options) ≡ true
-    → (name : Text) → Known (placed_rules n places ++ map filled_option options) name (by_name options name)
+    → (name : Text) → Stands (placed_rules n places ++ map filled_option options) options name
 options_known n places options d name = go (by_name options name) refl
   where
     rules : List Rule
     rules = placed_rules n places ++ map filled_option options
 
-    long : arg_by_long rules name ≡ option_map filled_option (by_name options name)
-    long = long_places n places (map filled_option options) name ∙ long_options options name
+    long : (o : Option OptionRow) → by_name options name ≡ o → arg_by_long rules name ≡ option_map filled_option o
+    long o is = long_places n places (map filled_option options) name ∙ long_options options name ∙ ap (option_map filled_option) is
 
-    go : (o : Option OptionRow) → by_name options name ≡ o → Known rules name o
-    go None is = long ∙ ap (option_map filled_option) is
+    by_kind : (kind : OptionKind) → ((value : Option Text) → is_of options (45 ∷ 45 ∷ name, value) ≡ takes kind value) → arg_by_long rules name ≡ Some (filled_option (record { name = name; kind = kind }))
+        → arg_by_id rules name ≡ Some (filled_option (record { name = name; kind = kind })) → Stands rules options name
+    by_kind Required taken long id = option (λ v. taken (Some v)) (taken None) (record { required = true; by_long = long; by_id = id })
+    by_kind Optional taken long id = option (λ v. taken (Some v)) (taken None) (record { required = false; by_long = long; by_id = id })
+    by_kind Flag taken long id = flag (λ v. taken (Some v)) (taken None) (record { by_long = long })
+
+    go : (o : Option OptionRow) → by_name options name ≡ o → Stands rules options name
+    go None is = nothing (λ value. ap (λ z. option_map_or (λ o. takes o.kind value) z false) is) (long None is)
     go (Some o) is =
         let found = found_name options name o is in
-        let named : Some (filled_option o) ≡ Some (filled (kind_rule name o.kind)) = ap (λ t. Some (filled (kind_rule t o.kind))) found.0 in
-        kind_known rules name o.kind (long ∙ ap (option_map filled_option) is ∙ named)
-        (id_places n places (map filled_option options) name (no_place_name places (map (λ x. x.name) options) name d found.1) ∙ id_options options name ∙ ap (option_map filled_option) is ∙ named)
+        let same : Some (filled_option o) ≡ Some (filled_option (record { name = name; kind = o.kind })) = ap (λ t. Some (filled_option (record { name = t; kind = o.kind }))) found.0 in
+        by_kind o.kind (λ value. ap (λ z. option_map_or (λ x. takes x.kind value) z false) is) (long (Some o) is ∙ same)
+        (id_places n places (map filled_option options) name (no_place_name places (map (λ x. x.name) options) name d found.1) ∙ id_options options name ∙ ap (option_map filled_option) is ∙ same)
 
 -- numbers that follow
 next_above : (n m : ℕ) → n < m → n < usize_max → n < next m

@@ -14,18 +14,18 @@ use Rattle.clap.specs.declared.builder.value_parser.ValueParser.TheVariants as v
 use Rattle.clap.specs.declared.parser.matches.ValueSource.TheVariants.{CommandLine}
 use Rattle.clap.specs.declared.error.kind.ErrorKind.TheVariants as kind
 use Rattle.clap.proofs.OnLiterals.{clap_on_literals}
-use Rattle.loc_words.specs.Apps.{flag_rule, place_rule, value_rule}
+use Rattle.loc_words.specs.Apps.{long_rule, place_rule}
 use Rattle.loc_words.specs.Rows.{Entry}
 
 -- the rules have an option of this name
 pub record IsOption (rules : List Rule) (name : Text) : Type 0 where
   pub required : Bool
-  pub by_long : arg_by_long rules name ≡ Some (filled (value_rule name required))
-  pub by_id : arg_by_id rules name ≡ Some (filled (value_rule name required))
+  pub by_long : arg_by_long rules name ≡ Some (filled (long_rule name required 1))
+  pub by_id : arg_by_id rules name ≡ Some (filled (long_rule name required 1))
 
 -- the rules have a flag of this name
 pub record IsFlag (rules : List Rule) (name : Text) : Type 0 where
-  pub by_long : arg_by_long rules name ≡ Some (filled (flag_rule name))
+  pub by_long : arg_by_long rules name ≡ Some (filled (long_rule name false 0))
 
 -- the rules have a place of this name and number
 pub record IsPlace (rules : List Rule) (number : ℕ) (name : Text) : Type 0 where

@@ -14,35 +14,28 @@ use Rattle.clap.specs.Faults.{check_fault, default_fault, defaults_fault, entere
 use Rattle.clap.specs.Kinds.{Kinds, or_else}
 use Rattle.clap.specs.Simple.{Shape, built, entered, filled, matches_of, with_index}
 use Rattle.clap.proofs.OnLiterals.{clap_on_literals}
-use Rattle.loc_words.specs.Apps.{Parses, app_of_row, entry_of, given_by, kind_rule, option_rule, place_rule}
+use Rattle.loc_words.specs.Apps.{Parses, app_of_row, entry_of, given_by, option_rule, place_rule}
 use Rattle.loc_words.specs.Rows.{Text, CommandRow, OptionRow, Entry, are_different, entries_of, given_of, is_required, is_row, is_value, is_whole, names_of, stands, value_in}
 use Rattle.loc_words.specs.Tested.{are_tested}
 use Rattle.std.specs.declared.alloc.AllocError.{AllocError}
 use Rattle.loc_words.specs.declared.parser.Given.{Given}
-use Rattle.loc_words.specs.declared.row.OptionKind.{OptionKind}
-use Rattle.loc_words.specs.declared.row.OptionKind.TheVariants.{Required, Optional, Flag}
 use Rattle.loc_words.proofs.Agrees.{Agrees, names, or_else-assoc, both_quiet, walk_end, walk_total, words_after}
-use Rattle.loc_words.proofs.Options.{HasOptions, Known, by_name}
+use Rattle.loc_words.proofs.Options.{HasOptions, Stands}
 use Rattle.loc_words.proofs.Places.{HasPlaces, on_entries, place_after, tested_from, next}
 use Rattle.loc_words.proofs.Rules.{filled_option, none_behind, options_known, placed_rules, places_known, rules_filled}
 use Rattle.loc_words.proofs.TestedWords.{given_tested, tested_is}
 use Rattle.loc_words.proofs.Walking.{row, state, no_fault}
 
 -- what holds of each rule of places and options
-all_rules : (p : Rule → Bool) → ((n : ℕ) (name : Text) → p (with_index n (filled (place_rule name))) ≡ true) → ((name : Text) (kind : OptionKind) → p (filled (kind_rule name kind)) ≡ true)
+all_rules : (p : Rule → Bool) → ((n : ℕ) (name : Text) → p (with_index n (filled (place_rule name))) ≡ true) → ((o : OptionRow) → p (filled_option o) ≡ true)
     → (n : ℕ) (places : List Text) (options : List OptionRow) → list_all p (placed_rules n places ++ map filled_option options) ≡ true
 all_rules p place option n [] [] = refl
-all_rules p place option n [] (o ∷ options) = let here = option o.name o.kind in simp here (all_rules p place option n [] options)
+all_rules p place option n [] (o ∷ options) = let here = option o in simp here (all_rules p place option n [] options)
 all_rules p place option n (name ∷ places) options = let here = place n name in simp here (all_rules p place option (next n) places options)
 
 simple_rules : (places : List Text) (options : List OptionRow) → list_all (λ (a : Rule). a.is_simple) (map place_rule places ++ map option_rule options) ≡ true
 simple_rules [] [] = refl
-simple_rules [] (o ∷ options) = let here = simple_kind o.name o.kind in simp here (simple_rules [] options)
-  where
-    simple_kind : (name : Text) (kind : OptionKind) → (kind_rule name kind).is_simple ≡ true
-    simple_kind name Required = refl
-    simple_kind name Optional = refl
-    simple_kind name Flag = refl
+simple_rules [] (o ∷ options) = simple_rules [] options
 simple_rules (name ∷ places) options = simple_rules places options
 
 none_of : {X : Type 0} (p : X → Bool) (xs : List X) → list_all (λ x. not (p x)) xs ≡ true → list_any p xs ≡ false
@@ -90,14 +83,9 @@ lacks_option given option = is_required option.kind && not (stands given option.
 abbrev wants : List Entry → Rule → Bool
 wants given a = a.required && not (is_given a.id (map row given))
 
-wants_kind : (given : List Entry) (name : Text) (kind : OptionKind) → wants given (filled (kind_rule name kind)) ≡ (is_required kind && not (stands given name))
-wants_kind given name Required = ap not (given_is given name)
-wants_kind given name Optional = refl
-wants_kind given name Flag = refl
-
 wants_options : (given : List Entry) (options : List OptionRow) → list_any (wants given) (map filled_option options) ≡ list_any (lacks_option given) options
 wants_options given [] = refl
-wants_options given (o ∷ options) = ap₂ (λ (a b : Bool). a || b) (wants_kind given o.name o.kind) (wants_options given options)
+wants_options given (o ∷ options) = ap₂ (λ (a b : Bool). a || b) (ap (λ b. is_required o.kind && not b) (given_is given o.name)) (wants_options given options)
 
 wants_places : (given : List Entry) (n : ℕ) (places : List Text) (options : List OptionRow) → list_any (wants given) (placed_rules n places ++ map filled_option options) ≡ (list_any (lacks_place given) places || list_any (lacks_option given) options)
 wants_places given n [] options = wants_options given options
@@ -171,7 +159,7 @@ module _ (r : CommandRow) (is : is_row r ≡ true) where
   options_there : HasOptions top (place_after 1 r.places) r.options
   options_there = record {
     past = record { no_place = subst (λ l. arg_by_index l (place_after 1 r.places) ≡ None) (sym rules_are) (none_behind 1 r.places r.options few); once = refl; leaf = refl };
-    known = λ name. subst (λ l. Known l name (by_name r.options name)) (sym rules_are) (options_known 1 r.places r.options different name);
+    known = λ name. subst (λ l. Stands l r.options name) (sym rules_are) (options_known 1 r.places r.options different name);
   }
 
   places_there : HasPlaces top.rules 1 r.places
@@ -187,12 +175,7 @@ module _ (r : CommandRow) (is : is_row r ≡ true) where
   agrees words tested = on_entries top r.options refl 1 r.places places_there options_there words tested [] None
 
   without_defaults : list_all no_defaults top.rules ≡ true
-  without_defaults = subst (λ l. list_all no_defaults l ≡ true) (sym rules_are) (all_rules no_defaults (λ n name. refl) kinds 1 r.places r.options)
-    where
-      kinds : (name : Text) (kind : OptionKind) → no_defaults (filled (kind_rule name kind)) ≡ true
-      kinds name Required = refl
-      kinds name Optional = refl
-      kinds name Flag = refl
+  without_defaults = subst (λ l. list_all no_defaults l ≡ true) (sym rules_are) (all_rules no_defaults (λ n name. refl) (λ o. refl) 1 r.places r.options)
 
   pub matches_are : (words : List Text) → matches_of (app_of_row r) words ≡ end words
   matches_are words = (defaults_none top.rules (end words) without_defaults).0
@@ -286,25 +269,10 @@ module _ (r : CommandRow) (is : is_row r ≡ true) where
   pub simple : is_simple_and_free (app_of_row r) ≡ true
   simple =
       let plain = simple_rules r.places r.options in
-      let still = subst (λ l. list_all (λ (a : Rule). a.is_simple) l ≡ true) (sym rules_are) (all_rules (λ a. a.is_simple) (λ n name. refl) (λ name kind. simple_kind name kind) 1 r.places r.options) in
-      let free = subst (λ l. list_all (λ (a : Rule). a.is_free) l ≡ true) (sym rules_are) (all_rules (λ a. a.is_free) (λ n name. refl) (λ name kind. free_kind name kind) 1 r.places r.options) in
+      let still = subst (λ l. list_all (λ (a : Rule). a.is_simple) l ≡ true) (sym rules_are) (all_rules (λ a. a.is_simple) (λ n name. refl) (λ o. refl) 1 r.places r.options) in
+      let free = subst (λ l. list_all (λ (a : Rule). a.is_free) l ≡ true) (sym rules_are) (all_rules (λ a. a.is_free) (λ n name. refl) (λ o. refl) 1 r.places r.options) in
       let order = in_order (count_by (λ (a : Rule). is_some a.index) top.rules) in
       simp (plain, still, free, order)
     where
-      simple_kind : (name : Text) (kind : OptionKind) → (filled (kind_rule name kind)).is_simple ≡ true
-      simple_kind name Required = refl
-      simple_kind name Optional = refl
-      simple_kind name Flag = refl
-
-      free_kind : (name : Text) (kind : OptionKind) → (filled (kind_rule name kind)).is_free ≡ true
-      free_kind name Required = refl
-      free_kind name Optional = refl
-      free_kind name Flag = refl
-
-      early_kind : (n : ℕ) (name : Text) (kind : OptionKind) → not (is_early_multiple n (filled (kind_rule name kind))) ≡ true
-      early_kind n name Required = refl
-      early_kind n name Optional = refl
-      early_kind n name Flag = refl
-
       in_order : (n : ℕ) → list_any (is_early_multiple n) top.rules ≡ false
-      in_order n = ap (list_any (is_early_multiple n)) rules_are ∙ none_of (is_early_multiple n) (placed_rules 1 r.places ++ map filled_option r.options) (all_rules (λ a. not (is_early_multiple n a)) (λ i name. refl) (early_kind n) 1 r.places r.options)
+      in_order n = ap (list_any (is_early_multiple n)) rules_are ∙ none_of (is_early_multiple n) (placed_rules 1 r.places ++ map filled_option r.options) (all_rules (λ a. not (is_early_multiple n a)) (λ i name. refl) (λ o. refl) 1 r.places r.options)

@@ -1,35 +1,31 @@
 -- A row as a simple command of `clap`, and what `clap` found under each name.
-use Rattle.std.specs.Prelude.{◌≡◌, List, ◌++◌, [], Bool, true, false, map, Option, Some, None, Result, Ok, Err, slice_get, ⊤}
+use Rattle.std.specs.Prelude.{◌≡◌, ℕ, List, ◌++◌, [], Bool, true, map, Option, Some, None, Result, Ok, Err, slice_get, ⊤}
 use Rattle.clap.specs.Words.{App, Row, Rule, fault_of, found_of, matches_of, new_app, new_rule, rows_of}
 use Rattle.clap.specs.Simple.{on_top}
 use Rattle.clap.specs.declared.builder.action.ArgAction.TheVariants.{Set}
 use Rattle.std.specs.declared.alloc.AllocError.{AllocError}
-use Rattle.loc_words.specs.Rows.{Text, CommandRow, OptionRow, Entry, is_row, given_of}
+use Rattle.loc_words.specs.Rows.{Text, CommandRow, OptionRow, Entry, is_required, is_row, given_of}
 use Rattle.loc_words.specs.declared.parser.Given.{Given}
 use Rattle.loc_words.specs.declared.row.OptionKind.{OptionKind}
-use Rattle.loc_words.specs.declared.row.OptionKind.TheVariants.{Required, Optional, Flag}
+use Rattle.loc_words.specs.declared.row.OptionKind.TheVariants.{Flag}
 
 -- a place, which is required
 abbrev pub place_rule : Text → Rule
 place_rule name = record (new_rule name) { required = true }
 
--- an option that takes a value
-abbrev pub value_rule : Text → Bool → Rule
-value_rule name required = record (new_rule name) { long = Some name; required = required }
+-- an option by its full name, which takes so many values
+abbrev pub long_rule : Text → Bool → ℕ → Rule
+long_rule name required values =
+    record (new_rule name) { long = Some name; required = required; action = Some Set; range = Some (record { start_inclusive = values; end_inclusive = values }) }
 
--- a flag, an option that takes none
-abbrev pub flag_rule : Text → Rule
-flag_rule name = record (new_rule name) { long = Some name; action = Some Set; range = Some (record { start_inclusive = 0; end_inclusive = 0 }) }
-
--- an option of this kind
-abbrev pub kind_rule : Text → OptionKind → Rule
-kind_rule name Required = value_rule name true
-kind_rule name Optional = value_rule name false
-kind_rule name Flag = flag_rule name
+-- how many values an option takes
+abbrev pub values_of : OptionKind → ℕ
+values_of Flag = 0
+values_of kind = 1
 
 -- an option of a row
 abbrev pub option_rule : OptionRow → Rule
-option_rule option = kind_rule option.name option.kind
+option_rule option = long_rule option.name (is_required option.kind) (values_of option.kind)
 
 -- the places and then the options
 abbrev pub rules_of : CommandRow → List Rule

@@ -26,17 +26,21 @@ impl<'a> Given<'a> {
     }
 }
 
-// An option; a flag is one that takes no value.
+// An option. A flag is one that takes no value.
 fn option_arg<'a>(alloc: Global, option: &OptionRow<'a>) -> Arg<'a>
     ensures rule { rule_of result ≡ option_rule (option_of option.now) }
     ensures local { result.global ≡ false }
 {
-    let arg = Arg::new(alloc, option.name).long(option.name);
-    match option.kind {
-        OptionKind::Required => arg.required(true),
-        OptionKind::Optional => arg,
-        OptionKind::Flag => arg.action(ArgAction::Set).num_args(0),
-    }
+    let (required, values) = match option.kind {
+        OptionKind::Required => (true, 1),
+        OptionKind::Optional => (false, 1),
+        OptionKind::Flag => (false, 0),
+    };
+    Arg::new(alloc, option.name)
+        .long(option.name)
+        .required(required)
+        .action(ArgAction::Set)
+        .num_args(values)
 }
 
 fn add_places<'a>(
