@@ -1,13 +1,13 @@
 -- A word cut at its first "=".
-use Rattle.std.proofs.Common.{◌≡◌, ◌+◌, ℕ, suc, Bool, true, false, not, List, [], ◌∷◌, ◌++◌, Option, Some, None, take, drop, refl, sym, ◌∙◌, ap, append-nil, ap₂, cond, inl, inr, arith, one-add, length, ◌<◌}
+use Rattle.std.proofs.Common.{◌≡◌, ◌+◌, ℕ, suc, Bool, true, false, not, List, [], ◌∷◌, ◌++◌, take, drop, refl, sym, ◌∙◌, ap, append-nil, ap₂, cond, inl, inr, arith, one-add, length, ◌<◌}
 use Rattle.std.specs.List.{before_first, after_first, prefix_len, list_any, position_or_len}
 use Rattle.std.proofs.lemmas.Bool.{cases_Bool}
 use Rattle.std.proofs.lemmas.Bool.Decides.{Decides-eqb}
 use native.Mathlib.Numerals.{unary_clauses}
-use Rattle.loc_words.specs.Words.{Text, Setting, is_equals, is_value, with_setting}
+use Rattle.loc_words.specs.Rows.{Text, is_equals}
 
 -- what stands before the first "=" goes on over a byte that is none
-before-cons : (x : ℕ) (xs : Text) → is_equals x ≡ false → before_first is_equals (x ∷ xs) ≡ x ∷ before_first is_equals xs
+pub before-cons : (x : ℕ) (xs : Text) → is_equals x ≡ false → before_first is_equals (x ∷ xs) ≡ x ∷ before_first is_equals xs
 before-cons x xs h = simp h (one_more (prefix_len (λ z. not (is_equals z)) xs))
   where
     one_more : (k : ℕ) → take (1 + k) (x ∷ xs) ≡ x ∷ take k xs
@@ -52,26 +52,6 @@ dashed word n e = record {
   rest = n ++ cond (list_any is_equals word) (61 ∷ after_first is_equals word) [];
   is = cut word ∙ ap (λ (l : Text). l ++ cond (list_any is_equals word) (61 ∷ after_first is_equals word) []) e;
 }
-
--- settings with one in front come of settings
-pub record HasFront (option value : Text) (rest : Option (List Setting)) (found : List Setting) : Type 0 where
-  pub more : List Setting
-  pub rest_is : rest ≡ Some more
-  pub value_is : is_value value ≡ true
-  pub found_is : found ≡ (option, value) ∷ more
-
-pub some-is : {X : Type 0} (x y : X) → Some x ≡ Some y → x ≡ y
-some-is x y e = cc e
-
-pub has_front : (option value : Text) (rest : Option (List Setting)) (found : List Setting) → with_setting option value rest ≡ Some found → HasFront option value rest found
-has_front option value None found e = absurd (cc e)
-has_front option value (Some more) found e = elim (cases_Bool (is_value value)) [
-  | inl is ↦ record { more = more; rest_is = refl; value_is = is; found_is = sym (some-is _ _ (simp is at e)) }
-  | inr other ↦ absurd (cc (simp other at e))
-]
-
-pub add_front : (option value : Text) (rest : Option (List Setting)) (found : List Setting) → rest ≡ Some found → is_value value ≡ true → with_setting option value rest ≡ Some ((option, value) ∷ found)
-add_front option value rest found e v = rw (e, v) refl
 
 -- whether a list has an element that passes, by the place of the first
 pub any-passes : {X : Type 0} (p : X → Bool) (xs : List X) → position_or_len p xs < length xs → list_any p xs ≡ true

@@ -1,50 +1,63 @@
--- The commands as `clap` has them, and what is made of what it found.
-use Rattle.std.specs.Prelude.{◌≡◌, ℕ, List, [], Option, option_map, option_and_then, Bool, true, false, Some, codes}
-use Rattle.clap.specs.Words.{App, Row, Rule, Text, fault_of, first_of, matches_of, new_app, new_rule, with_rule}
+-- A row as a simple command of `clap`, and what `clap` found under each name.
+use Rattle.std.specs.Prelude.{◌≡◌, ℕ, List, ◌++◌, [], Bool, true, map, Option, Some, None, Result, Ok, Err, slice_get, ⊤}
+use Rattle.clap.specs.Words.{App, Row, Rule, fault_of, found_of, matches_of, new_app, new_rule, rows_of}
 use Rattle.clap.specs.Simple.{on_top}
-use Rattle.loc_spec_text.specs.declared.Form.{Form}
-use Rattle.loc_words.specs.Words.{Asked, query, check, scale_and_form}
+use Rattle.clap.specs.declared.builder.action.ArgAction.TheVariants.{Set}
+use Rattle.std.specs.declared.alloc.AllocError.{AllocError}
+use Rattle.loc_words.specs.Rows.{Text, CommandRow, OptionRow, Entry, is_required, is_row, given_of}
+use Rattle.loc_words.specs.declared.parser.Given.{Given}
+use Rattle.loc_words.specs.declared.row.OptionKind.{OptionKind}
+use Rattle.loc_words.specs.declared.row.OptionKind.TheVariants.{Flag}
 
 -- a place, which is required
 abbrev pub place_rule : Text → Rule
 place_rule name = record (new_rule name) { required = true }
 
--- an option that takes a value
-abbrev pub option_rule : Text → Bool → Rule
-option_rule name required = record (new_rule name) { long = Some name; required = required }
+-- an option by its full name, which takes so many values
+abbrev pub long_rule : Text → Bool → ℕ → Rule
+long_rule name required values =
+    record (new_rule name) { long = Some name; required = required; action = Some Set; range = Some (record { start_inclusive = values; end_inclusive = values }) }
 
--- a command that has no option of its own yet: no help, and its words begin behind its name
-abbrev pub bare_app : Text → App
-bare_app name = on_top (λ s. record s { disable_help_flag = true; no_binary_name = true }) (new_app name)
+-- how many values an option takes
+abbrev pub values_of : OptionKind → ℕ
+values_of Flag = 0
+values_of kind = 1
 
--- the options of a command on a layer
-abbrev pub with_layer_options : App → App
-with_layer_options app = with_rule (with_rule app (option_rule (codes "scale") true)) (option_rule (codes "form") false)
+-- an option of a row
+abbrev pub option_rule : OptionRow → Rule
+option_rule option = long_rule option.name (is_required option.kind) (values_of option.kind)
 
--- query LAYER POINTS
-abbrev pub query_app : App
-query_app = with_layer_options (with_rule (with_rule (bare_app (codes "query")) (place_rule (codes "layer"))) (place_rule (codes "points")))
+-- the places and then the options
+abbrev pub rules_of : CommandRow → List Rule
+rules_of row = map place_rule row.places ++ map option_rule row.options
 
--- check LAYER
-abbrev pub check_app : App
-check_app = with_layer_options (with_rule (bare_app (codes "check")) (place_rule (codes "layer")))
+-- a command with further rules
+abbrev pub with_rules : App → List Rule → App
+with_rules app rules = on_top (λ s. record s { rules = s.rules ++ rules }) app
 
--- a query of what was found for its places and its options
-abbrev pub query_from : Option Text → Option Text → Option (ℕ × Form) → Option Asked
-query_from layer points values = option_and_then (λ first. option_and_then (λ second. option_map (λ pair. query first second pair.0 pair.1) values) points) layer
+-- a command that has no help, and whose words begin behind its name, with these rules
+abbrev pub app_with : Text → List Rule → App
+app_with name rules = on_top (λ s. record s { disable_help_flag = true; no_binary_name = true; rules = rules }) (new_app name)
 
--- a check of what was found
-abbrev pub check_from : Option Text → Option (ℕ × Form) → Option Asked
-check_from layer values = option_and_then (λ first. option_map (λ pair. check first pair.0 pair.1) values) layer
+-- the command of a row
+abbrev pub app_of_row : CommandRow → App
+app_of_row row = app_with row.name (rules_of row)
 
--- the query that the rows of a parse make
-abbrev pub query_found : List Row → Option Asked
-query_found rows = query_from (first_of (codes "layer") rows) (first_of (codes "points") rows) (scale_and_form (first_of (codes "scale") rows) (first_of (codes "form") rows))
+-- what was found under a name
+abbrev pub entry_of : Row → Entry
+entry_of row = (row.id, slice_get row.values 0)
 
--- the check that they make
-abbrev pub check_found : List Row → Option Asked
-check_found rows = check_from (first_of (codes "layer") rows) (scale_and_form (first_of (codes "scale") rows) (first_of (codes "form") rows))
+-- all that was found
+abbrev pub given_by : Given → List Entry
+given_by given = map entry_of (rows_of (found_of given.matches))
 
--- words that are such a command by definition are taken without a fault, and the rows make that command
-abbrev pub Takes : App → (List Row → Option Asked) → (List Text → Option Asked) → Type 0
-Takes app found defined = (words : List Text) (command : Asked) → defined words ≡ Some command → (fault_of app words ≡ []) × (found (matches_of app words) ≡ Some command)
+-- what `clap` makes of words: all that it found where it takes them, nothing where it does not, or no memory
+abbrev pub Parses : App → List Text → Result (Option Given) AllocError → Type 0
+Parses app words (Ok (Some given)) = (fault_of app words ≡ []) × (given_by given ≡ map entry_of (matches_of app words))
+Parses app words (Ok None) = fault_of app words ≡ [] → ⊥
+Parses app words (Err e) = ⊤
+
+-- `clap` takes all words that give something for a row by definition, and finds what they give
+abbrev pub TakesRows : Type 0
+TakesRows = (row : CommandRow) → is_row row ≡ true → (words : List Text) (given : List Entry) → given_of row words ≡ Some given
+    → (fault_of (app_of_row row) words ≡ []) × (map entry_of (matches_of (app_of_row row) words) ≡ given)

@@ -1,4 +1,5 @@
 pub mod Apps
+pub mod Rows
 pub mod Tested
 pub mod Usage
 pub mod Words

@@ -1,75 +1,54 @@
--- The command that a list of words is: `settings` reads the options behind the places, `scale_word` and `form_word` their
--- values, and `command_of` the whole list.
-use Rattle.std.specs.Prelude.{ℕ, ◌≤◌, ◌^◌, ◌==◌, Bool, true, false, not, ◌&&◌, List, [], ◌∷◌, ◌++◌, length, codes, find, nat_lt, nat_le, if◌then◌else◌, Option, Some, None, option_map, option_and_then}
+-- The command that a list of words is: the rows of the commands, what each makes of the words that are given for its row, and
+-- `command_of` for the whole list.
+use Rattle.std.specs.Prelude.{ℕ, ◌≤◌, ◌^◌, ◌&&◌, List, [], ◌∷◌, length, codes, map, nat_lt, nat_le, if◌then◌else◌, Option, Some, None, option_map, option_and_then}
 use Rattle.std.specs.Char.{is_ascii_digit}
-use Rattle.std.specs.List.{list_all, list_any, before_first, after_first}
-use Rattle.std.specs.Str.{bytes_eq, byte}
+use Rattle.std.specs.List.{list_all}
+use Rattle.std.specs.Str.{bytes_eq}
 use Rattle.std.specs.Str.Parse.{digits_value}
 use Rattle.loc_spec_text.specs.declared.Form.{Form}
 use Rattle.loc_spec_text.specs.declared.Form.TheVariants.{Lines, Csv}
+use Rattle.loc_words.specs.Rows.{Text, CommandRow, OptionRow, Entry, given_of, value_in}
+use Rattle.loc_words.specs.declared.row.OptionKind.TheVariants.{Required, Optional}
+use Rattle.loc_words.specs.declared.row.CommandRow.{CommandRow as Row}
+use Rattle.loc_words.specs.declared.row.OptionRow.{OptionRow as Declared}
 use Rattle.loc_words.specs.declared.command.Command.{Command}
 use Rattle.loc_words.specs.declared.command.Command.TheVariants.{Query, Check}
 
--- a word
-abbrev pub Text : Type 0
-Text = List ℕ
+-- what a query says
+pub record AskedQuery : Type 0 where
+  pub layer : Text
+  pub points : Text
+  pub scale : ℕ
+  pub form : Form
+
+-- what a check says
+pub record AskedCheck : Type 0 where
+  pub layer : Text
+  pub scale : ℕ
+  pub form : Form
 
 -- a command with its values
 pub data Asked : Type 0 where
-  query : (layer points : Text) (scale : ℕ) (form : Form) → Asked
-  check : (layer : Text) (scale : ℕ) (form : Form) → Asked
+  query : AskedQuery → Asked
+  check : AskedCheck → Asked
 
 -- what a command says
 abbrev pub asked_by : Command → Asked
-asked_by (Query layer points scale form) = query layer.now points.now scale form
-asked_by (Check layer scale form) = check layer.now scale form
+asked_by (Query q) = query (record { layer = q.layer.now; points = q.points.now; scale = q.scale; form = q.form })
+asked_by (Check c) = check (record { layer = c.layer.now; scale = c.scale; form = c.form })
 
 -- the scale of a command is one that coordinates can have
 abbrev pub HasScale : Command → Type 0
-HasScale (Query layer points scale form) = scale ≤ 15
-HasScale (Check layer scale form) = scale ≤ 15
+HasScale (Query q) = q.scale ≤ 15
+HasScale (Check c) = c.scale ≤ 15
 
--- a place or a value: not empty, and it does not begin with "-"
-abbrev pub is_value : Text → Bool
-is_value [] = false
-is_value (first ∷ word) = not (first == byte "-")
+-- an option as the program has it
+abbrev pub option_of : Declared → OptionRow
+option_of o = record { name = o.name.now; kind = o.kind }
 
--- the sign between an option and its value
-abbrev pub is_equals : ℕ → Bool
-is_equals sign = sign == byte "="
-
--- an option as it stands in the words, and its value
-abbrev pub Setting : Type 0
-Setting = Text × Text
-
--- one setting more in front, if its value is one
-abbrev pub with_setting : Text → Text → Option (List Setting) → Option (List Setting)
-with_setting option value None = None
-with_setting option value (Some settings) = if is_value value then Some ((option, value) ∷ settings) else None
-
--- the settings from the left: `--name=value` in one word, cut at its first "=", or `--name` and its value in two
-abbrev pub settings : List Text → Option (List Setting)
-settings [] = Some []
-settings (word ∷ []) = if list_any is_equals word then with_setting (before_first is_equals word) (after_first is_equals word) (Some []) else None
-settings (word ∷ next ∷ words) = if list_any is_equals word then with_setting (before_first is_equals word) (after_first is_equals word) (settings (next ∷ words))
-    else with_setting word next (settings words)
-
--- the option stands in the words by its full name
-abbrev pub is_option : Text → Text → Bool
-is_option option name = bytes_eq option (codes "--" ++ name)
-
--- the value of the option of that name, where it stands
-abbrev pub value_in : List Setting → Text → Option Text
-value_in found name = option_map (λ setting. setting.1) (find (λ setting. is_option setting.0 name) found)
-
--- each setting is of one of the options, and no two are of the same
-abbrev pub are_of : List Text → List Setting → Bool
-are_of names [] = true
-are_of names (setting ∷ found) = list_any (is_option setting.0) names && not (list_any (λ other. bytes_eq setting.0 other.0) found) && are_of names found
-
--- the settings of these options that the words are
-abbrev pub settings_of : List Text → List Text → Option (List Setting)
-settings_of names words = option_and_then (λ found. if are_of names found then Some found else None) (settings words)
+-- a row as the program has it
+abbrev pub row_of : Row → CommandRow
+row_of r = record { name = r.name.now; places = map (λ place. place.now) r.places.now; options = map option_of r.options.now }
 
 -- a number: 1 to 20 ASCII digits with a value below 2 ^ 64
 abbrev pub number_word : Text → Option ℕ
@@ -94,26 +73,33 @@ abbrev pub scale_and_form : Option Text → Option Text → Option (ℕ × Form)
 scale_and_form scale form = option_and_then (λ number. option_map (λ kind. (number, kind)) (form_or_lines form)) (option_and_then scale_word scale)
 
 -- the options of a command on a layer
-abbrev pub layer_options : List Text
-layer_options = codes "scale" ∷ codes "form" ∷ []
+abbrev pub layer_options : List OptionRow
+layer_options = record { name = codes "scale"; kind = Required } ∷ record { name = codes "form"; kind = Optional } ∷ []
 
--- a command on a layer, of its scale and its form
-abbrev pub with_layer : (ℕ → Form → Asked) → List Setting → Option Asked
-with_layer asked found = option_map (λ values. asked values.0 values.1) (scale_and_form (value_in found (codes "scale")) (value_in found (codes "form")))
+-- query LAYER POINTS
+abbrev pub query_row : CommandRow
+query_row = record { name = codes "query"; places = codes "layer" ∷ codes "points" ∷ []; options = layer_options }
 
--- query LAYER POINTS and its settings
-abbrev pub query_of : List Text → Option Asked
-query_of (layer ∷ points ∷ words) = if is_value layer && is_value points
-    then option_and_then (with_layer (query layer points)) (settings_of layer_options words) else None
-query_of _ = None
+-- check LAYER
+abbrev pub check_row : CommandRow
+check_row = record { name = codes "check"; places = codes "layer" ∷ []; options = layer_options }
 
--- check LAYER and its settings
-abbrev pub check_of : List Text → Option Asked
-check_of (layer ∷ words) = if is_value layer then option_and_then (with_layer (check layer)) (settings_of layer_options words) else None
-check_of _ = None
+-- the query of what was given
+abbrev pub query_from : List Entry → Option Asked
+query_from given = option_and_then (λ layer. option_and_then (λ points. option_map (λ values. query (record { layer = layer; points = points; scale = values.0; form = values.1 }))
+    (scale_and_form (value_in given (codes "scale")) (value_in given (codes "form")))) (value_in given (codes "points"))) (value_in given (codes "layer"))
+
+-- the check of what was given
+abbrev pub check_from : List Entry → Option Asked
+check_from given = option_and_then (λ layer. option_map (λ values. check (record { layer = layer; scale = values.0; form = values.1 }))
+    (scale_and_form (value_in given (codes "scale")) (value_in given (codes "form")))) (value_in given (codes "layer"))
+
+-- the command of this name that the words behind it are, if they are one
+abbrev pub command_named : Text → List Text → Option Asked
+command_named name words = if bytes_eq name query_row.name then option_and_then query_from (given_of query_row words)
+    else if bytes_eq name check_row.name then option_and_then check_from (given_of check_row words) else None
 
 -- the command that the words are, if they are one: the first word names it
 unfoldable pub command_of : List Text → Option Asked
 command_of [] = None
-command_of (name ∷ words) = if bytes_eq name (codes "query") then query_of words
-    else if bytes_eq name (codes "check") then check_of words else None
+command_of (name ∷ words) = command_named name words

@@ -1,87 +1,104 @@
 //! The command that words are.
-ghost use Rattle.std.specs.Prelude.{◌≡◌, IfErr, IfOk, IfSome, None, Some, codes, map, option_map, string_bytes};
-ghost use Rattle.clap.specs.Words.{first_value, found_of};
-ghost use Rattle.loc_words.specs.Apps as apps;
+ghost use Rattle.std.specs.Prelude.{◌≡◌, IfErr, IfOk, IfSome, None, Some, map, option_and_then, option_map, string_bytes};
+ghost use Rattle.loc_words.specs.Apps.{given_by};
 ghost use Rattle.loc_words.specs.Words as spec;
 
-use crate::parser::{check_parser, query_parser, read_words};
+use crate::parser::{Given, read_row};
+use crate::row::{CommandRow, OptionKind, OptionRow};
 use crate::values::read_scale_and_form;
-use crate::words::are_tested;
 use crate::{Form, WordsFault};
-use clap::ArgMatches;
-use std::alloc::Global;
+use std::alloc::{AllocError, Global};
 
-/// A command with its values. Its places are as they stand in the words.
+/// A command with its values.
 #[derive(Clone, Copy, Debug, PartialEq, Eq)]
 pub enum Command<'a> {
     /// Answers to the points of a file, against a layer.
-    Query {
-        layer: &'a str,
-        points: &'a str,
-        scale: u8,
-        form: Form,
-    },
+    Query(Query<'a>),
     /// The counts of a layer.
-    Check {
-        layer: &'a str,
-        scale: u8,
-        form: Form,
-    },
+    Check(Check<'a>),
 }
 
-// The query that `clap` found.
-fn query_from<'a>(matches: &ArgMatches<'a>) -> Option<Command<'a>>
+/// What a query says. Its places are as they stand in the words.
+#[derive(Clone, Copy, Debug, PartialEq, Eq)]
+pub struct Query<'a> {
+    pub layer: &'a str,
+    pub points: &'a str,
+    pub scale: u8,
+    pub form: Form,
+}
+
+/// What a check says.
+#[derive(Clone, Copy, Debug, PartialEq, Eq)]
+pub struct Check<'a> {
+    pub layer: &'a str,
+    pub scale: u8,
+    pub form: Form,
+}
+
+// The options of a command on a layer.
+const LAYER_OPTIONS: [OptionRow<'static>; 2] = [
+    OptionRow {
+        name: "scale",
+        kind: OptionKind::Required,
+    },
+    OptionRow {
+        name: "form",
+        kind: OptionKind::Optional,
+    },
+];
+
+const QUERY: CommandRow<'static> = CommandRow {
+    name: "query",
+    places: &["layer", "points"],
+    options: &LAYER_OPTIONS,
+};
+
+const CHECK: CommandRow<'static> = CommandRow {
+    name: "check",
+    places: &["layer"],
+    options: &LAYER_OPTIONS,
+};
+
+fn query_from<'a>(given: Option<Given<'a>>) -> Option<Command<'a>>
     ensures scale { IfSome result spec.HasScale }
-    ensures value { option_map spec.asked_by result ≡ apps.query_from (first_value (found_of matches.now) (codes "layer"))
-        (first_value (found_of matches.now) (codes "points"))
-        (spec.scale_and_form (first_value (found_of matches.now) (codes "scale")) (first_value (found_of matches.now) (codes "form"))) }
+    ensures value { option_map spec.asked_by result ≡ option_and_then spec.query_from (option_map given_by given.entry) }
 {
-    let layer = matches.get_str("layer")?;
-    let points = matches.get_str("points")?;
-    let (scale, form) = read_scale_and_form(matches.get_str("scale"), matches.get_str("form"))?;
-    Some(Command::Query {
+    let given = given?;
+    let layer = given.value("layer")?;
+    let points = given.value("points")?;
+    let (scale, form) = read_scale_and_form(given.value("scale"), given.value("form"))?;
+    Some(Command::Query(Query {
         layer,
         points,
         scale,
         form,
-    })
+    }))
 }
 
-// The check that `clap` found.
-fn check_from<'a>(matches: &ArgMatches<'a>) -> Option<Command<'a>>
+fn check_from<'a>(given: Option<Given<'a>>) -> Option<Command<'a>>
     ensures scale { IfSome result spec.HasScale }
-    ensures value { option_map spec.asked_by result ≡ apps.check_from (first_value (found_of matches.now) (codes "layer"))
-        (spec.scale_and_form (first_value (found_of matches.now) (codes "scale")) (first_value (found_of matches.now) (codes "form"))) }
+    ensures value { option_map spec.asked_by result ≡ option_and_then spec.check_from (option_map given_by given.entry) }
 {
-    let layer = matches.get_str("layer")?;
-    let (scale, form) = read_scale_and_form(matches.get_str("scale"), matches.get_str("form"))?;
-    Some(Command::Check { layer, scale, form })
+    let given = given?;
+    let layer = given.value("layer")?;
+    let (scale, form) = read_scale_and_form(given.value("scale"), given.value("form"))?;
+    Some(Command::Check(Check { layer, scale, form }))
 }
 
-// The words behind `query`.
-fn query_of<'a>(alloc: Global, words: &'a [String]) -> Result<Command<'a>, WordsFault>
-    ensures ok { IfOk result (λ c. spec.query_of (map string_bytes words.now) ≡ Some (spec.asked_by c)) }
-    ensures scale { IfOk result spec.HasScale }
-    ensures refused { IfErr result (λ e. e ≡ WordsFault.Refused → spec.query_of (map string_bytes words.now) ≡ None) }
+// The command of this name that the words behind it are.
+fn command_named<'a>(
+    alloc: Global,
+    name: &str,
+    words: &'a [String],
+) -> Result<Option<Command<'a>>, AllocError>
+    ensures scale { IfOk result (λ command. IfSome command spec.HasScale) }
+    ensures value { IfOk result (λ command. option_map spec.asked_by command ≡ spec.command_named name.now (map string_bytes words.now)) }
 {
-    if !are_tested(words, 2) {
-        return Err(WordsFault::Refused);
+    match name {
+        "query" => Ok(query_from(read_row(alloc, &QUERY, words)?)),
+        "check" => Ok(check_from(read_row(alloc, &CHECK, words)?)),
+        _ => Ok(None),
     }
-    let matches = read_words(query_parser(alloc)?, words)?;
-    query_from(&matches).ok_or(WordsFault::Refused)
-}
-
-// The words behind `check`.
-fn check_of<'a>(alloc: Global, words: &'a [String]) -> Result<Command<'a>, WordsFault>
-    ensures ok { IfOk result (λ c. spec.check_of (map string_bytes words.now) ≡ Some (spec.asked_by c)) }
-    ensures scale { IfOk result spec.HasScale }
-    ensures refused { IfErr result (λ e. e ≡ WordsFault.Refused → spec.check_of (map string_bytes words.now) ≡ None) }
-{
-    if !are_tested(words, 1) {
-        return Err(WordsFault::Refused);
-    }
-    let matches = read_words(check_parser(alloc)?, words)?;
-    check_from(&matches).ok_or(WordsFault::Refused)
 }
 
 /// The command that the words are.
@@ -90,12 +107,8 @@ pub fn command_of<'a>(alloc: Global, words: &'a [String]) -> Result<Command<'a>,
     ensures scale { IfOk result spec.HasScale }
     ensures refused { IfErr result (λ e. e ≡ WordsFault.Refused → spec.command_of (map string_bytes words.now) ≡ None) }
 {
-    let [name, rest @ ..] = words else {
+    let Some((name, rest)) = words.split_first() else {
         return Err(WordsFault::Refused);
     };
-    match name.as_str() {
-        "query" => query_of(alloc, rest),
-        "check" => check_of(alloc, rest),
-        _ => Err(WordsFault::Refused),
-    }
+    command_named(alloc, name, rest)?.ok_or(WordsFault::Refused)
 }

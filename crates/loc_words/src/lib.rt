@@ -7,13 +7,14 @@
 mod command;
 mod fault;
 mod parser;
+mod row;
 #[cfg(test)]
 mod tests;
 mod usage;
 mod values;
 mod words;
 
-pub use command::{Command, command_of};
+pub use command::{Check, Command, Query, command_of};
 pub use fault::WordsFault;
 pub use loc_spec_text::Form;
 pub use parser::clap_takes_commands;

@@ -61,17 +61,10 @@ const ROWS: [(&str, Option<(u8, u8, Form)>); 44] = [
 // The places, the scale and the form of a command on "a", and "b".
 fn values_of(command: Command<'_>) -> Option<(u8, u8, Form)> {
     match command {
-        Command::Query {
-            layer: "a",
-            points: "b",
-            scale,
-            form,
-        } => Some((2, scale, form)),
-        Command::Check {
-            layer: "a",
-            scale,
-            form,
-        } => Some((1, scale, form)),
+        Command::Query(query) if query.layer == "a" && query.points == "b" => {
+            Some((2, query.scale, query.form))
+        }
+        Command::Check(check) if check.layer == "a" => Some((1, check.scale, check.form)),
         _ => None,
     }
 }

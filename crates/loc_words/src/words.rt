@@ -2,7 +2,7 @@
 ghost use Rattle.std.specs.Prelude.{◌≡◌, map, string_bytes};
 ghost use Rattle.std.specs.List.{list_all};
 ghost use Rattle.loc_words.specs.Tested as tested;
-ghost use Rattle.loc_words.specs.Words as spec;
+ghost use Rattle.loc_words.specs.Rows as spec;
 
 /// Whether the word is a place or a value: not empty, and it does not begin with a hyphen.
 pub(crate) fn is_value(word: &str) -> bool

@@ -2,7 +2,7 @@ use Rattle.std.proofs.Common.{◌-◌, ◌≡◌, ◌∙◌, ap, sym, true, map,
 use Rattle.std.specs.List.{list_all}
 use Rattle.std.proofs.lemmas.Bool.{le-leb}
 use Rattle.std.proofs.lemmas.List.{take-map, drop-map, length-map}
-use Rattle.loc_words.specs.Words.{is_value}
+use Rattle.loc_words.specs.Rows.{is_value}
 use Rattle.loc_words.specs.Tested.{is_tested}
 use Rattle.loc_words.proofs.words.are_tested.Goals as goal
 

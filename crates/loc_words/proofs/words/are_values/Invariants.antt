@@ -1,6 +1,6 @@
 use Rattle.std.proofs.Common.{◌≡◌, drop, map, string_bytes}
 use Rattle.std.specs.List.{list_all}
-use Rattle.loc_words.specs.Words.{is_value}
+use Rattle.loc_words.specs.Rows.{is_value}
 use Rattle.loc_words.proofs.words.are_values.Given as goal
 
 abbrev pub invariant-loop-word : goal.invariant-loop-word
