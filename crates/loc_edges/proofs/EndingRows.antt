@@ -1,14 +1,14 @@
--- The rows of the edges that end at each corner, as one edge after another is put there; and the pairs of numbers rise by their first.
-use Rattle.std.proofs.Common.{◌≡◌, ℕ, ◌+◌, ◌-◌, ◌<◌, ◌≤◌, true, not, List, [], ◌∷◌, ◌++◌, length, get_or, set, map, replicate, refl, sym, ◌∙◌, ap, inl, inr, arith, length-append}
-use Rattle.std.specs.Prelude.{nat_lt, ◌==◌, ◌&&◌, filter}
+-- Items behind keys in order: the rows of the keys, as one item after another is put there, and the order in them.
+use Rattle.std.proofs.Common.{◌≡◌, ℕ, ◌+◌, ◌-◌, ◌<◌, ◌≤◌, Bool, true, not, List, [], ◌∷◌, ◌++◌, length, get_or, set, map, replicate, refl, sym, ◌∙◌, ap, subst, inl, inr, arith, length-append}
+use Rattle.std.specs.Prelude.{nat_lt, ◌==◌, ◌&&◌, ◌||◌, filter}
+use Rattle.std.specs.List.{list_all}
 use Rattle.std.specs.List.Sorted.{IsNonDecreasingBy, IsStableByKey}
 use Rattle.std.specs.Ordering.{nat_cmp, is_lt}
-use Rattle.std.proofs.lemmas.Bool.{cases_eq, cases_lt, cases_order, cases_Bool, cond-true, cond-false, eq-eqb, ne_eqb, eqb-true, ltb-true, or_cases, and_parts}
+use Rattle.std.proofs.lemmas.Bool.{cases_eq, cases_lt, cases_order, cases_Bool, cond-true, cond-false, eq-eqb, ne_eqb, eqb-true, ltb-true, or_cases, and_parts, and_from}
 use Rattle.std.proofs.lemmas.List.{append-nil, map-append, get_or_append_left, get_or-append_right, get_or-replicate, length-replicate, same_lists}
 use Rattle.std.proofs.lemmas.List.Elements.{filter-append, filter_agree}
 use Rattle.std.proofs.lemmas.List.FromFn.{length-map-range_with_len, get_or-map-range_with_len}
 use Rattle.loc_spec_plane.specs.Lists.{numbers, is_rising}
-use Rattle.loc_spec_plane.specs.Tables.{pair_before}
 use Rattle.loc_laws_order.proofs.TableOrder.{rises}
 use Rattle.loc_edges.specs.Ending.{row_of}
 use Rattle.loc_edges.proofs.RowLists.{set_number}
@@ -41,36 +41,36 @@ row_of-stable xs ys stable c = ap (map (λ (pair : ℕ × ℕ). pair.1)) (sym (a
 
 -- ---- rows that grow
 -- rows as far as some key, behind which there is none
-pub record IsGrown (keyed : List (ℕ × ℕ)) (rows : List (List ℕ)) : Type 0 where
+pub record IsGrown {X : Type 0} (keyed : List (ℕ × X)) (rows : List (List X)) : Type 0 where
   pub rows_are : rows ≡ map (row_of keyed) (numbers (length rows))
   pub none_behind : (c : ℕ) → length rows ≤ c → row_of keyed c ≡ []
 
 -- with empty rows behind them
-pub rows_behind : (keyed : List (ℕ × ℕ)) (rows : List (List ℕ)) (count : ℕ) → IsGrown keyed rows → length rows ≤ count → rows ++ replicate (count - length rows) [] ≡ map (row_of keyed) (numbers count)
-rows_behind keyed rows count h le = same_lists _ _ (omega (arith, long, length-map-range_with_len (row_of keyed) 0 count)) (λ n d lt. at n d (omega (arith, long)))
+pub rows_behind : {X : Type 0} (keyed : List (ℕ × X)) (rows : List (List X)) (count : ℕ) → IsGrown keyed rows → length rows ≤ count → rows ++ replicate (count - length rows) [] ≡ map (row_of keyed) (numbers count)
+rows_behind {X} keyed rows count h le = same_lists _ _ (omega (arith, long, length-map-range_with_len (row_of keyed) 0 count)) (λ n d lt. at n d (omega (arith, long)))
   where
-    no_items : List ℕ
+    no_items : List X
     no_items = []
 
     long : length (rows ++ replicate (count - length rows) []) ≡ count
     long = omega (arith, length-append rows (replicate (count - length rows) []), length-replicate (count - length rows) no_items)
 
-    at : (n : ℕ) (d : List ℕ) → n < count → get_or (rows ++ replicate (count - length rows) []) n d ≡ get_or (map (row_of keyed) (numbers count)) n d
+    at : (n : ℕ) (d : List X) → n < count → get_or (rows ++ replicate (count - length rows) []) n d ≡ get_or (map (row_of keyed) (numbers count)) n d
     at n d lt = elim (cases_lt n (length rows)) [
       | inl before ↦ get_or_append_left rows (replicate (count - length rows) []) d n before ∙ (ap (λ rs. get_or rs n d) h.rows_are ∙ get_or-map-range_with_len (row_of keyed) 0 (length rows) n n d before (omega arith))
       | inr past ↦ get_or-append_right rows (replicate (count - length rows) []) (length rows) n d refl past ∙ (get_or-replicate (count - length rows) (n - length rows) [] d (omega arith) ∙ sym (h.none_behind n past))
     ] ∙ sym (get_or-map-range_with_len (row_of keyed) 0 count n n d lt (omega arith))
 
-module _ (keyed : List (ℕ × ℕ)) (key x : ℕ) where
+module _ {X : Type 0} (keyed : List (ℕ × X)) (key : ℕ) (x : X) where
   -- the row of the key gets the number, and no other does
   row_here : row_of (keyed ++ (key, x) ∷ []) key ≡ row_of keyed key ++ x ∷ []
-  row_here = ap (map (λ (pair : ℕ × ℕ). pair.1)) (filter-append (λ (pair : ℕ × ℕ). pair.0 == key) keyed ((key, x) ∷ []) ∙ ap (λ ps. filter (λ (pair : ℕ × ℕ). pair.0 == key) keyed ++ ps) (cond-true _ _ _ (eq-eqb key key refl))) ∙ map-append _ _ _
+  row_here = ap (map (λ (pair : ℕ × X). pair.1)) (filter-append (λ (pair : ℕ × X). pair.0 == key) keyed ((key, x) ∷ []) ∙ ap (λ ps. filter (λ (pair : ℕ × X). pair.0 == key) keyed ++ ps) (cond-true _ _ _ (eq-eqb key key refl))) ∙ map-append _ _ _
 
   row_elsewhere : (c : ℕ) → (key ≡ c → ⊥) → row_of (keyed ++ (key, x) ∷ []) c ≡ row_of keyed c
-  row_elsewhere c other = ap (map (λ (pair : ℕ × ℕ). pair.1)) (filter-append (λ (pair : ℕ × ℕ). pair.0 == c) keyed ((key, x) ∷ []) ∙ (ap (λ ps. filter (λ (pair : ℕ × ℕ). pair.0 == c) keyed ++ ps) (cond-false _ _ _ (ne_eqb _ _ other)) ∙ append-nil _))
+  row_elsewhere c other = ap (map (λ (pair : ℕ × X). pair.1)) (filter-append (λ (pair : ℕ × X). pair.0 == c) keyed ((key, x) ∷ []) ∙ (ap (λ ps. filter (λ (pair : ℕ × X). pair.0 == c) keyed ++ ps) (cond-false _ _ _ (ne_eqb _ _ other)) ∙ append-nil _))
 
   -- rows up to the key are started, and the last gets the number
-  pub grown_more : (rows started grown : List (List ℕ)) → IsGrown keyed rows → length rows ≤ key + 1 → started ≡ rows ++ replicate (key + 1 - length rows) [] → grown ≡ set started (length started - 1) (get_or started (length started - 1) [] ++ x ∷ []) → IsGrown (keyed ++ (key, x) ∷ []) grown × (length grown ≡ key + 1)
+  pub grown_more : (rows started grown : List (List X)) → IsGrown keyed rows → length rows ≤ key + 1 → started ≡ rows ++ replicate (key + 1 - length rows) [] → grown ≡ set started (length started - 1) (get_or started (length started - 1) [] ++ x ∷ []) → IsGrown (keyed ++ (key, x) ∷ []) grown × (length grown ≡ key + 1)
   grown_more rows started grown h le started_is grown_is = (record { rows_are = are ∙ ap (λ n. map (row_of (keyed ++ (key, x) ∷ [])) (numbers n)) (sym many); none_behind = λ c past. row_elsewhere c (λ same. omega (arith, many)) ∙ h.none_behind c (omega (arith, many)) }, many)
     where
       now : started ≡ map (row_of keyed) (numbers (key + 1))
@@ -95,16 +95,47 @@ module _ (keyed : List (ℕ × ℕ)) (key x : ℕ) where
       many = ap length are ∙ length-map-range_with_len (row_of (keyed ++ (key, x) ∷ [])) 0 (key + 1)
 
 -- ---- pairs in order
--- a pair that comes before another has no greater first number
-first_up : (a b : ℕ × ℕ) → pair_before a b ≡ true → a.0 ≤ b.0
-first_up a b h = elim (or_cases (nat_lt a.0 b.0) ((a.0 == b.0) && nat_lt a.1 b.1) h) [
-  | inl less ↦ (let lt : a.0 < b.0 = ltb-true a.0 b.0 less in omega arith)
-  | inr tied ↦ (let same : a.0 ≡ b.0 = eqb-true a.0 b.0 (and_parts (a.0 == b.0) (nat_lt a.1 b.1) tied).0 in omega arith)
-]
+module _ {X : Type 0} (tie : X → X → Bool) where
+  -- by the first number, and then by what stands behind it
+  abbrev keyed_before : ℕ × X → ℕ × X → Bool
+  keyed_before a b = nat_lt a.0 b.0 || ((a.0 == b.0) && tie a.1 b.1)
 
--- pairs in order have their first numbers in order
-pub firsts_rise : (ends : List (ℕ × ℕ)) → is_rising pair_before ends ≡ true → IsNonDecreasingBy (λ (p : ℕ × ℕ). p.0) ends
-firsts_rise ends up i j d le fits = elim (cases_eq i j) [
-  | inl same ↦ (let e : (get_or ends i d).0 ≡ (get_or ends j d).0 = ap (λ k. (get_or ends k d).0) same in omega arith)
-  | inr differ ↦ first_up (get_or ends i d) (get_or ends j d) (rises pair_before d ends i j up (omega arith) fits)
-]
+  -- a pair that comes before another has no greater first number
+  first_up : (a b : ℕ × X) → keyed_before a b ≡ true → a.0 ≤ b.0
+  first_up a b h = elim (or_cases (nat_lt a.0 b.0) ((a.0 == b.0) && tie a.1 b.1) h) [
+    | inl less ↦ (let lt : a.0 < b.0 = ltb-true a.0 b.0 less in omega arith)
+    | inr tied ↦ (let same : a.0 ≡ b.0 = eqb-true a.0 b.0 (and_parts (a.0 == b.0) (tie a.1 b.1) tied).0 in omega arith)
+  ]
+
+  -- pairs in order have their first numbers in order
+  pub firsts_rise : (pairs : List (ℕ × X)) → is_rising keyed_before pairs ≡ true → IsNonDecreasingBy (λ (p : ℕ × X). p.0) pairs
+  firsts_rise pairs up i j d le fits = elim (cases_eq i j) [
+    | inl same ↦ (let e : (get_or pairs i d).0 ≡ (get_or pairs j d).0 = ap (λ k. (get_or pairs k d).0) same in omega arith)
+    | inr differ ↦ first_up (get_or pairs i d) (get_or pairs j d) (rises keyed_before d pairs i j up (omega arith) fits)
+  ]
+
+  -- what stands behind a number comes after one that stands before it behind the same
+  row_later : (x : X) (c : ℕ) (pairs : List (ℕ × X)) → list_all (keyed_before (c, x)) pairs ≡ true → list_all (tie x) (row_of pairs c) ≡ true
+  row_later x c [] h = refl
+  row_later x c (p ∷ ps) h =
+      let parts = and_parts (keyed_before (c, x) p) (list_all (keyed_before (c, x)) ps) h in
+      elim (cases_Bool (p.0 == c)) [
+        | inl here ↦ ap (λ qs. list_all (tie x) (map (λ (q : ℕ × X). q.1) qs)) (cond-true _ _ _ here) ∙ and_from (tie x p.1) _ (tied (eqb-true p.0 c here) parts.0) (row_later x c ps parts.1)
+        | inr other ↦ ap (λ qs. list_all (tie x) (map (λ (q : ℕ × X). q.1) qs)) (cond-false _ _ _ other) ∙ row_later x c ps parts.1
+      ]
+    where
+      tied : p.0 ≡ c → keyed_before (c, x) p ≡ true → tie x p.1 ≡ true
+      tied same lies = elim (or_cases (nat_lt c p.0) ((c == p.0) && tie x p.1) lies) [
+        | inl less ↦ (let lt : c < p.0 = ltb-true c p.0 less in absurd (omega arith))
+        | inr at ↦ (and_parts (c == p.0) (tie x p.1) at).1
+      ]
+
+  -- what stands behind a number is in order
+  pub row_rises : (c : ℕ) (pairs : List (ℕ × X)) → is_rising keyed_before pairs ≡ true → is_rising tie (row_of pairs c) ≡ true
+  row_rises c [] h = refl
+  row_rises c (p ∷ ps) h =
+      let parts = and_parts (list_all (keyed_before p) ps) (is_rising keyed_before ps) h in
+      elim (cases_Bool (p.0 == c)) [
+        | inl here ↦ ap (λ qs. is_rising tie (map (λ (q : ℕ × X). q.1) qs)) (cond-true _ _ _ here) ∙ and_from (list_all (tie p.1) (row_of ps c)) _ (row_later p.1 c ps (subst (λ n. list_all (keyed_before (n, p.1)) ps ≡ true) (eqb-true p.0 c here) parts.0)) (row_rises c ps parts.1)
+        | inr other ↦ ap (λ qs. is_rising tie (map (λ (q : ℕ × X). q.1) qs)) (cond-false _ _ _ other) ∙ row_rises c ps parts.1
+      ]

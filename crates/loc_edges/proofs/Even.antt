@@ -1,5 +1,5 @@
 -- The table of a layer of closed rings: every corner is an end, and marks are even at every corner.
-use Rattle.std.proofs.Common.{◌≡◌, ℕ, zero, suc, ◌+◌, ◌-◌, ◌<◌, ◌≤◌, Bool, true, false, ◌||◌, ◌&&◌, Some, List, [], ◌∷◌, length, get_or, map, refl, sym, ◌∙◌, ap, subst, inl, inr, ◌⊎◌, arith}
+use Rattle.std.proofs.Common.{◌≡◌, ℕ, zero, suc, ◌+◌, ◌-◌, ◌<◌, ◌≤◌, Bool, true, false, ◌||◌, ◌&&◌, Some, List, [], ◌∷◌, length, get_or, refl, sym, ◌∙◌, ap, subst, inl, inr, ◌⊎◌, arith}
 use Rattle.std.specs.Prelude.{◌==◌, All, slice_get}
 use Rattle.std.specs.List.{list_any, list_all, filter_map, enumerate_from, cons_option, range_with_len}
 use Rattle.std.proofs.lemmas.Bool.{cases_Bool, cases_eq, cases_lt, cond-true, cond-false, false_from_ne_true, both_ways, not_from_false, and_parts, eq-eqb, ne_eqb}
@@ -9,20 +9,18 @@ use Rattle.loc_spec_plane.specs.declared.Mark.{Mark}
 use Rattle.loc_spec_plane.specs.Points.{Point, Edge, before, same_point, same_edge, edge_before, is_end}
 use Rattle.loc_spec_plane.specs.Lists.{numbers, exactly_one, odd_many, is_rising}
 use Rattle.loc_spec_plane.specs.Rings.{Ring, Rings, ring_segments, segments, segment_between}
-use Rattle.loc_spec_plane.specs.Tables.{Table, table_of, table_by, corner_numbers, corner, ends_at, has_odd, edge_marks, mark_of, whole, pieces_of, layer_segments, layer_corners, AllEnds, AllEven}
+use Rattle.loc_spec_plane.specs.Tables.{table_of, table_by, corner, ends_at, has_odd, edge_marks, mark_of, whole, pieces_of, layer_segments, layer_corners, AllEnds, AllEven}
 use Rattle.loc_laws_order.proofs.Sides.{same_point-true, same_point_refl}
 use Rattle.loc_laws_order.proofs.Tests.{same_edge_decides}
 use Rattle.loc_laws_order.proofs.TableOrder.{is_end_is, origin_point}
 use Rattle.loc_laws_rays.proofs.Parity.{exactly_one_chain, exactly_one_same, exactly_one-false, odd_many-exactly_one, odd_many-same, odd_many-append, never}
 use Rattle.loc_rings.specs.Values.{IsRing}
-use Rattle.loc_edges.specs.Ending.{ending_among}
-use Rattle.loc_edges.specs.Kept.{IsSmallLayer, IsKept}
 use Rattle.loc_edges.specs.Layers.{ends_of}
 use Rattle.loc_edges.proofs.Layers.{pieces_of-whole, pieces_rise, corners_from_edges, any-ends_of}
 use Rattle.loc_edges.proofs.MarkRows.{is_hit, odd_none}
 use Rattle.loc_edges.proofs.Ordered.{edge_is_piece, as_many_ends, table_of-is_table}
 use Rattle.loc_edges.proofs.Orders.{points_by_before, edges_by_before}
-use Rattle.loc_edges.proofs.Counts.{few_corners, few_edges, or_true}
+use Rattle.loc_edges.proofs.Counts.{or_true}
 use Rattle.loc_edges.proofs.SortedSet.{any-sorted_set, irrefl}
 
 -- ---- rings
@@ -109,7 +107,7 @@ module _ (q : Edge → Bool) (s : Edge) where
       all_part false = refl
 
 -- the segments by a test are counted by the edges, each as often as it is a segment
-by_edges : (q : Edge → Bool) (es ss : List Edge) → is_rising edge_before es ≡ true → ((s : Edge) → list_any (same_edge s) ss ≡ true → list_any (same_edge s) es ≡ true) → odd_many (λ e. q e && odd_many (same_edge e) ss) es ≡ odd_many q ss
+pub by_edges : (q : Edge → Bool) (es ss : List Edge) → is_rising edge_before es ≡ true → ((s : Edge) → list_any (same_edge s) ss ≡ true → list_any (same_edge s) es ≡ true) → odd_many (λ e. q e && odd_many (same_edge e) ss) es ≡ odd_many q ss
 by_edges q es [] up part = odd_many-same (λ e. q e && false) (λ e. false) es (λ e. no_part (q e)) ∙ never es
   where
     no_part : (t : Bool) → (t && false) ≡ false
@@ -167,20 +165,20 @@ module _ (e : Edge) (f : ℕ) where
 
 -- ---- the table
 -- numbers stand for the members of a list
-odd_by_number : {X : Type 0} (g : ℕ → Bool) (h : X → Bool) (xs : List X) (a : ℕ) → ((k : ℕ) (d : X) → k < length xs → g (a + k) ≡ h (get_or xs k d)) → odd_many g (range_with_len a (length xs)) ≡ odd_many h xs
+pub odd_by_number : {X : Type 0} (g : ℕ → Bool) (h : X → Bool) (xs : List X) (a : ℕ) → ((k : ℕ) (d : X) → k < length xs → g (a + k) ≡ h (get_or xs k d)) → odd_many g (range_with_len a (length xs)) ≡ odd_many h xs
 odd_by_number g h [] a same = refl
 odd_by_number g h (x ∷ xs) a same =
     let first : a ≡ a + 0 = omega arith in
     ap (λ t. exactly_one t (odd_many g (range_with_len (a + 1) (length xs)))) (ap g first ∙ same 0 x (omega arith)) ∙ ap (exactly_one (h x)) (odd_by_number g h xs (a + 1) (λ k d lt. (let next : (a + 1) + k ≡ a + suc k = omega arith in ap g next ∙ same (suc k) d (omega arith))))
 
-any_by_number : {X : Type 0} (g : ℕ → Bool) (h : X → Bool) (xs : List X) (a : ℕ) → ((k : ℕ) (d : X) → k < length xs → g (a + k) ≡ h (get_or xs k d)) → list_any g (range_with_len a (length xs)) ≡ list_any h xs
+pub any_by_number : {X : Type 0} (g : ℕ → Bool) (h : X → Bool) (xs : List X) (a : ℕ) → ((k : ℕ) (d : X) → k < length xs → g (a + k) ≡ h (get_or xs k d)) → list_any g (range_with_len a (length xs)) ≡ list_any h xs
 any_by_number g h [] a same = refl
 any_by_number g h (x ∷ xs) a same =
     let first : a ≡ a + 0 = omega arith in
     ap (λ t. t || list_any g (range_with_len (a + 1) (length xs))) (ap g first ∙ same 0 x (omega arith)) ∙ ap (λ t. h x || t) (any_by_number g h xs (a + 1) (λ k d lt. (let next : (a + 1) + k ≡ a + suc k = omega arith in ap g next ∙ same (suc k) d (omega arith))))
 
 -- the segments of a feature are segments of the layer
-segments_part : (p : Edge → Bool) (layer : List Rings) (f : ℕ) → list_any p (segments (get_or layer f [])) ≡ true → list_any p (layer_segments layer) ≡ true
+pub segments_part : (p : Edge → Bool) (layer : List Rings) (f : ℕ) → list_any p (segments (get_or layer f [])) ≡ true → list_any p (layer_segments layer) ≡ true
 segments_part p [] f h = h
 segments_part p (r ∷ rs) zero h = list_any-append p (segments r) (layer_segments rs) ∙ ap (λ t. t || list_any p (layer_segments rs)) h
 segments_part p (r ∷ rs) (suc f) h = list_any-append p (segments r) (layer_segments rs) ∙ (ap (λ t. list_any p (segments r) || t) (segments_part p rs f h) ∙ or_true (list_any p (segments r)))
@@ -203,7 +201,7 @@ module _ (layer : List Rings) where
       ∙ list_any_at (same_point p) (layer_corners layer) c origin_point short (same_point_refl p)))))
 
   -- the mark of feature f in row k is odd where it has the piece an odd number of times
-  piece_odd : (f k : ℕ) (d : Edge) → k < length (pieces_of whole layer) → has_odd (table_of layer) f k ≡ odd_many (same_edge (get_or (pieces_of whole layer) k d)) (segments (get_or layer f []))
+  pub piece_odd : (f k : ℕ) (d : Edge) → k < length (pieces_of whole layer) → has_odd (table_of layer) f k ≡ odd_many (same_edge (get_or (pieces_of whole layer) k d)) (segments (get_or layer f []))
   unfolding table_by
   piece_odd f k d fits =
       let piece : Edge = get_or (pieces_of whole layer) k d in
@@ -230,20 +228,3 @@ module _ (layer : List Rings) where
       rings_closed : (f < length layer) ⊎ (length layer ≤ f) → All IsRing (get_or layer f [])
       rings_closed (inl fits) = closed f [] fits
       rings_closed (inr past) = subst (All IsRing) (sym (get_or_past layer f [] past)) (λ k d lt. absurd (omega arith))
-
-  -- and so it is kept
-  table_of-is_kept : IsSmallLayer layer → All (All IsRing) layer → IsKept (pieces_of whole layer) (map (ending_among (table_of layer).ends (length (table_of layer).ends)) (corner_numbers (table_of layer))) (table_of layer)
-  unfolding table_by
-  table_of-is_kept small closed = record {
-    few_corners = omega (arith, few_corners layer, small.few_points);
-    few_edges = omega (arith, few_edges layer, as_many_ends layer, small.few_points);
-    as_many = sym (as_many_ends layer);
-    is_table = table_of-is_table layer;
-    all_ends = table_of-all_ends;
-    all_even = table_of-all_even closed;
-    edges_are = edge_is_piece layer;
-    ending_are = refl;
-  }
-
-  pub kept_where_same : IsSmallLayer layer → All (All IsRing) layer → (es : List Edge) (rows : List (List ℕ)) (t : Table) → es ≡ pieces_of whole layer → rows ≡ map (ending_among t.ends (length t.ends)) (corner_numbers t) → t ≡ table_of layer → IsKept es rows t
-  kept_where_same small closed es rows t es_are rows_are t_is = subst (λ ps. IsKept ps rows t) (sym es_are) (subst (λ rs. IsKept (pieces_of whole layer) rs t) (sym rows_are) (subst (λ u. IsKept (pieces_of whole layer) (map (ending_among u.ends (length u.ends)) (corner_numbers u)) u) (sym t_is) (table_of-is_kept small closed)))

@@ -1,5 +1,5 @@
 -- The table of a layer is a table: its rows stand in order, and its edges are the pieces.
-use Rattle.std.proofs.Common.{◌≡◌, ℕ, zero, suc, ◌+◌, ◌<◌, ◌≤◌, ◌^◌, Bool, true, false, not, ◌||◌, ◌&&◌, List, [], ◌∷◌, length, get_or, map, refl, sym, ◌∙◌, ap, subst, inl, inr, arith}
+use Rattle.std.proofs.Common.{◌≡◌, ℕ, zero, suc, ◌+◌, ◌<◌, Bool, true, false, not, ◌||◌, ◌&&◌, List, [], ◌∷◌, length, get_or, map, refl, sym, ◌∙◌, ap, subst, inl, inr, arith}
 use Rattle.std.specs.Prelude.{nat_lt, ◌==◌, unwrap_or}
 use Rattle.std.specs.List.{list_any, list_all, filter_map, enumerate_from, cons_option, position_or_len}
 use Rattle.std.proofs.lemmas.Bool.{cases_Bool, cases_order, cases_lt, cond-true, cond-false, false_from_ne_true, both_ways, lt-ltb, and_from, and_parts, or_from, or_cases, eq-eqb}
@@ -13,12 +13,13 @@ use Rattle.loc_spec_plane.specs.Rings.{Ring, Rings, ring_segments, segments, seg
 use Rattle.loc_spec_plane.specs.Tables.{IsTable, table_of, table_by, corner, edge, lo_of, hi_of, layer_segments, layer_corners, pieces_of, whole, number_of, edge_marks, mark_of, pair_before, mark_before}
 use Rattle.loc_laws_order.proofs.Sides.{before_irrefl, before-asym_test, same_point-true, same_point_refl}
 use Rattle.loc_laws_order.proofs.TableOrder.{rises, origin_point}
-use Rattle.loc_edges.specs.Kept.{IsSmallLayer}
+use Rattle.loc_edges.specs.Kept.{IsSmallLayer, AreEdges}
+use Rattle.loc_edges.specs.Small.{IsSmallTable}
 use Rattle.loc_edges.specs.Layers.{ends_of}
 use Rattle.loc_edges.proofs.Layers.{pieces_of-whole, pieces_rise, corners_from_edges, any-ends_of}
 use Rattle.loc_edges.proofs.Orders.{points_by_before, edges_by_before}
 use Rattle.loc_edges.proofs.SortedSet.{rising-sorted_set, any-sorted_set, same_from_neither}
-use Rattle.loc_edges.proofs.Counts.{few_edges}
+use Rattle.loc_edges.proofs.Counts.{few_corners, few_edges}
 
 -- ---- numbers of points
 module _ (cs : List Point) (up : is_rising before cs ≡ true) where
@@ -250,12 +251,17 @@ module _ (layer : List Rings) where
   unfolding table_by
   ends_is cs es ends cs_are es_are ends_are = ends_are ∙ (ap (λ ps. map (λ (e : Edge). (number_of ps e.lo, number_of ps e.hi)) es) cs_are ∙ ap (map (λ (e : Edge). (number_of (layer_corners layer) e.lo, number_of (layer_corners layer) e.hi))) es_are)
 
-  pub upper_ends_fit : (ends : List (ℕ × ℕ)) (corners : ℕ) → ends ≡ (table_of layer).ends → corners ≡ length (layer_corners layer) → (e : ℕ) → e < length ends → (get_or ends e (0, 0)).1 < corners
+  -- it is small
+  pub table_of-small : IsSmallLayer layer → IsSmallTable (table_of layer)
   unfolding table_by
-  upper_ends_fit ends corners ends_are corners_are = subst (λ (rows : List (ℕ × ℕ)). (e : ℕ) → e < length rows → (get_or rows e (0, 0)).1 < corners) (sym ends_are) (λ e short. (let up : hi_of (table_of layer) e < length (layer_corners layer) = (goes_up e short).1 in omega arith))
+  table_of-small small = record {
+    few_corners = omega (arith, few_corners layer, small.few_points);
+    few_edges = omega (arith, few_edges layer, as_many_ends, small.few_points);
+  }
 
-  pub few_ends : IsSmallLayer layer → (ends : List (ℕ × ℕ)) → ends ≡ (table_of layer).ends → length ends ≤ 2 ^ 20
-  few_ends small ends ends_are = omega (arith, ap length ends_are, as_many_ends, few_edges layer, small.few_points)
+  -- its edges are the pieces
+  pub table_of-edges : AreEdges (table_of layer) (pieces_of whole layer)
+  table_of-edges = record { as_many = sym as_many_ends; are = edge_is_piece }
 
   -- the table by its parts, as they are made one from another
   pub table_is : (corners cs : List Point) (ends : List (ℕ × ℕ)) (marks : List (List Mark)) (es fs : List Edge) → corners ≡ layer_corners layer → cs ≡ corners → es ≡ pieces_of whole layer → fs ≡ pieces_of whole layer → ends ≡ map (λ (e : Edge). (number_of cs e.lo, number_of cs e.hi)) es → marks ≡ map (edge_marks whole layer) fs → record { corners = corners; ends = ends; marks = marks } ≡ table_of layer

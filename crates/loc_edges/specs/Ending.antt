@@ -1,5 +1,5 @@
 -- The edges that end at a corner and those that begin there.
-use Rattle.std.specs.Prelude.{◌≡◌, ℕ, ◌<◌, ◌≤◌, ◌==◌, ◌↔◌, List, length, map, filter, slice_index_or}
+use Rattle.std.specs.Prelude.{◌≡◌, ℕ, ◌+◌, ◌<◌, ◌≤◌, ◌==◌, ◌↔◌, List, length, map, filter, slice_index, slice_index_or}
 use Rattle.loc_spec_plane.specs.Lists.{numbers}
 use Rattle.loc_spec_plane.specs.Tables.{Table, lo_of}
 
@@ -7,9 +7,20 @@ use Rattle.loc_spec_plane.specs.Tables.{Table, lo_of}
 abbrev pub ending_among : List (ℕ × ℕ) → ℕ → ℕ → List ℕ
 ending_among ends n c = filter (λ e. (slice_index_or ends e (0, 0)).1 == c) (numbers n)
 
--- of numbers behind their keys, those whose key is c
-abbrev pub row_of : List (ℕ × ℕ) → ℕ → List ℕ
-row_of keyed c = map (λ pair. pair.1) (filter (λ pair. pair.0 == c) keyed)
+-- of items behind their keys, those whose key is c
+abbrev pub row_of : {X : Type 0} → List (ℕ × X) → ℕ → List X
+row_of {X} keyed c = map (λ (pair : ℕ × X). pair.1) (filter (λ (pair : ℕ × X). pair.0 == c) keyed)
+
+-- of the edges, given by the numbers of their ends, the first n begin before corner c, and no other does
+pub record IsFirstFrom (ends : List (ℕ × ℕ)) (c n : ℕ) : Type 0 where
+  pub within : n ≤ length ends
+  pub before : (e : ℕ) → e < n → (slice_index_or ends e (0, 0)).0 < c
+  pub from : (e : ℕ) → n ≤ e → e < length ends → c ≤ (slice_index_or ends e (0, 0)).0
+
+-- how many edges begin before each of so many corners, and before the one that would come next
+pub record AreFirsts (ends : List (ℕ × ℕ)) (corners : ℕ) (firsts : List ℕ) : Type 0 where
+  pub as_many : length firsts ≡ corners + 1
+  pub are : (c : ℕ) → c ≤ corners → IsFirstFrom ends c (slice_index firsts c)
 
 -- the edges from the first on and before the second are those whose lower end is corner c
 pub record IsBeginning (t : Table) (c first past : ℕ) : Type 0 where

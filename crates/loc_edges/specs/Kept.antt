@@ -1,10 +1,11 @@
--- What a table of numbers keeps beside its value.
+-- What a table of numbers keeps beside its value: `AreEdges` and `IsKept`; and how large a layer may be.
 use Rattle.std.specs.Prelude.{◌≡◌, ℕ, ◌<◌, ◌≤◌, ◌^◌, List, length, map, slice_index_or}
 use Rattle.std.specs.List.{flat_map}
 use Rattle.loc_spec_plane.specs.Points.{Point, Edge}
 use Rattle.loc_spec_plane.specs.Rings.{Rings}
-use Rattle.loc_spec_plane.specs.Tables.{Table, IsTable, AllEnds, AllEven, edge, corner_numbers}
-use Rattle.loc_edges.specs.Ending.{ending_among}
+use Rattle.loc_spec_plane.specs.Tables.{Table, IsTable, edge, corner_numbers}
+use Rattle.loc_edges.specs.Ending.{AreFirsts, ending_among}
+use Rattle.loc_edges.specs.Small.{IsSmallTable}
 
 -- the points of all rings, as often as they stand there
 abbrev pub points_of : List Rings → List Point
@@ -15,13 +16,15 @@ pub record IsSmallLayer (layer : List Rings) : Type 0 where
   pub few_points : length (points_of layer) ≤ 2 ^ 20
   pub few_features : length layer ≤ 2 ^ 18
 
--- the rows of the table stand in order, their numbers are small, and its edges and what ends at each corner are those given
-pub record IsKept (edges : List Edge) (ending : List (List ℕ)) (t : Table) : Type 0 where
-  pub few_corners : length t.corners ≤ 2 ^ 20
-  pub few_edges : length t.ends ≤ 2 ^ 20
+-- these are the edges of the table by their points
+pub record AreEdges (t : Table) (edges : List Edge) : Type 0 where
   pub as_many : length edges ≡ length t.ends
+  pub are : (n : ℕ) (d : Edge) → n < length edges → slice_index_or edges n d ≡ edge t n
+
+-- the rows of the table stand in order, it is small, and its edges and what begins and ends at each corner are those given
+pub record IsKept (edges : List Edge) (firsts : List ℕ) (ending : List (List ℕ)) (t : Table) : Type 0 where
+  pub small : IsSmallTable t
   pub is_table : IsTable t
-  pub all_ends : AllEnds t
-  pub all_even : AllEven t
-  pub edges_are : (n : ℕ) (d : Edge) → n < length edges → slice_index_or edges n d ≡ edge t n
+  pub edges_are : AreEdges t edges
+  pub firsts_are : AreFirsts t.ends (length t.corners) firsts
   pub ending_are : ending ≡ map (ending_among t.ends (length t.ends)) (corner_numbers t)

@@ -4,5 +4,7 @@ pub mod Floors
 pub mod Kept
 pub mod Layers
 pub mod Tagged
+pub mod Parts
 pub mod Placing
 pub mod RowLists
+pub mod Small

@@ -27,7 +27,7 @@ pub use views::Views;
 #[cfg(test)]
 mod tests {
     use super::*;
-    use loc_geom::{Point, Side, Steps};
+    use loc_geom::{Edge, Point, Side, Steps};
     use loc_rings::{Feature, Layer, Rings};
     use std::alloc::Global;
     use std::cmp::Ordering;
@@ -191,6 +191,24 @@ mod tests {
             assert_eq!(rt; table.edge(n).lo(), table.corner(lo));
             assert_eq!(rt; table.edge(n).hi(), table.corner(hi));
         }
+        Ok(())
+    }
+
+    #[test]
+    fn table_of_parts_by_hand(rt: HostRuntime) -> Result<(), Fail> {
+        let alloc = rt.alloc();
+        let low = Point::new(0, 0).ok_or("off the grid")?;
+        let high = Point::new(4, -1).ok_or("off the grid")?;
+        let edge = Edge::new(low, high).ok_or("no edge")?;
+        let corners = vec![in alloc; edge.lo(), edge.hi()]?;
+        let marks = vec![in alloc; (0, BOTH[0]), (0, BOTH[1])]?;
+        let table = EdgeTable::of_parts(alloc, corners, vec![in alloc; (0, 1)]?, marks)?;
+        let views = table.views();
+        assert!(rt; views.corner_count() == 2 && table.edge_count() == 1);
+        assert_eq!(rt; table.marks(0), BOTH);
+        assert_eq!(rt; table.edge(0), edge);
+        assert_eq!(rt; views.beginning(0), (0, 1));
+        assert_eq!(rt; views.ending(1), [0].as_slice());
         Ok(())
     }
 

@@ -1,9 +1,10 @@
 // Corners and edges by number.
 
-ghost use Rattle.std.specs.Prelude.{◌≡◌, ◌≤◌, ◌^◌, IsTrue, length, map, IfOk};
+ghost use Rattle.std.specs.Prelude.{◌≡◌, ◌≤◌, ◌^◌, IsTrue, All, length, map, IfOk};
 ghost use Rattle.loc_spec_plane.specs.Points.{Edge as EdgeOf, before};
 ghost use Rattle.loc_spec_plane.specs.Lists.{is_rising};
 ghost use Rattle.loc_spec_plane.specs.Tables.{number_of};
+ghost use Rattle.loc_edges.specs.Parts.{GoesUpBelow, edge_of_pair};
 
 use loc_geom::{Edge, Point};
 use std::alloc::{AllocError, Global};
@@ -37,4 +38,23 @@ pub(crate) fn numbered_ends(
         ends.push((lo, hi))?;
     }
     Ok(ends)
+}
+
+// The edges between corners in order, from the numbers of their ends.
+pub(crate) fn edges_between(
+    alloc: Global,
+    corners: &[Point],
+    ends: &[(u32, u32)],
+) -> Result<Vec<Edge>, AllocError>
+    requires in_order { IsTrue (is_rising before corners.now) }
+    requires go_up { All (GoesUpBelow (length corners.now)) ends.now }
+    ensures { IfOk result (λ edges. edges.items ≡ map (edge_of_pair corners.now) ends.now) }
+{
+    let mut edges = Vec::with_capacity(alloc, ends.len())?;
+    for pair in ends {
+        if let Some(edge) = Edge::new(corners[pair.0 as usize], corners[pair.1 as usize]) {
+            edges.push(edge)?;
+        }
+    }
+    Ok(edges)
 }

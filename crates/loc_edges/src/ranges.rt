@@ -4,24 +4,33 @@ ghost use Rattle.std.specs.Prelude.{◌≡◌, ℕ, ◌<◌, ◌≤◌, ◌^◌,
 ghost use Rattle.std.specs.List.Sorted.{IsNonDecreasingBy};
 ghost use Rattle.loc_spec_plane.specs.Lists.{is_rising, numbers};
 ghost use Rattle.loc_spec_plane.specs.Tables.{pair_before};
-ghost use Rattle.loc_edges.specs.Ending.{ending_among, row_of};
+ghost use Rattle.loc_edges.specs.Ending.{AreFirsts, ending_among, row_of};
 
 use crate::rows::Rows;
 use std::alloc::{AllocError, Global};
 
-// The place of the first pair whose first number is not below the corner's.
-pub(crate) fn first_from(ends: &[(u32, u32)], corner: u32) -> usize
+// For each corner how many edges begin before it, and then how many there are.
+pub(crate) fn first_edges(
+    alloc: Global,
+    ends: &[(u32, u32)],
+    corners: u32,
+) -> Result<Vec<u32>, AllocError>
     requires in_order { IsTrue (is_rising pair_before ends.now) }
-    ensures within { result ≤ length ends.now }
-    ensures before { (e : ℕ) → e < result → (slice_index_or ends.now e (0, 0)).0 < corner }
-    ensures from { (e : ℕ) → result ≤ e → e < length ends.now → corner ≤ (slice_index_or ends.now e (0, 0)).0 }
+    requires in_range { (e : ℕ) → e < length ends.now → (slice_index_or ends.now e (0, 0)).0 < corners }
+    requires few { length ends.now ≤ 2 ^ 21 }
+    ensures { IfOk result (λ firsts. AreFirsts ends.now corners firsts.items) }
 {
-    ends.partition_point(|pair| pair.0 < corner)
+    let mut firsts = Vec::with_capacity(alloc, corners as usize + 1)?;
+    for (n, pair) in ends.iter().enumerate() {
+        firsts.resize(pair.0 as usize + 1, n as u32)?;
+    }
+    firsts.resize(corners as usize + 1, ends.len() as u32)?;
+    Ok(firsts)
 }
 
 // The edges, each behind the number of its upper end, sorted by that.
 fn by_upper_end(alloc: Global, ends: &[(u32, u32)]) -> Result<Vec<(u32, u32)>, AllocError>
-    requires few { length ends.now ≤ 2 ^ 20 }
+    requires few { length ends.now ≤ 2 ^ 21 }
     ensures sorted { IfOk result (λ keyed. IsNonDecreasingBy (λ pair. pair.0) keyed.items) }
     ensures rows { IfOk result (λ keyed. (c : ℕ) → row_of keyed.items c ≡ ending_among ends.now (length ends.now) c) }
     ensures in_range { IfOk result (λ keyed. (corners : ℕ) → ((e : ℕ) → e < length ends.now → (slice_index_or ends.now e (0, 0)).1 < corners) → All (λ pair. pair.0 < corners) keyed.items) }
@@ -41,15 +50,9 @@ pub(crate) fn ending_rows(
     corners: u32,
 ) -> Result<Rows<u32>, AllocError>
     requires in_range { (e : ℕ) → e < length ends.now → (slice_index_or ends.now e (0, 0)).1 < corners }
-    requires few { length ends.now ≤ 2 ^ 20 }
+    requires few { length ends.now ≤ 2 ^ 21 }
     ensures { IfOk result (λ rows. rows ≡ map (ending_among ends.now (length ends.now)) (numbers corners)) }
 {
     let keyed = by_upper_end(alloc, ends)?;
-    let mut rows = Rows::new(alloc);
-    for pair in &keyed {
-        rows.start(pair.0 as usize + 1)?;
-        rows.extend(&[pair.1])?;
-    }
-    rows.start(corners as usize)?;
-    Ok(rows)
+    Rows::by_key(alloc, &keyed, corners as usize)
 }

@@ -4,9 +4,10 @@
 ghost use Rattle.std.specs.Prelude.{◌≡◌, ◌≢◌, ◌<◌, IsTrue, length};
 ghost use Rattle.loc_spec_plane.specs.Points.{touch};
 ghost use Rattle.loc_spec_plane.specs.Places.{alive_at, lower_of};
-ghost use Rattle.loc_spec_plane.specs.Tables.{IsTable, AllEnds, AllEven, corner as corner_of, edge as edge_of, lo_of, hi_of};
+ghost use Rattle.loc_spec_plane.specs.Tables.{IsTable, corner as corner_of, edge as edge_of, lo_of, hi_of};
 ghost use Rattle.loc_geom.specs.Answers.{IsSide};
 ghost use Rattle.loc_edges.specs.Placing.{deciding_end, IsPlacing, OnHits};
+ghost use Rattle.loc_edges.specs.Small.{IsSmallTable};
 
 use crate::table::EdgeTable;
 use loc_geom::{Edge, Point, Side, lower, side};
@@ -51,12 +52,10 @@ fn end_to_place(a: Edge, b: Edge) -> Point
 }
 
 impl<'t> Ranks<'t> {
-    /// What is true of every table, as a call that does no work: its rows stand in order, every corner is an end of an edge, and every
-    /// feature has an even number of odd marks at each corner.
+    /// What is true of every table, as a call that does no work: its rows stand in order, and it has few corners and edges.
     pub fn law(&self)
         ensures in_order { IsTable self.now }
-        ensures all_ends { AllEnds self.now }
-        ensures all_even { AllEven self.now }
+        ensures small { IsSmallTable self.now }
     {
         self.table.law();
     }

@@ -1,6 +1,9 @@
 // Rows that lie one behind another in one list.
 
-ghost use Rattle.std.specs.Prelude.{◌≡◌, ◌<◌, ◌≤◌, ◌-◌, ◌++◌, [], Some, length, replicate, slice_get, slice_index_or, slice_set, OnOk};
+ghost use Rattle.std.specs.Prelude.{◌≡◌, ◌<◌, ◌≤◌, ◌-◌, ◌++◌, [], Some, length, replicate, slice_get, slice_index_or, slice_set, map, All, IfOk, OnOk};
+ghost use Rattle.std.specs.List.Sorted.{IsNonDecreasingBy};
+ghost use Rattle.loc_spec_plane.specs.Lists.{numbers};
+ghost use Rattle.loc_edges.specs.Ending.{row_of};
 ghost use Rattle.loc_edges.specs.RowLists.{start_of};
 
 use std::alloc::{AllocError, Global};
@@ -78,5 +81,24 @@ impl<T: Copy> Rows<T> {
     {
         self.items.extend_from_slice(more)?;
         Ok(())
+    }
+
+    // The items of each key below the count, from items behind their keys in the order of the keys.
+    pub(crate) fn by_key(
+        alloc: Global,
+        keyed: &[(u32, T)],
+        count: usize,
+    ) -> Result<Rows<T>, AllocError>
+        requires in_order { IsNonDecreasingBy (λ pair. pair.0) keyed.now }
+        requires in_range { All (λ pair. pair.0 < count) keyed.now }
+        ensures { IfOk result (λ rows. rows ≡ map (row_of keyed.now) (numbers count)) }
+    {
+        let mut rows = Rows::new(alloc);
+        for pair in keyed {
+            rows.start(pair.0 as usize + 1)?;
+            rows.extend(&[pair.1])?;
+        }
+        rows.start(count)?;
+        Ok(rows)
     }
 }

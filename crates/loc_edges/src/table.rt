@@ -1,15 +1,21 @@
 // The table of a layer: its corners, its edges and their marks, by number.
 
-ghost use Rattle.std.specs.Prelude.{◌≡◌, ◌<◌, ◌≤◌, ◌^◌, ◌==◌, IsTrue, Some, filter, length, slice_get, IfOk};
+ghost use Rattle.std.specs.Prelude.{◌≡◌, ℕ, ◌<◌, ◌≤◌, ◌^◌, ◌==◌, [], IsTrue, Some, All, filter, get_or, length, slice_get, IfOk};
 ghost use Rattle.loc_spec_plane.specs.Lists.{is_rising};
-ghost use Rattle.loc_spec_plane.specs.Tables.{IsTable, AllEnds, AllEven, table_of, corner as corner_of, edge as edge_of, lo_of, hi_of, edge_numbers, mark_before};
+ghost use Rattle.loc_spec_plane.specs.Points.{Point as PointOf, before};
+ghost use Rattle.loc_spec_plane.specs.Covers.{feature_count};
+ghost use Rattle.loc_spec_plane.specs.Rings.{touches, covers};
+ghost use Rattle.loc_spec_plane.specs.Tables.{IsTable, AllEnds, AllEven, table_of, corner as corner_of, edge as edge_of, lo_of, hi_of, edge_numbers, mark_before, pair_before, touches_by_marks, covers_by_marks};
 ghost use Rattle.loc_edges.specs.Ending.{IsBeginning};
+ghost use Rattle.loc_edges.specs.Kept.{AreEdges};
 ghost use Rattle.loc_edges.specs.Layers.{layer_of};
+ghost use Rattle.loc_edges.specs.Parts.{GoesUpBelow, edge_mark_before, table_of_parts, table_with};
+ghost use Rattle.loc_edges.specs.Small.{IsSmallTable};
 
 use crate::grouped::distinct_edges;
 use crate::marks::edge_marks;
-use crate::numbers::numbered_ends;
-use crate::ranges::{ending_rows, first_from};
+use crate::numbers::{edges_between, numbered_ends};
+use crate::ranges::{ending_rows, first_edges};
 use crate::rows::Rows;
 use crate::sorted::sorted_segments;
 use crate::tables::corners_between;
@@ -27,6 +33,7 @@ pub struct EdgeTable {
     edges: Vec<Edge>,
     ends: Vec<(u32, u32)>,
     marks: Rows<Mark>,
+    firsts: Vec<u32>,
     ending: Rows<u32>,
 }
 
@@ -38,16 +45,20 @@ impl Model for EdgeTable {
 
     ghost view = { λ t. record { corners = t.corners.items; ends = t.ends.items; marks = t.marks } };
 
-    ghost invariant = { λ t. IsKept t.edges.items t.ending (record { corners = t.corners.items; ends = t.ends.items; marks = t.marks }) };
+    ghost invariant = { λ t. IsKept t.edges.items t.firsts.items t.ending (record { corners = t.corners.items; ends = t.ends.items; marks = t.marks }) };
 }
 
 impl EdgeTable {
-    /// The table of a layer. It takes time in the order of n log n for n written points.
+    /// The table of a layer. Every corner is an end of an edge, every feature has an even number of odd marks at each corner, and it touches
+    /// and covers by its marks what it touches and covers by its rings. It takes time in the order of n log n for n written points.
     pub fn make(alloc: Global, layer: &Layer) -> Result<EdgeTable, AllocError>
         ensures ok { IfOk result (λ table. table ≡ table_of (layer_of layer.now)) }
         ensures in_order { IfOk result IsTable }
         ensures all_ends { IfOk result AllEnds }
         ensures all_even { IfOk result AllEven }
+        ensures features { IfOk result (λ table. feature_count table ≤ length layer.now) }
+        ensures touching { IfOk result (λ table. (f : ℕ) (p : PointOf) → touches_by_marks table f p ≡ touches (get_or (layer_of layer.now) f []) p) }
+        ensures covering { IfOk result (λ table. (f : ℕ) (p : PointOf) → covers_by_marks table f p ≡ covers (get_or (layer_of layer.now) f []) p) }
     {
         let features = layer.features();
         let tagged = sorted_segments(alloc, features)?;
@@ -55,21 +66,61 @@ impl EdgeTable {
         let corners = corners_between(alloc, &edges)?;
         let ends = numbered_ends(alloc, &corners, &edges)?;
         let marks = edge_marks(alloc, tagged)?;
-        let ending = ending_rows(alloc, &ends, corners.len() as u32)?;
+        EdgeTable::assemble(alloc, corners, edges, ends, marks)
+    }
+
+    /// The table with these corners, these pairs of corner numbers as edges, and these marks, each behind the number of its edge.
+    pub fn of_parts(
+        alloc: Global,
+        corners: Vec<Point>,
+        ends: Vec<(u32, u32)>,
+        marks: Vec<(u32, Mark)>,
+    ) -> Result<EdgeTable, AllocError>
+        requires corners_rise { IsTrue (is_rising before corners.items) }
+        requires few_corners { length corners.items ≤ 2 ^ 20 }
+        requires edges_rise { IsTrue (is_rising pair_before ends.items) }
+        requires edges_go_up { All (GoesUpBelow (length corners.items)) ends.items }
+        requires few_edges { length ends.items ≤ 2 ^ 21 }
+        requires marks_rise { IsTrue (is_rising edge_mark_before marks.items) }
+        requires marks_on_edges { All (λ mark. mark.0 < length ends.items) marks.items }
+        ensures table { IfOk result (λ table. table ≡ table_of_parts corners.items ends.items marks.items) }
+        ensures features { IfOk result (λ table. (most : ℕ) → All (λ mark. mark.1.feature < most) marks.items → feature_count table ≤ most) }
+    {
+        let edges = edges_between(alloc, &corners, &ends)?;
+        let rows = Rows::by_key(alloc, &marks, ends.len())?;
+        EdgeTable::assemble(alloc, corners, edges, ends, rows)
+    }
+
+    // The table of these rows, with what begins and what ends at each corner.
+    fn assemble(
+        alloc: Global,
+        corners: Vec<Point>,
+        edges: Vec<Edge>,
+        ends: Vec<(u32, u32)>,
+        marks: Rows<Mark>,
+    ) -> Result<EdgeTable, AllocError>
+        requires in_order { IsTable (table_with corners.items ends.items marks) }
+        requires small { IsSmallTable (table_with corners.items ends.items marks) }
+        requires edges { AreEdges (table_with corners.items ends.items marks) edges.items }
+        ensures { IfOk result (λ table. table ≡ table_with corners.items ends.items marks) }
+    {
+        let count = corners.len() as u32;
+        let firsts = first_edges(alloc, &ends, count)?;
+        let ending = ending_rows(alloc, &ends, count)?;
         Ok(EdgeTable {
             corners,
             edges,
             ends,
             marks,
+            firsts,
             ending,
         })
     }
-    /// What is true of every table, as a call that does no work: its rows stand in order, every corner is an end of an edge, and every
-    /// feature has an even number of odd marks at each corner.
+
+    /// What is true of every table, as a call that does no work: its rows stand in order, and it has few corners and edges.
     pub fn law(&self)
         ensures in_order { IsTable self.now }
-        ensures all_ends { AllEnds self.now }
-        ensures all_even { AllEven self.now }
+        ensures small { IsSmallTable self.now }
     {
         let _corners = &self.corners;
     }
@@ -85,7 +136,7 @@ impl EdgeTable {
     /// How many edges there are.
     pub fn edge_count(&self) -> u32
         ensures value { result ≡ length self.now.ends }
-        ensures within { result ≤ 2 ^ 20 }
+        ensures within { result ≤ 2 ^ 21 }
     {
         self.ends.len() as u32
     }
@@ -125,14 +176,14 @@ impl EdgeTable {
     {
         self.marks.row(n as usize)
     }
+
     /// The edges whose lower end is the corner: from the first number on and before the second.
     pub fn beginning(&self, corner: u32) -> (u32, u32)
         requires { corner < length self.now.corners }
         ensures { IsBeginning self.now corner result.0 result.1 }
     {
-        let first = first_from(&self.ends, corner);
-        let past = first_from(&self.ends, corner + 1);
-        (first as u32, past as u32)
+        let at = corner as usize;
+        (self.firsts[at], self.firsts[at + 1])
     }
 
     /// The edges whose upper end is the corner, in order.

@@ -1,11 +1,13 @@
 // What an index sees of a table while it is asked for a point: points against edges and corners, each test counted, and no coordinates.
 
-ghost use Rattle.std.specs.Prelude.{◌≡◌, ◌+◌, ◌<◌, ◌≤◌, ◌^◌, IsTrue, length};
+ghost use Rattle.std.specs.Prelude.{◌≡◌, ◌+◌, ◌<◌, ◌≤◌, ◌^◌, ◌==◌, IsTrue, filter, length};
 ghost use Rattle.std.specs.Ordering.{MatchOrdering};
 ghost use Rattle.loc_spec_plane.specs.Points.{before, same_point};
 ghost use Rattle.loc_spec_plane.specs.Places.{lower_of};
-ghost use Rattle.loc_spec_plane.specs.Tables.{IsTable, AllEnds, AllEven, corner as corner_of, edge as edge_of, lo_of, hi_of};
+ghost use Rattle.loc_spec_plane.specs.Tables.{IsTable, corner as corner_of, edge as edge_of, lo_of, hi_of, edge_numbers};
 ghost use Rattle.loc_geom.specs.Answers.{IsSide};
+ghost use Rattle.loc_edges.specs.Ending.{IsBeginning};
+ghost use Rattle.loc_edges.specs.Small.{IsSmallTable};
 
 use crate::table::EdgeTable;
 use loc_geom::laws::point_order;
@@ -38,12 +40,10 @@ impl EdgeTable {
 }
 
 impl<'t> Views<'t> {
-    /// What is true of every table, as a call that does no work: its rows stand in order, every corner is an end of an edge, and every
-    /// feature has an even number of odd marks at each corner.
+    /// What is true of every table, as a call that does no work: its rows stand in order, and it has few corners and edges.
     pub fn law(&self)
         ensures in_order { IsTable self.now }
-        ensures all_ends { AllEnds self.now }
-        ensures all_even { AllEven self.now }
+        ensures small { IsSmallTable self.now }
     {
         self.table.law();
     }
@@ -59,7 +59,7 @@ impl<'t> Views<'t> {
     /// How many edges there are.
     pub fn edge_count(&self) -> u32
         ensures value { result ≡ length self.now.ends }
-        ensures within { result ≤ 2 ^ 20 }
+        ensures within { result ≤ 2 ^ 21 }
     {
         self.table.edge_count()
     }
@@ -103,5 +103,21 @@ impl<'t> Views<'t> {
         ensures within { result.1 < length self.now.corners }
     {
         self.table.ends(edge)
+    }
+
+    /// The edges whose lower end is the corner: from the first number on and before the second.
+    pub fn beginning(&self, corner: u32) -> (u32, u32)
+        requires { corner < length self.now.corners }
+        ensures { IsBeginning self.now corner result.0 result.1 }
+    {
+        self.table.beginning(corner)
+    }
+
+    /// The edges whose upper end is the corner, in order.
+    pub fn ending(&self, corner: u32) -> &[u32]
+        requires { corner < length self.now.corners }
+        ensures { result.now ≡ filter (λ e. hi_of self.now e == corner) (edge_numbers self.now) }
+    {
+        self.table.ending(corner)
     }
 }

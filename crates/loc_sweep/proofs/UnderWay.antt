@@ -10,7 +10,8 @@ use Rattle.loc_status.specs.Lists.{IsNextBelow}
 use Rattle.loc_status.specs.Meaning.{StatusMeaning, IsFresh, Seals}
 use Rattle.loc_sweep.specs.Course.{IsBefore, Leaves, Comes, AreNextBelow, IsNoted, HasSealed}
 use Rattle.loc_sweep.specs.Line.{IsBegun, IsChainOf}
-use Rattle.loc_sweep.specs.Swept.{IsSwept, AreFloors}
+use Rattle.loc_edges.specs.Floors.{AreFloors}
+use Rattle.loc_sweep.specs.Swept.{IsSwept}
 use Rattle.loc_sweep.proofs.EdgesComing.{begun_more, first_is}
 use Rattle.loc_sweep.proofs.Whole.{are_floors, before_first, before_next, is_swept, no_conflict, noted_more, noted_none, sealed_more}
 

@@ -1,19 +1,13 @@
--- What a sweep over a table leaves, and what it shows where it stops: `IsSwept`, `AreFloors` and `IsShown`.
-use Rattle.std.specs.Prelude.{◌≡◌, ℕ, ◌<◌, ◌≤◌, false, List, [], length, get_or, None, IfSome, IsTrue}
+-- What a sweep over a table leaves, and what it shows where it stops: `IsSwept` and `IsShown`.
+use Rattle.std.specs.Prelude.{◌≡◌, ℕ, ◌<◌, ◌≤◌, false, length, IfSome, IsTrue}
 use Rattle.loc_spec_plane.specs.Points.{conflict}
-use Rattle.loc_spec_plane.specs.Tables.{Table, corner, edge}
-use Rattle.loc_spec_plane.specs.Places.{IsVersion, IsFloor, IsJustBelow}
+use Rattle.loc_spec_plane.specs.Tables.{Table, edge}
 use Rattle.loc_geom.specs.declared.kinds.Meeting.{Meeting}
 use Rattle.loc_geom.specs.Answers.{IsMeeting}
-use Rattle.loc_edges.specs.Floors.{FloorLists}
 use Rattle.loc_status.specs.Meaning.{StatusMeaning}
+use Rattle.loc_status.specs.Versions.{AreVersions}
 use Rattle.loc_sweep.specs.declared.fault.SweepFault.{SweepFault}
 use Rattle.loc_sweep.specs.declared.fault.SweepFault.TheVariants.{Conflict, NoMemory}
-
--- a list for each corner, in order: the version there (Sarnak and Tarjan 1986)
-pub record AreVersions (t : Table) (lists : List (List ℕ)) : Type 0 where
-  pub as_many : length lists ≡ length t.corners
-  pub are : (i : ℕ) → i < length t.corners → IsVersion t i (get_or lists i [])
 
 -- a list was sealed for each corner, and each edge was inserted and removed
 pub record IsSwept (t : Table) (m : StatusMeaning) : Type 0 where
@@ -23,13 +17,6 @@ pub record IsSwept (t : Table) (m : StatusMeaning) : Type 0 where
   pub removed : m.removed ≡ length t.ends
   pub in_range : m.past_greatest ≤ length t.ends
   pub is_changed : m.is_changed ≡ false
-
--- the floor of each corner, and the edge just below each edge
-pub record AreFloors (t : Table) (floors : FloorLists) : Type 0 where
-  pub as_many_corners : length floors.of_corner ≡ length t.corners
-  pub as_many_edges : length floors.of_edge ≡ length t.ends
-  pub of_corner : (c : ℕ) → c < length t.corners → IsFloor t (corner t c) (get_or floors.of_corner c None)
-  pub of_edge : (e : ℕ) → e < length t.ends → IsJustBelow t e (get_or floors.of_edge e None)
 
 -- the two edges conflict, and so they meet; the lesser number is the first
 pub record AreInConflict (t : Table) (a b : ℕ) (meeting : Meeting) : Type 0 where

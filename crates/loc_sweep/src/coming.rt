@@ -45,7 +45,6 @@ pub(crate) fn come_all<S: Status>(
     corner: u32,
 ) -> Result<(), SweepFault>
     requires in_range { corner < length table.now.corners }
-    requires few { length table.now.ends ≤ 2 ^ 20 }
     requires line { IsChainOf table.now corner (goes_past table.now corner) (S.meaning status.old).list }
     requires begun { IsBegun table.now corner (S.meaning status.old).inserted }
     requires greatest { (S.meaning status.old).past_greatest ≤ length table.now.ends }

@@ -3,7 +3,8 @@
 ghost use Rattle.std.specs.Prelude.{IfOk, IfErr, OnOk};
 ghost use Rattle.loc_spec_plane.specs.Tables.{NoConflict};
 ghost use Rattle.loc_status.specs.Meaning.{IsFresh};
-ghost use Rattle.loc_sweep.specs.Swept.{IsSwept, AreFloors, IsShown};
+ghost use Rattle.loc_edges.specs.Floors.{AreFloors};
+ghost use Rattle.loc_sweep.specs.Swept.{IsSwept, IsShown};
 
 use crate::SweepFault;
 use crate::coming::come_all;

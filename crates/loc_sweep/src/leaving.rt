@@ -39,7 +39,6 @@ pub(crate) fn leave_all<S: Status>(
     corner: u32,
 ) -> Result<(), SweepFault>
     requires in_range { corner < length table.now.corners }
-    requires few { length table.now.ends ≤ 2 ^ 20 }
     requires before { IsBefore table.now corner (S.meaning status.old) }
     ensures left { OnOk result (Leaves table.now corner (S.meaning status.old) (S.meaning status.new)) }
     ensures shown { IfErr result (IsShown table.now) }
