@@ -107,7 +107,7 @@ module _ (q : Edge → Bool) (s : Edge) where
       all_part false = refl
 
 -- the segments by a test are counted by the edges, each as often as it is a segment
-by_edges : (q : Edge → Bool) (es ss : List Edge) → is_rising edge_before es ≡ true → ((s : Edge) → list_any (same_edge s) ss ≡ true → list_any (same_edge s) es ≡ true) → odd_many (λ e. q e && odd_many (same_edge e) ss) es ≡ odd_many q ss
+pub by_edges : (q : Edge → Bool) (es ss : List Edge) → is_rising edge_before es ≡ true → ((s : Edge) → list_any (same_edge s) ss ≡ true → list_any (same_edge s) es ≡ true) → odd_many (λ e. q e && odd_many (same_edge e) ss) es ≡ odd_many q ss
 by_edges q es [] up part = odd_many-same (λ e. q e && false) (λ e. false) es (λ e. no_part (q e)) ∙ never es
   where
     no_part : (t : Bool) → (t && false) ≡ false
@@ -165,20 +165,20 @@ module _ (e : Edge) (f : ℕ) where
 
 -- ---- the table
 -- numbers stand for the members of a list
-odd_by_number : {X : Type 0} (g : ℕ → Bool) (h : X → Bool) (xs : List X) (a : ℕ) → ((k : ℕ) (d : X) → k < length xs → g (a + k) ≡ h (get_or xs k d)) → odd_many g (range_with_len a (length xs)) ≡ odd_many h xs
+pub odd_by_number : {X : Type 0} (g : ℕ → Bool) (h : X → Bool) (xs : List X) (a : ℕ) → ((k : ℕ) (d : X) → k < length xs → g (a + k) ≡ h (get_or xs k d)) → odd_many g (range_with_len a (length xs)) ≡ odd_many h xs
 odd_by_number g h [] a same = refl
 odd_by_number g h (x ∷ xs) a same =
     let first : a ≡ a + 0 = omega arith in
     ap (λ t. exactly_one t (odd_many g (range_with_len (a + 1) (length xs)))) (ap g first ∙ same 0 x (omega arith)) ∙ ap (exactly_one (h x)) (odd_by_number g h xs (a + 1) (λ k d lt. (let next : (a + 1) + k ≡ a + suc k = omega arith in ap g next ∙ same (suc k) d (omega arith))))
 
-any_by_number : {X : Type 0} (g : ℕ → Bool) (h : X → Bool) (xs : List X) (a : ℕ) → ((k : ℕ) (d : X) → k < length xs → g (a + k) ≡ h (get_or xs k d)) → list_any g (range_with_len a (length xs)) ≡ list_any h xs
+pub any_by_number : {X : Type 0} (g : ℕ → Bool) (h : X → Bool) (xs : List X) (a : ℕ) → ((k : ℕ) (d : X) → k < length xs → g (a + k) ≡ h (get_or xs k d)) → list_any g (range_with_len a (length xs)) ≡ list_any h xs
 any_by_number g h [] a same = refl
 any_by_number g h (x ∷ xs) a same =
     let first : a ≡ a + 0 = omega arith in
     ap (λ t. t || list_any g (range_with_len (a + 1) (length xs))) (ap g first ∙ same 0 x (omega arith)) ∙ ap (λ t. h x || t) (any_by_number g h xs (a + 1) (λ k d lt. (let next : (a + 1) + k ≡ a + suc k = omega arith in ap g next ∙ same (suc k) d (omega arith))))
 
 -- the segments of a feature are segments of the layer
-segments_part : (p : Edge → Bool) (layer : List Rings) (f : ℕ) → list_any p (segments (get_or layer f [])) ≡ true → list_any p (layer_segments layer) ≡ true
+pub segments_part : (p : Edge → Bool) (layer : List Rings) (f : ℕ) → list_any p (segments (get_or layer f [])) ≡ true → list_any p (layer_segments layer) ≡ true
 segments_part p [] f h = h
 segments_part p (r ∷ rs) zero h = list_any-append p (segments r) (layer_segments rs) ∙ ap (λ t. t || list_any p (layer_segments rs)) h
 segments_part p (r ∷ rs) (suc f) h = list_any-append p (segments r) (layer_segments rs) ∙ (ap (λ t. list_any p (segments r) || t) (segments_part p rs f h) ∙ or_true (list_any p (segments r)))
@@ -201,7 +201,7 @@ module _ (layer : List Rings) where
       ∙ list_any_at (same_point p) (layer_corners layer) c origin_point short (same_point_refl p)))))
 
   -- the mark of feature f in row k is odd where it has the piece an odd number of times
-  piece_odd : (f k : ℕ) (d : Edge) → k < length (pieces_of whole layer) → has_odd (table_of layer) f k ≡ odd_many (same_edge (get_or (pieces_of whole layer) k d)) (segments (get_or layer f []))
+  pub piece_odd : (f k : ℕ) (d : Edge) → k < length (pieces_of whole layer) → has_odd (table_of layer) f k ≡ odd_many (same_edge (get_or (pieces_of whole layer) k d)) (segments (get_or layer f []))
   unfolding table_by
   piece_odd f k d fits =
       let piece : Edge = get_or (pieces_of whole layer) k d in

@@ -14,4 +14,5 @@ pub mod SortedSet
 pub mod Tagged
 pub mod EdgeLists
 pub mod SmallLayers
+pub mod RingMarks
 pub mod RowLists

@@ -1,14 +1,18 @@
 -- The table of parts that stand in order is a table.
-use Rattle.std.proofs.Common.{◌≡◌, ℕ, true, List, [], length, get_or, map, ◌∙◌, ap, inl, inr, arith}
-use Rattle.std.specs.Prelude.{All}
+use Rattle.std.proofs.Common.{◌≡◌, ℕ, suc, ◌<◌, ◌≤◌, true, List, [], ◌∷◌, length, get_or, map, sym, ◌∙◌, ap, subst, inl, inr, arith}
+use Rattle.std.specs.Prelude.{All, ◌==◌}
+use Rattle.std.specs.List.{flat_map}
 use Rattle.std.specs.List.Sorted.{IsNonDecreasingBy}
-use Rattle.std.proofs.lemmas.Bool.{cases_lt}
+use Rattle.std.proofs.lemmas.Bool.{cases_Bool, cases_lt, cond-true, cond-false}
+use Rattle.std.proofs.lemmas.List.Elements.{All-append, All-cons}
 use Rattle.std.proofs.lemmas.List.{length-map, get_or-map, get_or_past}
 use Rattle.std.proofs.lemmas.List.FromFn.{length-map-range_with_len, get_or-map-range_with_len}
 use Rattle.loc_spec_plane.specs.declared.Mark.{Mark}
 use Rattle.loc_spec_plane.specs.Points.{Point, before}
 use Rattle.loc_spec_plane.specs.Lists.{is_rising, numbers}
 use Rattle.loc_spec_plane.specs.Tables.{IsTable, mark_before, pair_before}
+use Rattle.loc_spec_plane.specs.Covers.{feature_count}
+use Rattle.loc_laws_rays.proofs.Members.{feature_count_within}
 use Rattle.loc_edges.specs.Ending.{row_of}
 use Rattle.loc_edges.specs.Kept.{AreEdges}
 use Rattle.loc_edges.specs.Parts.{GoesUpBelow, edge_mark_before, edge_of_pair, table_of_parts, table_with}
@@ -35,6 +39,25 @@ module _ (corners : List Point) (ends : List (ℕ × ℕ)) (marks : List (ℕ ×
     marks_fit = length-map-range_with_len (row_of marks) 0 (length ends);
     marks_rise = λ e. mark_rows_rise marks (length ends) e marks_rise;
   }
+
+-- ---- the features
+module _ (P : Mark → Type 0) (marks : List (ℕ × Mark)) where
+  row_all : (c : ℕ) (ms : List (ℕ × Mark)) → All (λ (m : ℕ × Mark). P m.1) ms → All P (row_of ms c)
+  row_all c [] each = λ k d lt. absurd (omega arith)
+  row_all c (m ∷ ms) each =
+      let rest = row_all c ms (λ k d lt. each (suc k) d (omega arith)) in
+      elim (cases_Bool (m.0 == c)) [
+        | inl here ↦ subst (λ qs. All P (map (λ (q : ℕ × Mark). q.1) qs)) (sym (cond-true _ _ _ here)) (All-cons P m.1 (row_of ms c) (each 0 m (omega arith)) rest)
+        | inr other ↦ subst (λ qs. All P (map (λ (q : ℕ × Mark). q.1) qs)) (sym (cond-false _ _ _ other)) rest
+      ]
+
+  rows_all : (ns : List ℕ) → All (λ (m : ℕ × Mark). P m.1) marks → All P (flat_map (λ ms. ms) (map (row_of marks) ns))
+  rows_all [] each = λ k d lt. absurd (omega arith)
+  rows_all (n ∷ ns) each = All-append P (row_of marks n) (flat_map (λ ms. ms) (map (row_of marks) ns)) (row_all n marks each) (rows_all ns each)
+
+-- the features of the marks are counted
+pub parts-features : (corners : List Point) (ends : List (ℕ × ℕ)) (marks : List (ℕ × Mark)) (most : ℕ) → All (λ (m : ℕ × Mark). m.1.feature < most) marks → feature_count (table_of_parts corners ends marks) ≤ most
+parts-features corners ends marks most each = feature_count_within (table_of_parts corners ends marks) most (rows_all (λ (m : Mark). m.feature < most) marks (numbers (length ends)) each)
 
 -- the edges by their points, from the pairs
 pub edges-are : (corners : List Point) (ends : List (ℕ × ℕ)) (rows : List (List Mark)) → AreEdges (table_with corners ends rows) (map (edge_of_pair corners) ends)

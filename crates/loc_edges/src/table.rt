@@ -1,9 +1,11 @@
 // The table of a layer: its corners, its edges and their marks, by number.
 
-ghost use Rattle.std.specs.Prelude.{◌≡◌, ◌<◌, ◌≤◌, ◌^◌, ◌==◌, IsTrue, Some, All, filter, length, slice_get, IfOk};
+ghost use Rattle.std.specs.Prelude.{◌≡◌, ℕ, ◌<◌, ◌≤◌, ◌^◌, ◌==◌, [], IsTrue, Some, All, filter, get_or, length, slice_get, IfOk};
 ghost use Rattle.loc_spec_plane.specs.Lists.{is_rising};
-ghost use Rattle.loc_spec_plane.specs.Points.{before};
-ghost use Rattle.loc_spec_plane.specs.Tables.{IsTable, AllEnds, AllEven, table_of, corner as corner_of, edge as edge_of, lo_of, hi_of, edge_numbers, mark_before, pair_before};
+ghost use Rattle.loc_spec_plane.specs.Points.{Point as PointOf, before};
+ghost use Rattle.loc_spec_plane.specs.Covers.{feature_count};
+ghost use Rattle.loc_spec_plane.specs.Rings.{touches, covers};
+ghost use Rattle.loc_spec_plane.specs.Tables.{IsTable, AllEnds, AllEven, table_of, corner as corner_of, edge as edge_of, lo_of, hi_of, edge_numbers, mark_before, pair_before, touches_by_marks, covers_by_marks};
 ghost use Rattle.loc_edges.specs.Ending.{IsBeginning};
 ghost use Rattle.loc_edges.specs.Kept.{AreEdges};
 ghost use Rattle.loc_edges.specs.Layers.{layer_of};
@@ -47,13 +49,16 @@ impl Model for EdgeTable {
 }
 
 impl EdgeTable {
-    /// The table of a layer. Every corner is an end of an edge, and every feature has an even number of odd marks at each corner. It takes
-    /// time in the order of n log n for n written points.
+    /// The table of a layer. Every corner is an end of an edge, every feature has an even number of odd marks at each corner, and it touches
+    /// and covers by its marks what it touches and covers by its rings. It takes time in the order of n log n for n written points.
     pub fn make(alloc: Global, layer: &Layer) -> Result<EdgeTable, AllocError>
         ensures ok { IfOk result (λ table. table ≡ table_of (layer_of layer.now)) }
         ensures in_order { IfOk result IsTable }
         ensures all_ends { IfOk result AllEnds }
         ensures all_even { IfOk result AllEven }
+        ensures features { IfOk result (λ table. feature_count table ≤ length layer.now) }
+        ensures touching { IfOk result (λ table. (f : ℕ) (p : PointOf) → touches_by_marks table f p ≡ touches (get_or (layer_of layer.now) f []) p) }
+        ensures covering { IfOk result (λ table. (f : ℕ) (p : PointOf) → covers_by_marks table f p ≡ covers (get_or (layer_of layer.now) f []) p) }
     {
         let features = layer.features();
         let tagged = sorted_segments(alloc, features)?;
@@ -78,7 +83,8 @@ impl EdgeTable {
         requires few_edges { length ends.items ≤ 2 ^ 21 }
         requires marks_rise { IsTrue (is_rising edge_mark_before marks.items) }
         requires marks_on_edges { All (λ mark. mark.0 < length ends.items) marks.items }
-        ensures { IfOk result (λ table. table ≡ table_of_parts corners.items ends.items marks.items) }
+        ensures table { IfOk result (λ table. table ≡ table_of_parts corners.items ends.items marks.items) }
+        ensures features { IfOk result (λ table. (most : ℕ) → All (λ mark. mark.1.feature < most) marks.items → feature_count table ≤ most) }
     {
         let edges = edges_between(alloc, &corners, &ends)?;
         let rows = Rows::by_key(alloc, &marks, ends.len())?;

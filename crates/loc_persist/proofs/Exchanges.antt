@@ -11,7 +11,7 @@ use Rattle.loc_pool.proofs.Maps.{has-put, has-last, value_or-append}
 use Rattle.loc_rb.specs.Nodes.{live, CanChange}
 use Rattle.loc_rb.specs.Exchanges.{Exchanges}
 use Rattle.loc_rb.proofs.OneChange.{by-link, some-link}
-use Rattle.loc_rb.proofs.PoolRows.{row-append}
+use Rattle.loc_pool.proofs.Found.{row-append}
 use Rattle.loc_rb.proofs.Exchanging.{leads-end, in-place, copied-top, can-go-up, copied-up}
 use Rattle.loc_persist.specs.Keeping.{KeepsBefore}
 use Rattle.loc_persist.specs.Present.{copy_of, is_among, nodes_at, IsClosed, IsPresent, IsFreshAfter}

@@ -5,13 +5,12 @@ use Rattle.loc_pool.specs.declared.Link.{Link}
 use Rattle.loc_pool.specs.declared.Extra.{Extra}
 use Rattle.loc_pool.specs.declared.Turn.{Turn}
 use Rattle.loc_pool.specs.declared.Turn.TheVariants.{Left, Right}
-use Rattle.loc_pool.specs.Maps.{Map, has}
+use Rattle.loc_pool.specs.Maps.{Map, has, found}
 use Rattle.loc_pool.specs.Rows as pool
 use Rattle.loc_rb.specs.Trees.{Row, leaf}
 use Rattle.loc_rb.specs.Nodes.{IsOld, KeepsItems}
 use Rattle.loc_rb.specs.Places.{Holds, LeadsToGap, LeadsTo}
 use Rattle.loc_rb.specs.Balance.{depth}
-use Rattle.loc_rb.specs.InMemory.{found}
 use Rattle.loc_persist.specs.Present.{found_in, row_in, IsPresent}
 use Rattle.loc_rb.proofs.Trees.{count-leaf}
 use Rattle.loc_persist.specs.Reading.{reading, list_in}

@@ -4,14 +4,13 @@ use Rattle.std.specs.Prelude.{◌≢◌}
 use Rattle.loc_pool.specs.declared.Link.{Link}
 use Rattle.loc_pool.specs.declared.Turn.{Turn}
 use Rattle.loc_pool.specs.declared.Turn.TheVariants.{Left, Right}
-use Rattle.loc_pool.specs.Maps.{Map, has, put}
+use Rattle.loc_pool.specs.Maps.{Map, has, put, found}
 use Rattle.loc_pool.specs.Rows as pool
 use Rattle.loc_rb.specs.Trees.{Row, with_child}
 use Rattle.loc_rb.specs.Nodes.{live}
 use Rattle.loc_rb.specs.Exchanges.{InPlace, Copies}
-use Rattle.loc_rb.specs.InMemory.{found}
 use Rattle.loc_rb.proofs.OneChange.{not-same}
-use Rattle.loc_rb.proofs.PoolRows.{found-row, has-found, found-append-new, found-append-other, found-put-here, found-put-other}
+use Rattle.loc_pool.proofs.Found.{found-row, has-found, found-append-new, found-append-other, found-put-here, found-put-other}
 use Rattle.loc_persist.specs.Present.{row_in, found_in, copy_of, is_among, nodes_at}
 use Rattle.loc_persist.proofs.Rows.{is-found, not-new}
 

@@ -13,7 +13,7 @@ use Rattle.loc_pool.specs.Rows.{Row, row, blank, child_at, AreNames, IsPlace}
 use Rattle.loc_pool.proofs.Maps.{has-put, value_or-append}
 use Rattle.loc_rb.specs.Trees.{Tree, leaf, node}
 use Rattle.loc_rb.proofs.OneChange.{by-link}
-use Rattle.loc_rb.proofs.PoolRows.{row-append, length-put}
+use Rattle.loc_pool.proofs.Found.{row-append, length-put}
 use Rattle.loc_persist.specs.Keeping.{KeepsBefore}
 use Rattle.loc_persist.specs.Present.{IsFreshAfter}
 use Rattle.loc_persist.specs.Reading.{IsThere}

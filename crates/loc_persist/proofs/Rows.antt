@@ -2,12 +2,11 @@
 use Rattle.std.proofs.Common.{◌≡◌, Bool, true, false, ◌||◌, [], ◌∷◌, ◌++◌, refl, sym, ap, ◌∙◌, Some, None}
 use Rattle.std.specs.Prelude.{◌≢◌}
 use Rattle.loc_pool.specs.declared.Link.{Link}
-use Rattle.loc_pool.specs.Maps.{Map, has, put}
+use Rattle.loc_pool.specs.Maps.{Map, has, put, found}
 use Rattle.loc_pool.specs.Rows.{Row, row}
 use Rattle.loc_pool.proofs.Maps.{has-put, has-append}
 use Rattle.loc_rb.proofs.OneChange.{not-same}
-use Rattle.loc_rb.specs.InMemory.{found}
-use Rattle.loc_rb.proofs.PoolRows.{found-row, found-put-here, found-put-other}
+use Rattle.loc_pool.proofs.Found.{found-row, found-put-here, found-put-other}
 
 some-is : (x y : Row) → Some x ≡ Some y → x ≡ y
 some-is x y e = cc

@@ -14,7 +14,7 @@ use Rattle.loc_rb.specs.Places.{Holds}
 use Rattle.loc_rb.specs.Exchanges.{Exchanges}
 use Rattle.loc_rb.proofs.OneChange.{some-link}
 use Rattle.loc_rb.proofs.Descent.{bounded, at-most-42}
-use Rattle.loc_rb.proofs.PoolRows.{found-append-new, found-append-other, found-put-here, found-put-other, length-put}
+use Rattle.loc_pool.proofs.Found.{found-append-new, found-append-other, found-put-here, found-put-other, length-put}
 use Rattle.loc_persist.specs.Keeping.{KeepsBefore}
 use Rattle.loc_persist.specs.Present.{found_in, row_in, is_among, nodes_at, IsPresent, IsFreshAfter}
 use Rattle.loc_persist.specs.Reading.{IsThere, reading, listed, list_in}

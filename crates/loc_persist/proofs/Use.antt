@@ -5,7 +5,7 @@ use Rattle.loc_pool.specs.Same.{same}
 use Rattle.loc_pool.specs.Maps.{Map, has, value_or, put}
 use Rattle.loc_pool.specs.Rows.{Row, row}
 use Rattle.loc_pool.proofs.Same.{same-eq, same-refl}
-use Rattle.loc_rb.proofs.PoolRows.{length-put}
+use Rattle.loc_pool.proofs.Found.{length-put}
 use Rattle.loc_persist.specs.Present.{is_among}
 use Rattle.loc_persist.specs.Use.{is_used, in_use}
 

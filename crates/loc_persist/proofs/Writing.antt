@@ -8,7 +8,7 @@ use Rattle.loc_pool.specs.Maps.{Map, has, put}
 use Rattle.loc_pool.specs.Rows as pool
 use Rattle.loc_rb.specs.Trees.{with_child}
 use Rattle.loc_rb.specs.Exchanges.{InPlace}
-use Rattle.loc_rb.proofs.PoolRows.{found-put-here, found-put-other, extra-child, length-put}
+use Rattle.loc_pool.proofs.Found.{found-put-here, found-put-other, extra-child, length-put}
 use Rattle.loc_persist.specs.Present.{row_in, found_in, nodes_at, IsClosed, IsFreshAfter}
 use Rattle.loc_persist.specs.Written.{HasRoom, IsWritten}
 use Rattle.loc_persist.proofs.Keeping.{child_at-stamped}

@@ -3,13 +3,12 @@ use Rattle.std.specs.Prelude.{◌≡◌, ℕ, ◌+◌, ◌*◌, ◌^◌, ◌<◌
 use Rattle.loc_pool.specs.declared.Link.{Link}
 use Rattle.loc_pool.specs.declared.Extra.{Extra}
 use Rattle.loc_pool.specs.declared.Turn.{Turn}
-use Rattle.loc_pool.specs.Maps.{Map, has}
+use Rattle.loc_pool.specs.Maps.{Map, has, found}
 use Rattle.loc_pool.specs.Rows.{Row, row}
 use Rattle.loc_rb.specs.Trees.{Tree, top, items}
 use Rattle.loc_rb.specs.Nodes.{Nodes}
 use Rattle.loc_rb.specs.Balance.{depth}
 use Rattle.loc_rb.specs.Places.{Holds, LeadsToGap, LeadsTo}
-use Rattle.loc_rb.specs.InMemory.{found}
 use Rattle.loc_persist.specs.Present.{found_in}
 use Rattle.loc_persist.specs.Reading.{IsThere, list_in}
 use Rattle.loc_persist.specs.Stored.{Stored, kept_from, nodes_of}

@@ -5,11 +5,10 @@ use Rattle.loc_pool.specs.declared.Extra.{Extra}
 use Rattle.loc_pool.specs.declared.Turn.{Turn}
 use Rattle.loc_pool.specs.declared.Turn.TheVariants.{Left, Right}
 use Rattle.loc_pool.specs.Same.{same}
-use Rattle.loc_pool.specs.Maps.{Map, has}
+use Rattle.loc_pool.specs.Maps.{Map, has, found}
 use Rattle.loc_pool.specs.Rows as pool
 use Rattle.loc_rb.specs.Trees.{Row, with_child}
 use Rattle.loc_rb.specs.Nodes.{Nodes}
-use Rattle.loc_rb.specs.InMemory.{found}
 
 -- a row as it is in a version
 abbrev pub row_in : ℕ → pool.Row → Row

@@ -1,12 +1,11 @@
 -- The store of all versions: `Stored`, the nodes that it stands for, and what holds of it, `IsStored`.
 use Rattle.std.specs.Prelude.{◌≡◌, ℕ, ◌+◌, ◌-◌, ◌*◌, ◌^◌, ◌<◌, ◌≤◌, not, List, [], ◌∷◌, length, take, Option, Some, slice_get}
 use Rattle.loc_pool.specs.declared.Link.{Link}
-use Rattle.loc_pool.specs.Maps.{Map}
+use Rattle.loc_pool.specs.Maps.{Map, found}
 use Rattle.loc_pool.specs.Rows.{Row}
 use Rattle.loc_rb.specs.Trees.{Tree, top, items}
 use Rattle.loc_rb.specs.Nodes.{Nodes}
 use Rattle.loc_rb.specs.Balance.{depth}
-use Rattle.loc_rb.specs.InMemory.{found}
 use Rattle.loc_persist.specs.Present.{found_in, is_among, IsPresent, IsFreshAfter}
 use Rattle.loc_persist.specs.Reading.{IsThere, list_in}
 use Rattle.loc_persist.specs.Use.{in_use}

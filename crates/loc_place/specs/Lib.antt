@@ -1,3 +1,4 @@
 pub mod Answers
 pub mod Found
 pub mod Planar
+pub mod Standing

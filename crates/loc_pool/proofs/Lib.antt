@@ -1,4 +1,5 @@
 pub mod Cells
+pub mod Found
 pub mod Maps
 pub mod Memory
 pub mod Same

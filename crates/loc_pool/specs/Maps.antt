@@ -1,5 +1,5 @@
 -- A map from links to values: the pairs in the order in which they came, of which the first counts.
-use Rattle.std.specs.Prelude.{Bool, false, cond, ◌||◌, List, [], ◌∷◌}
+use Rattle.std.specs.Prelude.{Bool, false, cond, ◌||◌, List, [], ◌∷◌, Option, None, Some}
 use Rattle.loc_pool.specs.declared.Link.{Link}
 use Rattle.loc_pool.specs.Same.{same}
 
@@ -16,6 +16,11 @@ has (c ∷ cs) l = same c.0 l || has cs l
 unfoldable pub value_or : {A : Type 0} → A → Map A → Link → A
 value_or x [] l = x
 value_or x (c ∷ cs) l = cond (same c.0 l) c.1 (value_or x cs l)
+
+-- the value of a link, or none
+unfoldable pub found : {A : Type 0} → Map A → Link → Option A
+found [] l = None
+found (c ∷ cs) l = cond (same c.0 l) (Some c.1) (found cs l)
 
 -- the map with the value of one link exchanged
 unfoldable pub put : {A : Type 0} → Map A → Link → A → Map A

@@ -185,14 +185,3 @@ copied-up n m p es es' up up' side at r turn to d k x =
       other_root = λ a. x.other_root (apart-all (λ l. n.root ≢ Some l) (λ l. m.root ≢ Some l) (λ l o q. o (sym d.root ∙ q)) (up ∷ links_of es) (all-up (λ l. n.root ≢ Some l) es e a.1)) ∙ d.root;
       items = keeps-trans n m p (copied-items n m at r turn to row.0 d at_row.0) x.items;
     }
-
-next-apart : (es : List (Link × Turn)) (e : Link × Turn) (at : Link) → AllByRecursion (λ m. at ≢ m) (links_of (es ++ e ∷ [])) → at ≢ next (es ++ e ∷ []) at
-next-apart [] e at a = a.0
-next-apart (f ∷ es) e at a = a.0
-
--- a node with nodes above it is not the newest root
-pub not-top : (n : Nodes) (es : List (Link × Turn)) (e : Link × Turn) (at : Link) (to : Option Link) → CanChange n (es ++ e ∷ []) at to → n.root ≢ Some at
-not-top n es e at to k = elim k.from as (λ _. n.root ≢ Some at) [
-  | inl q ↦ λ s. next-apart es e at k.once.0 (some-link at (next (es ++ e ∷ []) at) (sym s ∙ q))
-  | inr a ↦ a.0
-]

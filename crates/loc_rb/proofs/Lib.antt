@@ -14,5 +14,4 @@ pub mod NewNode
 pub mod Descent
 pub mod Successor
 pub mod Exchanging
-pub mod PoolRows
 pub mod Walks

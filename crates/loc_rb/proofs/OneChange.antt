@@ -8,6 +8,7 @@ use Rattle.loc_pool.specs.declared.Turn.TheVariants.{Left, Right}
 use Rattle.loc_pool.specs.declared.Colour.{Colour}
 use Rattle.loc_pool.specs.Same.{same}
 use Rattle.loc_pool.proofs.Same.{same-refl, same-eq}
+pub use Rattle.loc_pool.proofs.Same.{not-same, by-link, some-link}
 use Rattle.loc_rb.specs.Trees.{Row, Reading, Tree, leaf, node, top, Fits, Frame, node_at, under, plug, entries, links_of, next, Carried, SameButLinks, count, IsApart, child_of, Once, Leads}
 use Rattle.loc_rb.specs.Nodes.{Nodes, live, IsLive, IsLiveOrNone, HasRow, CanChange, Changes, Roots, StandFor, StandsFor}
 use Rattle.loc_rb.specs.Places.{Spot}
@@ -27,9 +28,6 @@ is-live n l x e c = ap (λ b. cond b (n.rows l) None) c ∙ e
 pub has-row : (n : Nodes) (l : Link) → IsLive n l → HasRow n l
 has-row n l h = (h.0, (live-rows n l h.0 h.1).0)
 
-pub some-link : (l m : Link) → Some l ≡ Some m → l ≡ m
-some-link l m e = cc
-
 -- how often a link stands in a list
 unfoldable pub occurs : Link → List Link → ℕ
 occurs l [] = 0
@@ -39,16 +37,6 @@ pub spine-occurs : (l : Link) (C : List Frame) → spine l C ≡ occurs l (links
 unfolding spine occurs
 spine-occurs l [] = refl
 spine-occurs l (fr ∷ C) = ap (λ z. cond (same fr.link l) 1 0 + z) (spine-occurs l C)
-
-pub not-same : (l m : Link) → l ≢ m → same l m ≡ false
-not-same l m d = (elim (same l m) as (λ b. same l m ≡ b → b ≡ false) [ true ↦ λ e. absurd (d (same-eq l m e)) | false ↦ λ e. refl ]) refl
-
-pub apart-same : (l m : Link) → same l m ≡ false → l ≢ m
-apart-same l m e q = let r : true ≡ false = sym (same-refl m) ∙ ap (λ k. same k m) (sym q) ∙ e in cc
-
--- a link is this one or another
-pub by-link : (P : Type 0) (l m : Link) → (l ≡ m → P) → (l ≢ m → P) → P
-by-link P l m here other = (elim (same l m) as (λ b. same l m ≡ b → P) [ true ↦ λ e. here (same-eq l m e) | false ↦ λ e. other (apart-same l m e) ]) refl
 
 pub occurs-not : (l : Link) (ks : List Link) → AllByRecursion (λ k. l ≢ k) ks → occurs l ks ≡ 0
 unfolding occurs

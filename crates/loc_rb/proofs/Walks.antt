@@ -7,7 +7,7 @@ use Rattle.loc_rb.specs.Trees.{Row, Tree, leaf, node, top, items, Fits, plug, be
 use Rattle.loc_rb.specs.Nodes.{Nodes, live, HasRow}
 use Rattle.loc_rb.specs.Balance.{IsRedBlack, depth}
 use Rattle.loc_rb.specs.Places.{Spot, Holds, Walk, Found}
-use Rattle.loc_rb.proofs.Trees.{count-leaf, inner, plug-snoc, items-plug}
+use Rattle.loc_rb.proofs.Trees.{inner, plug-snoc, items-plug}
 use Rattle.loc_rb.proofs.OneChange.{pushed, frame_of}
 use Rattle.loc_rb.proofs.ReadCalls.{child-is, node-has-row}
 use Rattle.loc_rb.proofs.Descent.{at-most-42, depth-plug, depth-under, no-tree, sided, sided-fits}
@@ -63,19 +63,8 @@ walk-node n es at list w =
           ∙ sym (items-plug w.frames T) ∙ ap (λ t. items (plug w.frames t)) (sym s.is) ∙ w.whole,
     )
 
--- more room leaves the tree as it is
-pub holds-spare : (n m : Nodes) (s : ℕ) (list : List ℕ) → m ≡ record n { spare = s } → Holds n list → Holds m list
-holds-spare n m s list e h = subst (λ (k : Nodes). Holds k list) (sym e) (record { tree = h.tree; fits = h.fits; apart = h.apart; root = h.root; balanced = h.balanced; list = h.list })
-
-pub holds-deep : (n : Nodes) (list : List ℕ) → (h : Holds n list) → length list ≤ 2 ^ 21 → depth h.tree ≤ 42
-holds-deep n list h l = at-most-42 h.tree h.balanced (let e = ap length h.list in omega (arith, e, l))
-
 -- the tree of a child
 pub child-tree : (n : Nodes) (turn : Turn) (at : Link) (t : Tree) (o : Option Link) → Fits (live n) t → top t ≡ Some at → ((y : Row) → n.rows at ≡ Some y → o ≡ child_of turn y) → (u : Tree) × Fits (live n) u × (top u ≡ o) × (depth u + 1 ≤ depth t)
 child-tree n turn at t o f e h =
     let s = sided turn at t e in let g = subst (λ (z : Tree). Fits (live n) z) s.is f in
     (s.near, (inner (live n) turn at s.near s.item s.colour s.far g).0, sym (child-is n turn at s.near s.item s.colour s.far o g h), (let d = depth-under turn at s.near s.item s.colour s.far in let q = ap depth s.is in omega (arith, d, q)))
-
--- no root, no items
-pub holds-none : (n : Nodes) → n.root ≡ None → Holds n []
-holds-none n e = record { tree = leaf; fits = tt; apart = λ l. let z = count-leaf l in omega (arith, z); root = e; balanced = (tt, (0, refl)); list = refl }

@@ -1,4 +1,2 @@
-pub mod Behind
-pub mod Listed
 pub mod Looks
 pub mod Standing

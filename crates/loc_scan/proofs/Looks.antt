@@ -1,26 +1,19 @@
 -- What a look at an edge shows of a point that is no corner.
-use Rattle.std.proofs.Common.{◌≡◌, ℕ, ◌<◌, ◌≤◌, true, false, not, ◌&&◌, length, ◌∙◌, ap, arith}
+use Rattle.std.proofs.Common.{◌≡◌, ℕ, ◌<◌, ◌≤◌, true, false, not, ◌&&◌, length, ◌∙◌}
 use Rattle.std.specs.Prelude.{nat_lt}
 use Rattle.std.proofs.lemmas.Bool.{and_from, and_left, and_right, both_ways, false_from_ne_true, not_from_true, not_from_false, lt-ltb, le-ltb}
-use Rattle.loc_spec_plane.specs.Points.{Point, before, is_above, is_on, is_below, lies_on}
-use Rattle.loc_spec_plane.specs.Tables.{Table, IsTable, corner, edge, lo_of, hi_of}
+use Rattle.loc_spec_plane.specs.Points.{Point, is_above, is_on, is_below, lies_on}
+use Rattle.loc_spec_plane.specs.Tables.{Table, IsTable, edge, lo_of, hi_of}
 use Rattle.loc_spec_plane.specs.Places.{alive, alive_at, is_edge}
 use Rattle.loc_laws_order.proofs.Sides.{above-not_below, on-not_above, on-not_below}
 use Rattle.loc_place.specs.Found.{is_under}
-use Rattle.loc_place.proofs.Cornerless.{corner_ahead, corner_behind, lies_on_is}
+use Rattle.loc_place.proofs.Behind.{alive_is}
+use Rattle.loc_place.proofs.Cornerless.{lies_on_is}
 use Rattle.loc_scan.specs.declared.edges.Look.TheVariants.{On, Under, Neither}
 use Rattle.loc_scan.specs.Look.{IsLook}
-use Rattle.loc_scan.specs.Standing.{IsBehind}
+use Rattle.loc_place.specs.Standing.{IsBehind}
 
 module _ (t : Table) (ok : IsTable t) (p : Point) (n : ℕ) (behind : IsBehind t p n) (e : ℕ) (fits : e < length t.ends) where
-  -- an edge is alive behind its lower end and before its upper one
-  pub alive_is : alive (edge t e) p ≡ (nat_lt (lo_of t e) n && not (nat_lt (hi_of t e) n))
-  alive_is =
-      let up = ok.goes_up e fits in
-      let low : lo_of t e < length t.corners = omega arith in
-      ap (λ b. b && before p (corner t (hi_of t e))) (corner_ahead t p behind.cornerless (lo_of t e) low ∙ behind.passed (lo_of t e) low)
-      ∙ ap (λ b. nat_lt (lo_of t e) n && b) (corner_behind t p behind.cornerless (hi_of t e) up.1 ∙ ap not (behind.passed (hi_of t e) up.1))
-
   -- p lies on the edge exactly where it is on its line and the edge is alive
   lies_is : lies_on (edge t e) p ≡ (is_on (edge t e) p && alive (edge t e) p)
   lies_is = lies_on_is t p behind.cornerless ok e fits
@@ -36,14 +29,14 @@ module _ (t : Table) (ok : IsTable t) (p : Point) (n : ℕ) (behind : IsBehind t
 
   -- an edge that begins at or behind p, or has ended, is not alive
   pub begins_later : n ≤ lo_of t e → IsLook t p e Neither
-  begins_later later = not_alive (alive_is ∙ and_left (nat_lt (lo_of t e) n) (not (nat_lt (hi_of t e) n)) (le-ltb (lo_of t e) n later))
+  begins_later later = not_alive (alive_is t ok p n behind e fits ∙ and_left (nat_lt (lo_of t e) n) (not (nat_lt (hi_of t e) n)) (le-ltb (lo_of t e) n later))
 
   pub ended : hi_of t e < n → IsLook t p e Neither
-  ended past = not_alive (alive_is ∙ and_right (nat_lt (lo_of t e) n) (not (nat_lt (hi_of t e) n)) (not_from_true (nat_lt (hi_of t e) n) (lt-ltb (hi_of t e) n past)))
+  ended past = not_alive (alive_is t ok p n behind e fits ∙ and_right (nat_lt (lo_of t e) n) (not (nat_lt (hi_of t e) n)) (not_from_true (nat_lt (hi_of t e) n) (lt-ltb (hi_of t e) n past)))
 
   module _ (begun : lo_of t e < n) (ends : n ≤ hi_of t e) where
     live : alive (edge t e) p ≡ true
-    live = alive_is ∙ and_from (nat_lt (lo_of t e) n) (not (nat_lt (hi_of t e) n)) (lt-ltb (lo_of t e) n begun) (not_from_false (nat_lt (hi_of t e) n) (le-ltb (hi_of t e) n ends))
+    live = alive_is t ok p n behind e fits ∙ and_from (nat_lt (lo_of t e) n) (not (nat_lt (hi_of t e) n)) (lt-ltb (lo_of t e) n begun) (not_from_false (nat_lt (hi_of t e) n) (le-ltb (hi_of t e) n ends))
 
     -- the side of p against an alive edge
     pub on_look : is_on (edge t e) p ≡ true → IsLook t p e On

@@ -1,40 +1,7 @@
--- Where an index of versions stands, and that its lists serve a point between two corners.
-use Rattle.std.proofs.Common.{◌≡◌, ℕ, zero, suc, ◌+◌, ◌<◌, ◌≤◌, not, ◌&&◌, List, [], ◌∷◌, length, get_or, refl, sym, ◌∙◌, ap, inl, inr, arith}
-use Rattle.std.specs.Prelude.{nat_lt}
-use Rattle.std.proofs.lemmas.Bool.{and_left, and_right, cases_lt, le-ltb}
-use Rattle.loc_spec_plane.specs.Points.{Point}
-use Rattle.loc_spec_plane.specs.Tables.{Table, IsTable, NoConflict, edge, lo_of, hi_of}
-use Rattle.loc_spec_plane.specs.Places.{alive, alive_at, is_edge, IsListAt}
-use Rattle.loc_sweep.specs.Line.{reaches}
-use Rattle.loc_status.specs.Versions.{AreVersions}
+-- Where an index of versions stands.
+use Rattle.loc_spec_plane.specs.Tables.{Table, IsTable, NoConflict}
 use Rattle.loc_sweep.specs.Swept.{IsSwept}
-use Rattle.loc_sweep.proofs.Whole.{reaches_next}
-use Rattle.loc_scan.specs.Standing.{IsBehind}
 use Rattle.loc_scan.specs.Versions.{Versions, meaning_of, AreVersionsOf}
-use Rattle.loc_scan.proofs.Looks.{alive_is}
-
--- behind the first n corners the edges alive are those that reach corner n
-alive_behind : (t : Table) → IsTable t → (p : Point) (n : ℕ) → IsBehind t p n → (e : ℕ) → alive_at t p e ≡ reaches t n e
-alive_behind t ok p n behind e = elim (cases_lt e (length t.ends)) [
-  | inl fits ↦ ap (λ b. is_edge t e && b) (alive_is t ok p n behind e fits)
-  | inr past ↦ (let none = le-ltb e (length t.ends) past in and_left (is_edge t e) (alive (edge t e) p) none ∙ sym (and_left (is_edge t e) (nat_lt (lo_of t e) n && not (nat_lt (hi_of t e) n)) none))
-]
-
--- the list at a point is the version at the last corner before it, for no corner lies between, and an empty list before the first
-pub version_there : (t : Table) → IsTable t → (lists : List (List ℕ)) → AreVersions t lists → (p : Point) (n : ℕ) → IsBehind t p n → IsListAt t p (get_or ([] ∷ lists) n [])
-version_there t ok lists versions p zero behind = record {
-  rising = refl;
-  exact = λ e. sym (alive_behind t ok p 0 behind e ∙ and_right (is_edge t e) (nat_lt (lo_of t e) 0 && not (nat_lt (hi_of t e) 0)) (and_left (nat_lt (lo_of t e) 0) (not (nat_lt (hi_of t e) 0)) (le-ltb (lo_of t e) 0 (omega arith))));
-}
-version_there t ok lists versions p (suc c) behind =
-    let within : suc c ≤ length t.corners = behind.within in
-    let fits : c < length t.corners = omega arith in
-    let next : c + 1 ≡ suc c = omega arith in
-    let here = versions.are c fits in
-    record {
-      rising = here.rising;
-      exact = λ e. here.exact e ∙ (reaches_next t ok c fits e ∙ (ap (λ k. reaches t k e) next ∙ sym (alive_behind t ok p (suc c) behind e)));
-    }
 
 -- an index that swept a table stands for it
 pub swept_stands : (t : Table) (v : Versions) → IsTable t → NoConflict t → IsSwept t (meaning_of v) → AreVersionsOf t v

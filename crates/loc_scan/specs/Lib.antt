@@ -1,3 +1,2 @@
 pub mod Look
-pub mod Standing
 pub mod Versions

@@ -2,19 +2,13 @@
 
 ghost use Rattle.std.specs.Prelude.{◌+◌, ◌≤◌, length};
 ghost use Rattle.loc_spec_plane.specs.Tables.{IsTable};
-ghost use Rattle.loc_scan.specs.Standing.{IsStanding};
+ghost use Rattle.loc_place.specs.Standing.{IsStanding};
 
 use loc_edges::Views;
 use loc_geom::{Point, Steps};
+use loc_place::Standing;
 use std::cmp::Ordering;
 use std::sync::ledger::Ledger;
-
-// Where a point stands among the corners, which are in order: on one of them, or behind so many of them and before the others.
-#[derive(Clone, Copy)]
-pub(crate) enum Standing {
-    OnCorner(u32),
-    Behind(u32),
-}
 
 // Where a point stands among the corners, by a look at each up to the first that it does not stand behind.
 pub(crate) fn among_corners<L: Ledger>(

@@ -6,7 +6,7 @@ ghost use Rattle.loc_spec_plane.specs.Places.{IsPlace};
 ghost use Rattle.loc_place.specs.Found.{higher_of};
 ghost use Rattle.loc_place.specs.Planar.{IsPlanar};
 ghost use Rattle.loc_scan.specs.Look.{IsLook};
-ghost use Rattle.loc_scan.specs.Standing.{IsBehind};
+ghost use Rattle.loc_place.specs.Standing.{IsBehind};
 
 use loc_edges::Views;
 use loc_geom::{Point, Side, Steps};

@@ -5,11 +5,11 @@ ghost use Rattle.loc_place.specs.Found.{place_at};
 ghost use Rattle.loc_place.specs.Planar.{IsPlanar};
 ghost use Rattle.loc_place.proofs.FoundPlace.{place_at_is};
 
-use crate::corners::{Standing, among_corners};
+use crate::corners::among_corners;
 use crate::edges::among_edges;
 use loc_edges::Views;
 use loc_geom::{Point, Steps};
-use loc_place::{Deep, Locator, Place};
+use loc_place::{Deep, Locator, Place, Standing};
 use std::sync::ledger::Ledger;
 
 /// The index that keeps nothing of a table: it looks at the corners and then at the edges, one after another, each at most once. It

@@ -6,11 +6,10 @@ ghost use Rattle.loc_place.proofs.FoundPlace.{place_at_is};
 ghost use Rattle.loc_status.specs.Meaning.{IsFresh};
 ghost use Rattle.loc_scan.specs.Versions.{AreVersionsOf, meaning_of};
 
-use crate::corners::Standing;
-use crate::versions::{search_corners, search_list};
+use crate::versions::search_list;
 use loc_edges::{Ranks, Views};
 use loc_geom::{Point, Steps};
-use loc_place::{Deep, Locator, Place};
+use loc_place::{Deep, Locator, Place, Standing, search_corners};
 use loc_status::{InsertFault, Status, VecStatus};
 use std::alloc::{AllocError, Global};
 use std::marker::Model;

@@ -1,41 +1,13 @@
-// A point among the corners, and in the list of the edges alive under and over it, by halving.
+// A point in the list of the edges alive under and over it, by halving.
 
 ghost use Rattle.std.specs.Prelude.{◌≡◌, ◌+◌, ◌-◌, ◌<◌, ◌≤◌, None, length, slice_get};
-ghost use Rattle.loc_spec_plane.specs.Tables.{IsTable};
 ghost use Rattle.loc_spec_plane.specs.Places.{IsCornerless, IsListAt, IsPlace};
 ghost use Rattle.loc_place.specs.Planar.{IsPlanar};
-ghost use Rattle.loc_scan.specs.Standing.{IsStanding};
 
-use crate::corners::Standing;
 use loc_edges::Views;
 use loc_geom::{Point, Side, Steps};
 use loc_place::Place;
-use std::cmp::Ordering;
 use std::sync::ledger::Ledger;
-
-// Where a point stands among the corners. Each turn leaves fewer of them to look at, so it compares at most as many as there are.
-pub(crate) fn search_corners<L: Ledger>(
-    views: &Views<'_>,
-    p: Point,
-    steps: &mut Steps<L>,
-) -> Standing
-    requires in_order { IsTable views.now }
-    ensures standing { IsStanding views.now p result }
-    ensures counted { steps.old ≤ steps.new }
-    ensures within { steps.new ≤ steps.old + length views.now.corners }
-{
-    let mut low = 0;
-    let mut high = views.corner_count();
-    while low < high {
-        let middle = low + (high - low) / 2;
-        match views.compare(middle, p, steps) {
-            Ordering::Less => low = middle + 1,
-            Ordering::Equal => return Standing::OnCorner(middle),
-            Ordering::Greater => high = middle,
-        }
-    }
-    Standing::Behind(low)
-}
 
 // The place of a point that is no corner, from the list of the edges alive there: an edge of it on which the point lies, or else the last
 // one that has the point above it.

@@ -1,3 +1,4 @@
+pub mod AtCorner
 pub mod Beginning
 pub mod Ending
 pub mod Ends

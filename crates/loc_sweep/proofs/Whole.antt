@@ -1,18 +1,17 @@
 -- What follows at the end of a sweep from what was kept corner by corner, and how that is kept.
 use Rattle.std.proofs.Common.{◌≡◌, ℕ, ◌+◌, ◌-◌, ◌<◌, ◌≤◌, false, not, ◌&&◌, List, [], ◌∷◌, ◌++◌, length, get_or, option_map, refl, sym, ◌∙◌, ap, subst, inl, inr, arith}
 use Rattle.std.specs.Prelude.{Option, Some, None, IfSome, ◌==◌, nat_lt}
-use Rattle.std.proofs.lemmas.Bool.{cases_eq, cases_lt, and_left, and_right, or_left, true≢false, not-true, not_from_true, not_from_false, eq-eqb, lt-ltb, le-ltb}
+use Rattle.std.proofs.lemmas.Bool.{cases_eq, cases_lt, and_left, and_right, or_left, true≢false, not_from_true, eq-eqb, lt-ltb, le-ltb}
 use Rattle.std.proofs.lemmas.List.{length-append, length_push, get_or_push, get_or_append_left, get_or-append_right}
 use Rattle.std.proofs.lemmas.Option.{IfSome_then}
 use Rattle.loc_spec_plane.specs.Lists.{is_in}
-use Rattle.loc_spec_plane.specs.Points.{before, up_to, is_above}
+use Rattle.loc_spec_plane.specs.Points.{before, is_above}
 use Rattle.loc_spec_plane.specs.Tables.{Table, IsTable, NoConflict, corner, edge, lo_of, hi_of}
-use Rattle.loc_spec_plane.specs.Places.{alive, alive_at, is_edge, IsFloor}
+use Rattle.loc_spec_plane.specs.Places.{alive_at, is_edge, IsFloor}
 use Rattle.loc_laws_order.specs.Laws.{last_that}
 use Rattle.loc_laws_order.proofs.Floors.{floor_of_list}
 use Rattle.loc_laws_order.proofs.ListLaws.{list_from_chain}
 use Rattle.loc_laws_order.proofs.SweepLaw.{sweep_law}
-use Rattle.loc_laws_order.proofs.TableOrder.{corner_before, corner_up_to}
 use Rattle.loc_status.specs.Lists.{IsNextBelow}
 use Rattle.loc_status.specs.Meaning.{StatusMeaning, IsFresh, Seals}
 use Rattle.loc_sweep.specs.Course.{IsBefore, IsNoted, HasSealed}
@@ -20,33 +19,13 @@ use Rattle.loc_sweep.specs.Line.{IsChainOf, IsBegun, reaches}
 use Rattle.loc_edges.specs.Floors.{AreFloors}
 use Rattle.loc_status.specs.Versions.{AreVersions}
 use Rattle.loc_sweep.specs.Swept.{IsSwept}
+use Rattle.loc_status.proofs.AtCorner.{alive_at_corner}
 use Rattle.loc_sweep.proofs.JustBelow.{just_below}
 
 -- ---- the line from one corner to the next
--- less, and not less, by the other side and one more
-one_more : (a b : ℕ) → (not (nat_lt a b) ≡ nat_lt b (a + 1)) × (nat_lt a b ≡ not (nat_lt b (a + 1)))
-one_more a b = elim (cases_lt a b) [
-  | inl less ↦ (let here = lt-ltb a b less in let there = le-ltb b (a + 1) (omega arith) in (not_from_true (nat_lt a b) here ∙ sym there, here ∙ sym (not_from_false (nat_lt b (a + 1)) there)))
-  | inr more ↦ (let here = le-ltb a b more in let there = lt-ltb b (a + 1) (omega arith) in (not_from_false (nat_lt a b) here ∙ sym there, here ∙ sym (not_from_true (nat_lt b (a + 1)) there)))
-]
-
-module _ (t : Table) (ok : IsTable t) where
-  -- corners are in the order of their numbers
-  corner_before_is : (i j : ℕ) → i < length t.corners → j < length t.corners → before (corner t i) (corner t j) ≡ nat_lt i j
-  corner_before_is i j fits_i fits_j = elim (cases_lt i j) [
-    | inl less ↦ corner_before t ok i j less fits_j ∙ sym (lt-ltb i j less)
-    | inr more ↦ not-true (before (corner t i) (corner t j)) (corner_up_to t ok j i more fits_i) ∙ sym (le-ltb i j more)
-  ]
-
-  -- the edges alive at a corner are those that reach the next
-  pub reaches_next : (c : ℕ) → c < length t.corners → (n : ℕ) → alive_at t (corner t c) n ≡ reaches t (c + 1) n
-  reaches_next c fits n = elim (cases_lt n (length t.ends)) [
-    | inr past ↦ and_left (is_edge t n) (alive (edge t n) (corner t c)) (le-ltb n (length t.ends) past) ∙ sym (and_left (is_edge t n) (nat_lt (lo_of t n) (c + 1) && not (nat_lt (hi_of t n) (c + 1))) (le-ltb n (length t.ends) past))
-    | inl less ↦ (let up = ok.goes_up n less in
-        let low : up_to (corner t (lo_of t n)) (corner t c) ≡ nat_lt (lo_of t n) (c + 1) = ap not (corner_before_is c (lo_of t n) fits (omega arith)) ∙ (one_more c (lo_of t n)).0 in
-        let high : before (corner t c) (corner t (hi_of t n)) ≡ not (nat_lt (hi_of t n) (c + 1)) = corner_before_is c (hi_of t n) fits up.1 ∙ (one_more c (hi_of t n)).1 in
-        ap (λ b. is_edge t n && (b && before (corner t c) (corner t (hi_of t n)))) low ∙ ap (λ b. is_edge t n && (nat_lt (lo_of t n) (c + 1) && b)) high)
-  ]
+-- the edges alive at a corner are those that reach the next
+pub reaches_next : (t : Table) → IsTable t → (c : ℕ) → c < length t.corners → (n : ℕ) → alive_at t (corner t c) n ≡ reaches t (c + 1) n
+reaches_next t ok c fits n = alive_at_corner t ok c fits n
 
 -- the status behind a corner is the one before the next
 pub before_next : (t : Table) → IsTable t → (c : ℕ) → c < length t.corners → (m : StatusMeaning) → IsChainOf t c (alive_at t (corner t c)) m.list → IsBegun t (c + 1) m.inserted → m.inserted ≡ m.removed + length m.list → m.past_greatest ≤ length t.ends → IsBefore t (c + 1) m

@@ -1,5 +1,5 @@
 use Rattle.std.proofs.Common.{arith}
-use Rattle.loc_scan.proofs.Behind.{before_later, stands_behind}
+use Rattle.loc_place.proofs.Behind.{before_later, stands_behind}
 use Rattle.loc_scan.proofs.corners.among_corners.Goals as goal
 
 pub returns-in-Greater-clause-standing : goal.returns-in-Greater-clause-standing

@@ -1,7 +1,7 @@
 use Rattle.std.proofs.Common.{◌≡◌, ◌<◌, true, length, get_or, subst, arith}
 use Rattle.loc_spec_plane.specs.Points.{is_below}
 use Rattle.loc_spec_plane.specs.Tables.{edge}
-use Rattle.loc_scan.proofs.Listed.{listed_alive, listed_few, in_area}
+use Rattle.loc_place.proofs.Listed.{listed_alive, listed_few, in_area}
 use Rattle.loc_scan.proofs.versions.search_list.Goals as goal
 
 pub side-requires : goal.side-requires

@@ -1,7 +1,7 @@
-use Rattle.std.proofs.Common.{◌≡◌, length, sym, ◌∙◌, ap, subst, arith}
-use Rattle.loc_spec_plane.specs.Points.{before, edge_before}
+use Rattle.std.proofs.Common.{◌≡◌, ℕ, ◌≤◌, [], length, get_or, sym, ◌∙◌, ap, subst, arith}
+use Rattle.loc_spec_plane.specs.Points.{Point, before, edge_before}
 use Rattle.loc_spec_plane.specs.Lists.{is_rising, sorted_set}
-use Rattle.loc_spec_plane.specs.Tables.{IsTable, AllEnds, AllEven, table_of, layer_corners, pieces_of, whole}
+use Rattle.loc_spec_plane.specs.Tables.{IsTable, AllEnds, AllEven, table_of, layer_corners, pieces_of, whole, touches_by_marks, covers_by_marks}
 use Rattle.loc_edges.specs.Kept.{AreEdges}
 use Rattle.loc_edges.specs.Parts.{table_with}
 use Rattle.loc_edges.specs.Small.{IsSmallTable}
@@ -11,6 +11,9 @@ use Rattle.loc_edges.proofs.MarkRows.{marks_are}
 use Rattle.loc_edges.proofs.Even.{table_of-all_ends, table_of-all_even}
 use Rattle.loc_edges.proofs.Ordered.{corners_rise, table_is, table_of-is_table, table_of-small, table_of-edges}
 use Rattle.loc_edges.proofs.Counts.{few_corners}
+use Rattle.loc_edges.proofs.RingMarks.{touches_is, covers_is, table_of-features}
+use Rattle.loc_spec_plane.specs.Covers.{feature_count}
+use Rattle.loc_spec_plane.specs.Rings.{touches, covers}
 use Rattle.std.proofs.lemmas.List.{length-map}
 use Rattle.std.proofs.lemmas.Result.{IfOk-weaker}
 use Rattle.loc_rings.specs.Values.{rings_of}
@@ -74,3 +77,12 @@ returns-clause-all_ends c = IfOk-weaker c.assemble.result _ AllEnds (λ t is. su
 
 pub returns-clause-all_even : goal.returns-clause-all_even
 returns-clause-all_even c = IfOk-weaker c.assemble.result _ AllEven (λ t is. subst AllEven (sym (is ∙ made-after c)) (table_of-all_even (layer_of c.features-features.result.now) c.in_ok-tagged.ensures.closed)) c.assemble.ensures
+
+pub returns-clause-features : goal.returns-clause-features
+returns-clause-features c = IfOk-weaker c.assemble.result _ (λ t. feature_count t ≤ length c.args.layer.now) (λ t is. subst (λ fs. feature_count t ≤ length fs) c.features-features.ensures.value (subst (λ s. feature_count s ≤ length c.features-features.result.now) (sym (is ∙ made-after c)) (subst (λ n. feature_count (table_of (layer_of c.features-features.result.now)) ≤ n) (length-map c.features-features.result.now rings_of) (table_of-features (layer_of c.features-features.result.now))))) c.assemble.ensures
+
+pub returns-clause-touching : goal.returns-clause-touching
+returns-clause-touching c = IfOk-weaker c.assemble.result _ (λ t. (f : ℕ) (p : Point) → touches_by_marks t f p ≡ touches (get_or (layer_of c.args.layer.now) f []) p) (λ t is f p. ap (λ s. touches_by_marks s f p) (is ∙ made-after c) ∙ (touches_is (layer_of c.features-features.result.now) f p ∙ ap (λ features. touches (get_or (layer_of features) f []) p) c.features-features.ensures.value)) c.assemble.ensures
+
+pub returns-clause-covering : goal.returns-clause-covering
+returns-clause-covering c = IfOk-weaker c.assemble.result _ (λ t. (f : ℕ) (p : Point) → covers_by_marks t f p ≡ covers (get_or (layer_of c.args.layer.now) f []) p) (λ t is f p. ap (λ s. covers_by_marks s f p) (is ∙ made-after c) ∙ (covers_is (layer_of c.features-features.result.now) f p ∙ ap (λ features. covers (get_or (layer_of features) f []) p) c.features-features.ensures.value)) c.assemble.ensures
