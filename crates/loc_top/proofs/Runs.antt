@@ -15,8 +15,8 @@ use Rattle.loc_top.specs.Run.{OutOf, Ran, RefusesWords, course_by}
 
 -- every command writes at once, and makes no file
 plain : (a : Asked) → IsPlain (course_by a)
-plain (query layer points scale form) = query_plain (layer_file layer form scale) points
-plain (check layer scale form) = check_plain (layer_file layer form scale)
+plain (query asked) = query_plain (layer_file asked.layer asked.form asked.scale) asked.points
+plain (check asked) = check_plain (layer_file asked.layer asked.form asked.scale)
 
 plain_of : (o : Option Asked) (c : Course) → option_map course_by o ≡ Some c → IsPlain c
 plain_of None c is = absurd (cc is)

@@ -11,8 +11,8 @@ use Rattle.loc_query.specs.QueryCourses.{query_course}
 
 -- the course of a command
 abbrev pub course_by : Asked → Course
-course_by (query layer points scale form) = query_course (layer_file layer form scale) points
-course_by (check layer scale form) = check_course (layer_file layer form scale)
+course_by (query asked) = query_course (layer_file asked.layer asked.form asked.scale) asked.points
+course_by (check asked) = check_course (layer_file asked.layer asked.form asked.scale)
 
 -- the course of the words, if they are a command
 abbrev pub course_of : List Text → Option Course

@@ -2,8 +2,7 @@
 
 ghost use Rattle.std.specs.Prelude.{◌≡◌, ◌≤◌, ℕ, IfSome, Some, map, string_bytes};
 ghost use Rattle.loc_io.specs.Meaning.{KeepsFiles};
-ghost use Rattle.loc_spec_text.specs.declared.Form.{Form};
-ghost use Rattle.loc_words.specs.Words.{command_of, query};
+ghost use Rattle.loc_words.specs.Words.{AskedQuery, command_of, query};
 ghost use Rattle.loc_course.specs.Courses.{Course, Text};
 ghost use Rattle.loc_course.specs.Moments.{moment};
 ghost use Rattle.loc_course.specs.Sentences.{Counts, Done, Misses, Names, NoCountRose, Notes, ReadsFail, RefusedOnly, Refuses, RefusesPartly, Succeeds, WritesFail};
@@ -32,28 +31,22 @@ fn run_course<F: Shelf, O: Sink, N: Sink, L: Ledger>(
     ensures { Ran (course_of (map string_bytes words.now)) (moment (F.meaning shelf.old) (O.written out.old) (O.faults out.old) steps.old) (moment (F.meaning shelf.new) (O.written out.new) (O.faults out.new) steps.new) (N.faults notes.old) (N.faults notes.new) (N.written notes.old) (N.written notes.new) result }
 {
     match command_of(alloc, words) {
-        Ok(
-            Command::Query {
-                layer,
-                points,
-                scale,
-                form,
-            },
-        ) => {
+        Ok(Command::Query(asked)) => {
             let outcome = query(
                 alloc,
-                layer,
-                points,
-                form,
-                Scale::new(scale),
+                asked.layer,
+                asked.points,
+                asked.form,
+                Scale::new(asked.scale),
                 shelf,
                 out,
                 steps,
             );
             report(outcome, notes)
         }
-        Ok(Command::Check { layer, scale, form }) => {
-            let outcome = check(alloc, layer, form, Scale::new(scale), shelf, out);
+        Ok(Command::Check(asked)) => {
+            let scale = Scale::new(asked.scale);
+            let outcome = check(alloc, asked.layer, asked.form, scale, shelf, out);
             report(outcome, notes)
         }
         Err(WordsFault::Refused) => {
@@ -73,8 +66,8 @@ pub fn run<F: Shelf, O: Sink, N: Sink, L: Ledger>(
     notes: &mut N,
     steps: &mut Steps<L>,
 ) -> u8
-    ensures headline { (layer points : Text) (scale : ℕ) (form : Form) → command_of (map string_bytes words.now) ≡ Some (query layer points scale form)
-        → Headline (layer_file layer form scale) points (moment (F.meaning shelf.old) (O.written out.old) (O.faults out.old) steps.old) (moment (F.meaning shelf.new) (O.written out.new) (O.faults out.new) steps.new) (N.faults notes.old) (N.faults notes.new) (N.written notes.old) (N.written notes.new) result }
+    ensures headline { (asked : AskedQuery) → command_of (map string_bytes words.now) ≡ Some (query asked)
+        → Headline (layer_file asked.layer asked.form asked.scale) asked.points (moment (F.meaning shelf.old) (O.written out.old) (O.faults out.old) steps.old) (moment (F.meaning shelf.new) (O.written out.new) (O.faults out.new) steps.new) (N.faults notes.old) (N.faults notes.new) (N.written notes.old) (N.written notes.new) result }
     ensures ran { Ran (course_of (map string_bytes words.now)) (moment (F.meaning shelf.old) (O.written out.old) (O.faults out.old) steps.old) (moment (F.meaning shelf.new) (O.written out.new) (O.faults out.new) steps.new) (N.faults notes.old) (N.faults notes.new) (N.written notes.old) (N.written notes.new) result }
     ensures done { IfSome (course_of (map string_bytes words.now)) (λ (c : Course). Done c (moment (F.meaning shelf.old) (O.written out.old) (O.faults out.old) steps.old) (moment (F.meaning shelf.new) (O.written out.new) (O.faults out.new) steps.new) result) }
     ensures succeeds { IfSome (course_of (map string_bytes words.now)) (λ (c : Course). Succeeds c (moment (F.meaning shelf.old) (O.written out.old) (O.faults out.old) steps.old) (moment (F.meaning shelf.new) (O.written out.new) (O.faults out.new) steps.new) result) }

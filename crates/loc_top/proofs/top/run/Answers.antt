@@ -9,9 +9,10 @@ use Rattle.loc_top.proofs.Runs.{keeps_files, no_count_rose, notes_of, of_course,
 use Rattle.loc_top.proofs.top.run.Goals as goal
 
 pub returns-clause-headline : goal.returns-clause-headline
-returns-clause-headline g c layer points scale form is =
-    let course = query_course (layer_file layer form scale) points in
-    headline (layer_file layer form scale) points _ _ _ _ _ _ _ (sentences_of _ _ _ _ _ _ c.run_course.result _ c.run_course.ensures course (ap (option_map course_by) is))
+returns-clause-headline g c asked is =
+    let file = layer_file asked.layer asked.form asked.scale in
+    let course = query_course file asked.points in
+    headline file asked.points _ _ _ _ _ _ _ (sentences_of _ _ _ _ _ _ c.run_course.result _ c.run_course.ensures course (ap (option_map course_by) is))
 
 pub returns-clause-done : goal.returns-clause-done
 returns-clause-done g c = of_course _ _ _ _ _ _ c.run_course.result _ _ c.run_course.ensures (λ course s. s.done)
