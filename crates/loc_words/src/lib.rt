@@ -18,4 +18,5 @@ pub use command::{Check, Command, Query, command_of};
 pub use fault::WordsFault;
 pub use loc_spec_text::Form;
 pub use parser::clap_takes_commands;
+pub use row::OptionKind;
 pub use usage::usage_text;

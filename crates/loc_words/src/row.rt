@@ -1,5 +1,4 @@
 //! Commands as rows.
-ghost use Rattle.loc_words.specs.Rows as spec;
 
 /// What an option of a command takes.
 #[derive(Clone, Copy, Debug, PartialEq, Eq)]
