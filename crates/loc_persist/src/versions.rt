@@ -142,7 +142,6 @@ impl Versions {
     /// Takes the item of the node out to which the path leads. After a refusal all is as before.
     pub fn remove_at(&mut self, path: Path, at: Link) -> Result<(), AllocError>
         requires place { (preceding : List ℕ) × (item : ℕ) × (following : List ℕ) × LeadsTo (present_nodes self.old) path.items at preceding item following }
-        requires small { length self.old.list ≤ 2 ^ 21 }
         requires few { self.old.removed < 2 ^ 26 }
         ensures removes { OnOk result (Removes path.items at self.old self.new) }
         ensures refused { OnErr result (self.new ≡ self.old) }

@@ -1,13 +1,29 @@
--- What an insertion and a removal do to the list and its count.
-use Rattle.std.proofs.Common.{ℕ, ◌+◌, ◌-◌, ◌<◌, ◌^◌, List, ◌∷◌, length, sym, ap, arith, Some}
-use Rattle.std.proofs.lemmas.List.{length-append}
+-- What an insertion and a removal do to the list, and that there is room for a new edge.
+use Rattle.std.proofs.Common.{◌≡◌, ℕ, ◌<◌, Bool, true, false, ◌||◌, List, [], ◌∷◌, length, map, get_or, refl, sym, ap, subst, inl, inr, arith, Some}
+use Rattle.std.proofs.Math.Dec.{eqb}
+use Rattle.std.specs.Prelude.{◌==◌}
+use Rattle.std.specs.List.{AllByRecursion, list_any, IsDistinct}
+use Rattle.std.proofs.lemmas.Bool.{both_ways, eq-eqb, eqb-true, ne_eqb, or_cases}
+use Rattle.std.proofs.lemmas.List.Elements.{All-get_or}
+use Rattle.std.proofs.lemmas.Map.Keys.{IsDistinct-cons, IsDistinct-from_apart}
+use Rattle.std.proofs.lemmas.Map.Steps.{length-le_from_distinct_below}
+use Rattle.std.proofs.lemmas.Option.{slice_get-get_or, slice_get_within, get_or_from_slice_get}
 use Rattle.loc_pool.specs.declared.Link.{Link}
 use Rattle.loc_pool.specs.declared.Turn.{Turn}
 use Rattle.loc_persist.specs.Meaning.{VersionsMeaning, Inserts, Removes}
-use Rattle.loc_spec_plane.specs.Tables.{Table}
+use Rattle.loc_spec_plane.specs.Lists.{is_in}
+use Rattle.loc_spec_plane.specs.Points.{Point, same_edge}
+use Rattle.loc_spec_plane.specs.Tables.{Table, edge}
+use Rattle.loc_spec_plane.specs.Places.{is_chain}
+use Rattle.loc_laws_order.proofs.ChainLaws.{chain_differ}
+use Rattle.loc_laws_order.proofs.ListLaws.{get-map}
+use Rattle.loc_laws_order.proofs.Tests.{same_edge_decides}
+use Rattle.loc_status.proofs.Ends.{member_place}
+use Rattle.loc_status.proofs.Standing.{chain_in_range}
 use Rattle.loc_status.specs.Meaning as status
 use Rattle.loc_treeidx.specs.Gaps.{IsPlaceFor, IsNode}
-use Rattle.loc_treeidx.specs.Meaning.{IsCount, meaning_of}
+use Rattle.loc_treeidx.specs.Meaning.{meaning_of}
+use Rattle.loc_treeidx.proofs.Standing.{is_in_member}
 
 -- an insertion at the place of an edge
 pub inserts_edge : (t : Table) (e : ℕ) (old new : VersionsMeaning) (path : List (Link × Turn)) → IsPlaceFor t e old path → Inserts path e old new → status.Inserts t e (meaning_of old) (meaning_of new)
@@ -20,16 +36,6 @@ inserts_edge t e old new path place inserts = record {
   is_changed = inserts.is_changed;
 }
 
--- the list has one edge more
-pub counts_insertion : (t : Table) (e : ℕ) (old new : VersionsMeaning) (path : List (Link × Turn)) (count : ℕ) → IsPlaceFor t e old path → Inserts path e old new → IsCount old count → count < 2 ^ 20 → IsCount new (count + 1)
-counts_insertion t e old new path count place inserts counted fewer =
-    let before = ap length place.whole in
-    let after = ap length (inserts.list place.front place.back place.leads) in
-    let m = length-append place.front place.back in
-    let n = length-append place.front (e ∷ place.back) in
-    let c = counted.is in
-    record { is = omega (arith, before, after, m, n, c); few = omega (arith, fewer) }
-
 -- a removal of the node of an edge
 pub removes_edge : (e : ℕ) (old new : VersionsMeaning) (path : List (Link × Turn)) (at : Link) → IsNode e old path at → Removes path at old new → status.Removes e (meaning_of old) (meaning_of new)
 removes_edge e old new path at node removes = record {
@@ -41,13 +47,33 @@ removes_edge e old new path at node removes = record {
   is_changed = removes.is_changed;
 }
 
--- the list has one edge less
-pub counts_removal : (e : ℕ) (old new : VersionsMeaning) (path : List (Link × Turn)) (at : Link) (count : ℕ) → IsNode e old path at → Removes path at old new → IsCount old count → IsCount new (count - 1)
-counts_removal e old new path at count node removes counted =
-    let before = ap length node.whole in
-    let after = ap length (removes.list node.front e node.back node.leads) in
-    let m = length-append node.front node.back in
-    let n = length-append node.front (e ∷ node.back) in
-    let c = counted.is in
-    let f = counted.few in
-    record { is = omega (arith, before, after, m, n, c); few = omega (arith, f) }
+-- no number of a list is one that is not in it
+apart_from : (e : ℕ) (es : List ℕ) → is_in e es ≡ false → AllByRecursion (λ a. eqb e a ≡ false) es
+apart_from e [] out = tt
+apart_from e (a ∷ es) out =
+    let parts = neither (a == e) (is_in e es) out in
+    (ne_eqb e a (λ same. both_ways (a == e) parts.0 (eq-eqb a e (sym same))), apart_from e es parts.1)
+  where
+    neither : (a b : Bool) → (a || b) ≡ false → (a ≡ false) × (b ≡ false)
+    neither false b h = (refl, h)
+    neither true b h = absurd cc
+
+-- a chain in which an edge is missing has fewer edges than the table
+pub chain_has_room : (t : Table) (p : Point) (es : List ℕ) (e : ℕ) → is_chain p (map (edge t) es) ≡ true → is_in e es ≡ false → e < length t.ends → length es < length t.ends
+chain_has_room t p es e chain out fits =
+    let few = length-le_from_distinct_below (e ∷ es) (length t.ends) (IsDistinct-cons eqb e es (apart_from e es out) once) below in
+    omega (arith, few)
+  where
+    once : IsDistinct eqb es
+    once = IsDistinct-from_apart eqb es (λ i j d less inside. (let a = get_or es i d in
+        let b = get_or es j d in
+        let at_i = get-map (edge t) es i a (slice_get-get_or es i d (omega (arith, less, inside))) in
+        let at_j = get-map (edge t) es j b (slice_get-get_or es j d inside) in
+        ne_eqb a b (λ same. both_ways (same_edge (edge t a) (edge t b)) (chain_differ (map (edge t) es) p chain i j (edge t a) (edge t b) less at_i at_j) ((same_edge_decides (edge t a) (edge t b)).1 (ap (edge t) same)))))
+
+    below : (q : ℕ) → list_any (eqb q) (e ∷ es) ≡ true → q < length t.ends
+    below q there = elim (or_cases (eqb q e) (list_any (eqb q) es) there) [
+      | inl same ↦ subst (λ k. k < length t.ends) (sym (eqb-true q e same)) fits
+      | inr listed ↦ (let at = member_place es q (is_in_member q es listed) in
+          subst (λ k. k < length t.ends) (get_or_from_slice_get es at.0 q 0 at.1) (All-get_or (λ a. a < length t.ends) es at.0 0 (slice_get_within es at.0 q at.1) (chain_in_range t p es chain)))
+    ]

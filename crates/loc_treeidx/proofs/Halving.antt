@@ -7,34 +7,6 @@ use Rattle.std.proofs.lemmas.Bool.{both_ways, cases_Bool, cases_eq, cond-true, c
 use Rattle.loc_spec_plane.specs.Tables.{Table}
 use Rattle.loc_treeidx.specs.Steps.{search_bound, greatest_power, most_steps}
 
--- one step more, where at most half of what was left is left
-pub halved : (k w less v : ℕ) → 2 ^ k * w ≤ v → 2 * less ≤ w → 2 ^ suc k * less ≤ v
-halved k w less v h half =
-    let p = pow-suc 2 k in
-    let m = mul-le (2 ^ k) (2 * less) (2 ^ k) w (omega arith) half in
-    let e : 2 ^ k * 2 * less ≡ 2 ^ k * (2 * less) = grind arith in
-    subst (λ z. z * less ≤ v) (sym p) (omega (arith, m, e, h))
-
--- where something was left, twice the power is at most twice the whole
-pub doubled : (k w v : ℕ) → 2 ^ k * w ≤ v → 0 < w → 2 ^ suc k ≤ 2 * v + 1
-doubled k w v h some =
-    let p = pow-suc 2 k in
-    let m = mul-le (2 ^ k) 1 (2 ^ k) w (omega arith) (omega (arith, some)) in
-    omega (arith, p, m, h)
-
--- the same for a counter that went from f to s, and on to the next number
-module _ (f s next w v : ℕ) (counted : f ≤ s) (ticked : next ≡ s + 1) (left : 2 ^ (s - f) * w ≤ v) where
-  took : next - f ≡ suc (s - f)
-  took = omega (arith, counted, ticked)
-
-  -- what is left halves
-  pub step_halves : (less : ℕ) → 2 * less ≤ w → 2 ^ (next - f) * less ≤ v
-  step_halves less half = subst (λ k. 2 ^ k * less ≤ v) (sym took) (halved (s - f) w less v left half)
-
-  -- and the power stays within twice the whole
-  pub step_doubles : 0 < w → 2 ^ (next - f) ≤ 2 * v + 1
-  step_doubles some = subst (λ k. 2 ^ k ≤ 2 * v + 1) (sym took) (doubled (s - f) w v left some)
-
 -- the greatest power of two that is at most n
 greatest_up_to : (n b k : ℕ) → k ≤ b → 2 ^ k ≤ n → k ≤ greatest_power n b
 unfolding greatest_power

@@ -22,7 +22,7 @@ use Rattle.loc_spec_plane.specs.Tables.{Table, edge}
 use Rattle.loc_spec_plane.specs.Places.{alive, is_edge, IsCornerless, IsListAt, IsPlace}
 use Rattle.loc_place.specs.Planar.{IsPlanar}
 use Rattle.loc_place.proofs.Cornerless.{lies_on_is}
-use Rattle.loc_scan.proofs.Listed.{listed_alive, in_area}
+use Rattle.loc_place.proofs.Listed.{listed_alive, in_area}
 use Rattle.loc_treeidx.specs.Gaps.{IsLast}
 use Rattle.loc_treeidx.proofs.Descents.{at-front, last-snoc, last-passes, last_there}
 

@@ -11,8 +11,8 @@ use Rattle.std.proofs.lemmas.List.FromFn.{length-range_with_len}
 use Rattle.std.proofs.lemmas.Map.Keys.{IsDistinct-from_apart}
 use Rattle.std.proofs.lemmas.Map.Made.{is_member-filter, length-le_from_is_member}
 use Rattle.loc_persist.specs.Meaning.{VersionsMeaning, IsMeaning}
-use Rattle.loc_scan.specs.Standing.{IsBehind}
-use Rattle.loc_scan.proofs.Standing.{version_there}
+use Rattle.loc_place.specs.Standing.{IsBehind}
+use Rattle.loc_place.proofs.Versions.{version_there}
 use Rattle.loc_spec_plane.specs.Points.{Point}
 use Rattle.loc_spec_plane.specs.Lists.{is_in}
 use Rattle.loc_spec_plane.specs.Tables.{Table, IsTable, NoConflict, edge, edge_numbers}
@@ -41,7 +41,7 @@ in_range a (suc n) q from to = elim (cases_eq q a) [
 ]
 
 -- the two tests for a member
-is_in_member : (q : ℕ) (es : List ℕ) → is_member eqb es q ≡ true → is_in q es ≡ true
+pub is_in_member : (q : ℕ) (es : List ℕ) → is_member eqb es q ≡ true → is_in q es ≡ true
 is_in_member q [] here = here
 is_in_member q (e ∷ es) here = elim (cases_eq e q) [
   | inl same ↦ or_left (eqb e q) (is_in q es) (eq-eqb e q same)

@@ -2,7 +2,6 @@
 //! of the last corner before it. Source: Sarnak and Tarjan 1986, Planar Point Location Using Persistent Search Trees.
 #![tactic(auto)]
 
-mod corners;
 pub mod laws;
 mod neighbours;
 mod node;

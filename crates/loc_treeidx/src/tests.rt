@@ -5,7 +5,7 @@ ghost use Rattle.loc_rings.specs.Values.{IsRing};
 
 use crate::TreeIndex;
 use crate::laws::swept_stands;
-use loc_edges::{EdgeTable, Views};
+use loc_edges::EdgeTable;
 use loc_geom::{Point, Steps};
 use loc_place::{Locator, Place};
 use loc_rings::{Feature, Layer, Rings};
@@ -36,9 +36,10 @@ const FIFTH_BAR: Points = &[(0, 40), (40, 40), (40, 45), (0, 45), (0, 40)];
 
 const SIXTH_BAR: Points = &[(0, 50), (40, 50), (40, 55), (0, 55), (0, 50)];
 
-// Layers of features of one ring, and the places of points in them.
-const ROWS: [(&[Points], &[(i64, i64, Place)]); 3] = [
-    (&[], &[(0, 0, Place::Area(None))]),
+// Layers of features of one ring, the places of points in them, and how many nodes their sweep makes.
+const ROWS: [(&[Points], &[(i64, i64, Place)], u32); 4] = [
+    (&[], &[(0, 0, Place::Area(None))], 0),
+    (&[SQUARE], &[(20, 20, Place::Area(Some(1)))], 4),
     (
         &[SQUARE, HOLE],
         &[
@@ -55,6 +56,7 @@ const ROWS: [(&[Points], &[(i64, i64, Place)]); 3] = [
             (40, 41, Place::Area(None)),
             (10, 10, Place::Corner(2)),
         ],
+        16,
     ),
     (
         &[
@@ -75,6 +77,7 @@ const ROWS: [(&[Points], &[(i64, i64, Place)]); 3] = [
             (41, 12, Place::Area(None)),
             (40, 55, Place::Corner(23)),
         ],
+        54,
     ),
 ];
 
@@ -113,28 +116,33 @@ fn layer_of(alloc: Global, rows: &[Points]) -> Result<Layer, Fail> {
 fn expect<I: Locator, L: Ledger>(
     rt: &impl Abort,
     index: &I,
-    views: &Views<'_>,
+    table: &EdgeTable,
     wanted: &[(i64, i64, Place)],
     blank: Blank,
 )
-    requires stands { I.stands index.now views.now }
+    requires stands { I.stands index.now table.now }
     requires name { blank.name ≡ L.name }
     requires parts { blank.parts ≡ L.parts }
     requires some { 0 < L.parts }
 {
+    let views = table.views();
     let mut steps = Steps::<L>::new(blank);
     for (x, y, place) in wanted.iter().copied() {
         let Some(p) = Point::new(x, y) else {
             assert!(rt; false, "at {x} {y}");
             return;
         };
-        assert_eq!(rt; index.locate(views, p, &mut steps), Ok(place), "at {x} {y}");
+        assert_eq!(rt;
+            index.locate(&views, p, &mut steps),
+            Ok(place),
+            "at {x} {y}"
+        );
     }
 }
 
 #[test]
 fn places_by_hand(rt: HostRuntime) -> Result<(), Fail> {
-    for (rows, wanted) in ROWS {
+    for (rows, wanted, nodes) in ROWS {
         let layer = layer_of(rt.alloc(), rows)?;
         let table = EdgeTable::make(rt.alloc(), &layer)?;
         let Ok((index, floors)) = sweep(rt.alloc(), &table, TreeIndex::new(rt.alloc())) else {
@@ -145,8 +153,9 @@ fn places_by_hand(rt: HostRuntime) -> Result<(), Fail> {
         };
         assert_eq!(rt; floors.of_corner(), expected.of_corner());
         assert_eq!(rt; floors.of_edge(), expected.of_edge());
+        assert_eq!(rt; index.versions().nodes(), nodes);
         swept_stands(&table, &index);
-        expect::<TreeIndex, Brand>(&rt, &index, &table.views(), wanted, Blank::new(1));
+        expect::<TreeIndex, Brand>(&rt, &index, &table, wanted, Blank::new(1));
     }
     Ok(())
 }

@@ -10,7 +10,6 @@ ghost use Rattle.loc_treeidx.specs.Meaning.{meaning_of};
 ghost use Rattle.loc_treeidx.specs.Standing.{AreVersionsOf};
 ghost use Rattle.loc_treeidx.specs.Steps.{alive_count, search_bound, most_steps};
 
-use crate::corners::{Standing, search_corners};
 use crate::neighbours::{next_above, next_below};
 use crate::node::node_of;
 use crate::places::place_for;
@@ -20,32 +19,25 @@ use crate::walk::walk_beside;
 use loc_edges::{Ranks, Views};
 use loc_geom::{Point, Steps};
 use loc_persist::Versions;
-use loc_place::{Deep, Locator, Place};
+use loc_place::{Deep, Locator, Place, Standing, search_corners};
 use loc_status::{InsertFault, Status};
 use std::alloc::{AllocError, Global};
 use std::marker::Model;
 use std::sync::ledger::Ledger;
-
-// No table has more edges.
-const MOST_EDGES: u32 = 1 << 20;
 
 /// The index that keeps all lists of a sweep as the versions of one red-black tree. A search finds the last corner that does not come
 /// behind the point, and walks down the version that was sealed there. It stands for every planar table whose versions are the lists.
 #[derive(Drop)]
 pub struct TreeIndex {
     versions: Versions,
-    count: u32,
 }
 
 impl Model for TreeIndex {
     ghost use Rattle.loc_persist.specs.Meaning.{VersionsMeaning};
-    ghost use Rattle.loc_treeidx.specs.Meaning.{IsCount};
 
     ghost Value = { VersionsMeaning };
 
     ghost view = { λ index. index.versions };
-
-    ghost invariant = { λ index. IsCount index.versions index.count };
 }
 
 impl TreeIndex {
@@ -56,7 +48,6 @@ impl TreeIndex {
     {
         TreeIndex {
             versions: Versions::new(alloc),
-            count: 0,
         }
     }
 
@@ -71,25 +62,18 @@ impl TreeIndex {
 impl Status for TreeIndex {
     ghost meaning = { meaning_of };
 
-    // No table has more edges than the limit, so it is never met; `Ranks` does not say how many there are.
     fn insert(&mut self, ranks: &Ranks<'_>, edge: u32) -> Result<(), InsertFault> {
-        if self.count == MOST_EDGES {
-            return Err(InsertFault::NoMemory);
-        }
+        ranks.law();
         let path = place_for(&self.versions, ranks, edge)?;
         match self.versions.insert_at(path, edge) {
             Err(AllocError) => Err(InsertFault::NoMemory),
-            Ok(()) => {
-                self.count += 1;
-                Ok(())
-            }
+            Ok(()) => Ok(()),
         }
     }
 
     fn remove(&mut self, ranks: &Ranks<'_>, edge: u32) -> Result<(), AllocError> {
         let (path, at) = node_of(&self.versions, ranks, edge);
         self.versions.remove_at(path, at)?;
-        self.count -= 1;
         Ok(())
     }
 

@@ -1,7 +1,7 @@
 // A point among the edges of a version, by the walk down its tree.
 
 ghost use Rattle.std.specs.Prelude.{◌-◌, ◌^◌, ◌<◌, ◌≤◌, [], length, get_or};
-ghost use Rattle.loc_scan.specs.Standing.{IsBehind};
+ghost use Rattle.loc_place.specs.Standing.{IsBehind};
 ghost use Rattle.loc_spec_plane.specs.Places.{IsCornerless, IsListAt, IsPlace};
 ghost use Rattle.loc_place.specs.Planar.{IsPlanar};
 ghost use Rattle.loc_treeidx.specs.Standing.{AreVersionsOf};

@@ -13,7 +13,7 @@ returns-in-OnCorner-clause-found g c = ap (λ place. Ok place) (place_is_found c
 pub returns-in-OnCorner-clause-within : goal.returns-in-OnCorner-clause-within
 returns-in-OnCorner-clause-within g c =
     let t = c.args.views.now in
-    let first = c.search_corners.ensures.few in
+    let first = c.search_corners.ensures.halving in
     within_most t 0 c.args.steps.now c.search_corners.new.steps (omega arith) c.search_corners.ensures.counted (omega (arith, first))
 
 pub returns-in-Behind-clause-found : goal.returns-in-Behind-clause-found
@@ -22,7 +22,7 @@ returns-in-Behind-clause-found g c = ap (λ place. Ok place) (place_is_found c.a
 pub returns-in-Behind-clause-few : goal.returns-in-Behind-clause-few
 returns-in-Behind-clause-few g c =
     let t = c.args.views.now in
-    both_within (length t.corners) (alive_count t c.args.p) c.args.steps.now c.search_corners.new.steps c.search_behind.new.steps c.search_corners.ensures.counted c.search_behind.ensures.counted c.search_corners.ensures.few c.search_behind.ensures.few
+    both_within (length t.corners) (alive_count t c.args.p) c.args.steps.now c.search_corners.new.steps c.search_behind.new.steps c.search_corners.ensures.counted c.search_behind.ensures.counted c.search_corners.ensures.halving c.search_behind.ensures.few
 
 pub returns-in-Behind-clause-within : goal.returns-in-Behind-clause-within
 returns-in-Behind-clause-within g c =
@@ -30,4 +30,4 @@ returns-in-Behind-clause-within g c =
     let first = c.search_corners.ensures.counted in
     let second = c.search_behind.ensures.counted in
     within_most t (alive_count t c.args.p) c.args.steps.now c.search_behind.new.steps (alive_few t c.args.p) (omega (arith, first, second))
-    (both_within (length t.corners) (alive_count t c.args.p) c.args.steps.now c.search_corners.new.steps c.search_behind.new.steps first second c.search_corners.ensures.few c.search_behind.ensures.few)
+    (both_within (length t.corners) (alive_count t c.args.p) c.args.steps.now c.search_corners.new.steps c.search_behind.new.steps first second c.search_corners.ensures.halving c.search_behind.ensures.few)

@@ -1,6 +1,14 @@
-use Rattle.std.proofs.Common.{arith}
-use Rattle.loc_treeidx.proofs.Changes.{counts_insertion}
+-- The chain has fewer edges than the table, so there is room for one more.
+use Rattle.std.proofs.Common.{length, ap, arith}
+use Rattle.std.proofs.lemmas.Bool.{not-true}
+use Rattle.loc_spec_plane.specs.Tables.{corner, lo_of}
+use Rattle.loc_persist.specs.Meaning.{VersionsMeaning}
+use Rattle.loc_treeidx.proofs.Changes.{chain_has_room}
 use Rattle.loc_treeidx.proofs.tree_index.TreeIndexStatus.insert.Goals as goal
 
-pub invariant_of-self-in-Ok : goal.invariant_of-self-in-Ok
-invariant_of-self-in-Ok c = counts_insertion c.args.ranks.now c.args.edge c.self.inside.versions c.insert_at.new.self c.in_ok-path.path.items c.self.inside.count c.in_ok-path.ensures.ok c.in-Ok.ensures.inserts c.self.invariant (let few = c.self.invariant.few in omega (arith, few, c.if-self-eq-MOST_EDGES.false))
+pub insert_at-requires-clause-small : goal.insert_at-requires-clause-small
+insert_at-requires-clause-small c =
+    let t = c.args.ranks.now in
+    let room = chain_has_room t (corner t (lo_of t c.args.edge)) c.args.self.now.list c.args.edge c.requires.chain (not-true _ c.requires.is_new) c.requires.in_range in
+    let same = ap (λ (m : VersionsMeaning). length m.list) c.self.view_is in
+    omega (arith, room, same, c.law.ensures.small.few_edges)
