@@ -8,3 +8,4 @@ pub mod Lexicographic
 pub mod Numbering
 pub mod Ranked
 pub mod Stored
+pub mod Sound

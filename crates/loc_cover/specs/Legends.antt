@@ -1,12 +1,11 @@
--- What a legend holds and says of a place, and when a table has none: `LegendRows`, `covering`, `IsLegend`, `IsFew` and `IsRefused`.
-use Rattle.std.specs.Prelude.{◌≡◌, ℕ, ◌<◌, ◌≤◌, nat_lt, List, [], length, get_or, map, filter, not, Option, Some, None}
-use Rattle.loc_spec_plane.specs.Lists.{IsRisingListOf, is_in}
+-- What a legend holds and says of a place: `LegendRows`, `covering` and `touching`; what every legend owes: `IsSound`; what it owes to a table: `FitsTable`, and `IsTrueLegend`; and when a table has none: `IsFew` and `IsRefused`.
+use Rattle.std.specs.Prelude.{◌≡◌, ℕ, ◌<◌, ◌≤◌, ◌^◌, nat_lt, List, [], length, get_or, filter, not, sum_by, All, Option, Some, None, IsTrue}
+use Rattle.loc_spec_plane.specs.Lists.{IsRisingListOf, is_in, is_rising}
 use Rattle.loc_spec_plane.specs.declared.Place.{Place}
 use Rattle.loc_spec_plane.specs.declared.Place.TheVariants.{Corner, Border, Area}
-use Rattle.loc_spec_plane.specs.Tables.{Table, has}
-use Rattle.loc_spec_plane.specs.Covers.{cover_above, cover_lists, cover_sum, has_at}
-use Rattle.loc_rings.specs.Values.{Feature}
-use Rattle.loc_edges.specs.Floors.{FloorLists}
+use Rattle.loc_spec_plane.specs.Tables.{Table, corner, has}
+use Rattle.loc_spec_plane.specs.Places.{IsFloor}
+use Rattle.loc_spec_plane.specs.Covers.{cover_above, cover_lists, cover_sum, has_at, list_before}
 use Rattle.loc_cover.specs.declared.fault.LegendFault.{LegendFault}
 use Rattle.loc_cover.specs.declared.fault.LegendFault.TheVariants.{ManyCovers, NoMemory}
 
@@ -34,17 +33,48 @@ covering rows (Corner c) = filter (λ f. not (is_in f (get_or rows.on_corner c [
 covering rows (Border e) = filter (λ f. not (is_in f (get_or rows.on_edge e []))) (list_above rows e)
 covering rows (Area floor) = list_over rows floor
 
--- the rows of the table of these features with these floors
-pub record IsLegend (t : Table) (features : List Feature) (left : FloorLists) (rows : LegendRows) : Type 0 where
-  pub ids : rows.ids ≡ map (λ (f : Feature). f.id) features
+-- the features that touch what lies at a place
+abbrev pub touching : LegendRows → Place → List ℕ
+touching rows (Corner c) = get_or rows.on_corner c []
+touching rows (Border e) = get_or rows.on_edge e []
+touching rows (Area floor) = []
+
+-- the features of a list have ids
+abbrev pub AreNamed : LegendRows → List ℕ → Type 0
+AreNamed rows fs = All (λ f. f < length rows.ids) fs
+
+-- the lists rise, and so does each of them; there are no more of them than edges, and they have few members together
+pub record AreLists (edges : ℕ) (lists : List (List ℕ)) : Type 0 where
+  pub rise : IsTrue (is_rising list_before lists)
+  pub each_rises : (n : ℕ) → IsTrue (is_rising nat_lt (get_or lists n []))
+  pub few : length lists ≤ edges
+  pub few_members : sum_by length lists ≤ 16777216
+
+-- each number in the rows is that of another row or of an id, and the rows are few and in order
+pub record IsSound (rows : LegendRows) : Type 0 where
+  pub few_features : length rows.ids ≤ 2 ^ 18
+  pub few_edges : length rows.on_edge ≤ 2 ^ 21
+  pub lists : AreLists (length rows.on_edge) rows.lists
+  pub as_many_floors : length rows.floors ≡ length rows.on_corner
+  pub as_many_above : length rows.above ≡ length rows.on_edge
+  pub floors_in_range : (c e : ℕ) → get_or rows.floors c None ≡ Some e → e < length rows.on_edge
+  pub above_in_range : (e : ℕ) → e < length rows.above → get_or rows.above e 0 < length rows.lists
+  pub corners_named : (c : ℕ) → AreNamed rows (get_or rows.on_corner c [])
+  pub edges_named : (e : ℕ) → AreNamed rows (get_or rows.on_edge e [])
+  pub lists_named : (n : ℕ) → AreNamed rows (get_or rows.lists n [])
+
+-- a legend is of a table: the features that touch its corners and edges are those of the marks; lists and floors may be those of no sweep
+pub record FitsTable (t : Table) (rows : LegendRows) : Type 0 where
   pub as_many_corners : length rows.on_corner ≡ length t.corners
   pub on_corner : (c : ℕ) → c < length t.corners → IsRisingListOf nat_lt (has_at t c) (get_or rows.on_corner c [])
   pub as_many_edges : length rows.on_edge ≡ length t.ends
   pub on_edge : (e : ℕ) → e < length t.ends → IsRisingListOf nat_lt (λ f. has t f e) (get_or rows.on_edge e [])
+
+-- its lists are the distinct cover lists of the table, each edge has the one above it, and the floors are those of the corners
+pub record IsTrueLegend (t : Table) (rows : LegendRows) : Type 0 where
   pub lists : rows.lists ≡ cover_lists t
-  pub as_many_above : length rows.above ≡ length t.ends
   pub above : (e : ℕ) → e < length t.ends → list_above rows e ≡ cover_above t e
-  pub floors : rows.floors ≡ left.of_corner
+  pub floors : (c : ℕ) → c < length t.corners → IsFloor t (corner t c) (get_or rows.floors c None)
 
 -- the distinct cover lists have at most so many members together
 abbrev pub IsFew : Table → Type 0

@@ -1,9 +1,15 @@
--- The lists above the edges of a table, as far as they are known: `AreBelow`, `IsNumbered`, `IsKnownUnder` and `IsPath`.
+-- The lists above the edges of a table, as far as they are known: `IsEven`, `AreBelow`, `IsNumbered`, `IsKnownUnder` and `IsPath`.
 use Rattle.std.specs.Prelude.{◌≡◌, ◌≢◌, ℕ, ◌+◌, ◌<◌, Bool, List, [], length, get_or, Option, Some, None, map, true}
 use Rattle.std.specs.List.{list_any}
-use Rattle.loc_spec_plane.specs.Tables.{Table, edge_numbers}
+use Rattle.loc_spec_plane.specs.Tables.{Table, AllEnds, AllEven, NoConflict, edge_numbers}
 use Rattle.loc_spec_plane.specs.Places.{IsJustBelow}
 use Rattle.loc_spec_plane.specs.Covers.{cover_above}
+
+-- every corner is an end, marks are even at every corner, and no two edges conflict: so one cover list follows from the one below it
+pub record IsEven (t : Table) : Type 0 where
+  pub all_ends : AllEnds t
+  pub all_even : AllEven t
+  pub apart : NoConflict t
 
 -- for each edge the edge just below it
 pub record AreBelow (t : Table) (below : List (Option ℕ)) : Type 0 where

@@ -1,11 +1,10 @@
 // The list above each edge, from the list above the edge just below it.
 
 ghost use Rattle.std.specs.Prelude.{◌≡◌, ◌≢◌, ℕ, ◌<◌, [], Some, None, length, get_or, map, IfSome, IfOk, IfErr, OnOk};
-ghost use Rattle.loc_spec_plane.specs.Tables.{NoConflict};
 ghost use Rattle.loc_spec_plane.specs.Places.{IsJustBelow};
 ghost use Rattle.loc_spec_plane.specs.Covers.{cover_above, cover_lists, cover_of_floor};
 ghost use Rattle.loc_cover.specs.Legends.{IsFew, IsRefused};
-ghost use Rattle.loc_cover.specs.Numbered.{AreBelow, IsKnownUnder, IsNumbered, IsPath, KeepsKnown};
+ghost use Rattle.loc_cover.specs.Numbered.{AreBelow, IsEven, IsKnownUnder, IsNumbered, IsPath, KeepsKnown};
 ghost use Rattle.loc_cover.specs.Stores.{IsAt, IsStore};
 
 use crate::LegendFault;
@@ -45,7 +44,7 @@ fn path_down(
     numbers: &[Option<u32>],
     edge: u32,
 ) -> Result<Vec<u32>, AllocError>
-    requires apart { NoConflict table.now }
+    requires even { IsEven table.now }
     requires below { AreBelow table.now below.now }
     requires as_many { length numbers.now ≡ length table.now.ends }
     requires in_range { edge < length table.now.ends }
@@ -89,7 +88,7 @@ fn list_above(
     below: Option<u32>,
     edge: u32,
 ) -> Result<Vec<u32>, AllocError>
-    requires apart { NoConflict table.now }
+    requires even { IsEven table.now }
     requires in_range { edge < length table.now.ends }
     requires just_below { IsJustBelow table.now edge below }
     requires numbered { IsNumbered table.now store.now.rows numbers.now }
@@ -110,7 +109,7 @@ fn number_edge(
     below: Option<u32>,
     edge: u32,
 ) -> Result<(), LegendFault>
-    requires apart { NoConflict table.now }
+    requires even { IsEven table.now }
     requires in_range { edge < length table.now.ends }
     requires just_below { IsJustBelow table.now edge below }
     requires stands { IsStore store.old }
@@ -137,7 +136,7 @@ fn number_down(
     below: &[Option<u32>],
     edge: u32,
 ) -> Result<(), LegendFault>
-    requires apart { NoConflict table.now }
+    requires even { IsEven table.now }
     requires in_range { edge < length table.now.ends }
     requires below { AreBelow table.now below.now }
     requires stands { IsStore store.old }
@@ -161,7 +160,7 @@ fn number_all(
     table: &EdgeTable,
     below: &[Option<u32>],
 ) -> Result<(Store, Vec<Option<u32>>), LegendFault>
-    requires apart { NoConflict table.now }
+    requires even { IsEven table.now }
     requires below { AreBelow table.now below.now }
     ensures stands { IfOk result (λ made. IsStore made.0) }
     ensures numbered { IfOk result (λ made. IsNumbered table.now made.0.rows made.1.items) }
@@ -202,7 +201,7 @@ pub(crate) fn cover_rows(
     table: &EdgeTable,
     below: &[Option<u32>],
 ) -> Result<(Vec<Vec<u32>>, Vec<u32>), LegendFault>
-    requires apart { NoConflict table.now }
+    requires even { IsEven table.now }
     requires below { AreBelow table.now below.now }
     ensures lists { IfOk result (λ made. map (λ list. list.items) made.0.items ≡ cover_lists table.now) }
     ensures as_many { IfOk result (λ made. length made.1.items ≡ length table.now.ends) }

@@ -1,11 +1,11 @@
 // The legend of a table.
 
-ghost use Rattle.std.specs.Prelude.{◌≡◌, ◌<◌, Some, length, map, slice_get, IfOk, IfErr};
-ghost use Rattle.loc_spec_plane.specs.Tables.{NoConflict, table_of};
+ghost use Rattle.std.specs.Prelude.{◌≡◌, ◌<◌, ◌≤◌, ◌^◌, All, IfSome, Some, length, map, slice_get, IfOk, IfErr};
+ghost use Rattle.loc_spec_plane.specs.Tables.{AllEnds, AllEven, NoConflict};
+ghost use Rattle.loc_spec_plane.specs.Covers.{feature_count};
 ghost use Rattle.loc_rings.specs.Values.{Feature as FeatureOf};
-ghost use Rattle.loc_edges.specs.Layers.{layer_of};
-ghost use Rattle.loc_sweep.specs.Swept.{AreFloors};
-ghost use Rattle.loc_cover.specs.Legends.{IsLegend, IsFew, IsRefused, list_above};
+ghost use Rattle.loc_edges.specs.Floors.{AreFloors};
+ghost use Rattle.loc_cover.specs.Legends.{AreLists, FitsTable, IsFew, IsRefused, IsSound, IsTrueLegend, list_above};
 
 use crate::LegendFault;
 use crate::covers::cover_rows;
@@ -28,8 +28,8 @@ pub struct Legend {
 }
 
 impl Model for Legend {
-    ghost use Rattle.std.specs.Prelude.{ℕ, ◌<◌, get_or, length, map};
-    ghost use Rattle.loc_cover.specs.Legends.{LegendRows};
+    ghost use Rattle.std.specs.Prelude.{map};
+    ghost use Rattle.loc_cover.specs.Legends.{IsSound, LegendRows};
 
     ghost Value = { LegendRows };
 
@@ -42,12 +42,20 @@ impl Model for Legend {
       floors = l.floors.items;
     } };
 
-    ghost invariant = { λ l. (e : ℕ) → e < length l.above.items → get_or l.above.items e 0 < length l.lists.items };
+    ghost invariant = { λ l. IsSound (record {
+      ids = map (λ id. id.items) l.ids.items;
+      on_corner = map (λ row. row.items) l.on_corner.items;
+      on_edge = map (λ row. row.items) l.on_edge.items;
+      lists = map (λ list. list.items) l.lists.items;
+      above = l.above.items;
+      floors = l.floors.items;
+    }) };
 }
 
 // A copy of the id of each feature.
 fn ids_of(alloc: Global, layer: &Layer) -> Result<Vec<Vec<u8>>, AllocError>
-    ensures { IfOk result (λ ids. map (λ id. id.items) ids.items ≡ map (λ (f : FeatureOf). f.id) layer.now) }
+    ensures few { IfOk result (λ ids. length ids.items ≤ 2 ^ 18) }
+    ensures value { IfOk result (λ ids. map (λ id. id.items) ids.items ≡ map (λ (f : FeatureOf). f.id) layer.now) }
 {
     let mut ids = Vec::with_capacity(alloc, layer.len())?;
     for feature in layer.features() {
@@ -57,34 +65,104 @@ fn ids_of(alloc: Global, layer: &Layer) -> Result<Vec<Vec<u8>>, AllocError>
 }
 
 impl Legend {
-    /// The legend of the table of a layer, from the floors that a sweep left. It is refused exactly where the distinct cover lists have more
-    /// than 16,777,216 members together, want of memory aside.
+    /// The legend of a table of the features of a layer, from the floors that a sweep left. It is refused exactly where the distinct cover
+    /// lists have more than 16,777,216 members together, want of memory aside.
     pub fn make(
         alloc: Global,
         layer: &Layer,
         table: &EdgeTable,
         floors: &Floors,
     ) -> Result<Legend, LegendFault>
+        requires all_ends { AllEnds table.now }
+        requires all_even { AllEven table.now }
         requires apart { NoConflict table.now }
-        requires of_layer { table.now ≡ table_of (layer_of layer.now) }
+        requires features { feature_count table.now ≤ length layer.now }
         requires swept { AreFloors table.now floors.now }
-        ensures ok { IfOk result (IsLegend table.now layer.now floors.now) }
+        ensures ids { IfOk result (λ rows. rows.ids ≡ map (λ (f : FeatureOf). f.id) layer.now) }
+        ensures fits { IfOk result (FitsTable table.now) }
+        ensures is_true { IfOk result (IsTrueLegend table.now) }
         ensures few { IfOk result (λ _. IsFew table.now) }
         ensures refused { IfErr result (IsRefused table.now) }
     {
         let ids = ids_of(alloc, layer)?;
+        let (covers, cover_of) = cover_rows(alloc, table, floors.of_edge())?;
+        let floors = Vec::from_slice(alloc, floors.of_corner())?;
+        Ok(Legend::of_parts(alloc, table, ids, covers, cover_of, floors)?)
+    }
+
+    /// The legend of a table with these ids, these cover lists, the number of the list above each edge, and these floors, which may be those
+    /// of no sweep. The features that touch each corner and each edge are those of the marks.
+    pub fn of_parts(
+        alloc: Global,
+        table: &EdgeTable,
+        ids: Vec<Vec<u8>>,
+        covers: Vec<Vec<u32>>,
+        cover_of: Vec<u32>,
+        floors: Vec<Option<u32>>,
+    ) -> Result<Legend, AllocError>
+        requires few_features { length ids.items ≤ 2 ^ 18 }
+        requires features { feature_count table.now ≤ length ids.items }
+        requires covers { AreLists (length table.now.ends) (map (λ list. list.items) covers.items) }
+        requires covers_named { All (All (λ f. f < length ids.items)) (map (λ list. list.items) covers.items) }
+        requires as_many_edges { length cover_of.items ≡ length table.now.ends }
+        requires cover_in_range { All (λ n. n < length covers.items) cover_of.items }
+        requires as_many_corners { length floors.items ≡ length table.now.corners }
+        requires floors_in_range { All (λ floor. IfSome floor (λ e. e < length table.now.ends)) floors.items }
+        ensures ids { IfOk result (λ rows. rows.ids ≡ map (λ id. id.items) ids.items) }
+        ensures covers { IfOk result (λ rows. rows.lists ≡ map (λ list. list.items) covers.items) }
+        ensures cover_of { IfOk result (λ rows. rows.above ≡ cover_of.items) }
+        ensures floors { IfOk result (λ rows. rows.floors ≡ floors.items) }
+        ensures fits { IfOk result (FitsTable table.now) }
+    {
+        table.law();
         let on_corner = touching_corners(alloc, table)?;
         let on_edge = touching_edges(alloc, table)?;
-        let (lists, above) = cover_rows(alloc, table, floors.of_edge())?;
-        let floors = Vec::from_slice(alloc, floors.of_corner())?;
         Ok(Legend {
             ids,
             on_corner,
             on_edge,
-            lists,
-            above,
+            lists: covers,
+            above: cover_of,
             floors,
         })
+    }
+
+    /// What is true of every legend, as a call that does no work: its numbers are those of its rows, which are in order.
+    pub fn law(&self)
+        ensures { IsSound self.now }
+    {
+        let _ids = &self.ids;
+    }
+
+    /// How many features there are.
+    pub fn features(&self) -> u32
+        ensures { result ≡ length self.now.ids }
+    {
+        self.ids.len() as u32
+    }
+
+    /// How many distinct cover lists there are.
+    pub fn covers(&self) -> u32
+        ensures { result ≡ length self.now.lists }
+    {
+        self.lists.len() as u32
+    }
+
+    /// Cover list n, in lexicographic order.
+    pub fn cover(&self, n: u32) -> &[u32]
+        requires { n < length self.now.lists }
+        ensures { slice_get self.now.lists n ≡ Some result.now }
+    {
+        self.lists[n as usize].as_slice()
+    }
+
+    /// The number of the cover list above an edge.
+    pub fn cover_of(&self, edge: u32) -> u32
+        requires { edge < length self.now.above }
+        ensures value { slice_get self.now.above edge ≡ Some result }
+        ensures in_range { result < length self.now.lists }
+    {
+        self.above[edge as usize]
     }
 
     /// The bytes of the id of a feature.

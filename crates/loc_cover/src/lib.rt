@@ -5,10 +5,9 @@
 mod covers;
 mod exchange;
 mod fault;
+pub mod laws;
 mod legend;
 mod store;
-#[cfg(test)]
-mod tests;
 mod touching;
 
 pub use fault::LegendFault;

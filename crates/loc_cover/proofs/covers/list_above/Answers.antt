@@ -17,6 +17,6 @@ returns c =
     let t = c.args.table.now in
     let marks = get_or_from_slice_get t.marks c.args.edge c.marks.result.now [] c.marks.ensures.value in
     IfOk-weaker c.exchanged.result _ (λ list. list.items ≡ cover_above t c.args.edge)
-    (λ list made. list_is t c.law.ensures.in_order c.law.ensures.all_ends c.law.ensures.all_even c.requires.apart c.args.edge c.requires.in_range c.args.below list.items c.requires.just_below
+    (λ list made. list_is t c.law.ensures.in_order c.requires.even.all_ends c.requires.even.all_even c.requires.even.apart c.args.edge c.requires.in_range c.args.below list.items c.requires.just_below
     (subst (λ (ms : List Mark). IsRisingListOf nat_lt (λ f. exactly_one (is_marked_odd ms f) (is_in f (cover_of_floor t c.args.below))) list.items) (sym marks) (subst (λ xs. IsRisingListOf nat_lt (λ f. exactly_one (is_marked_odd c.marks.result.now f) (is_in f xs)) list.items) c.list_under-list.ensures made)))
     c.exchanged.ensures

@@ -1,0 +1,103 @@
+-- The rows of a legend are in order, and their numbers in range.
+use Rattle.std.proofs.Common.{◌≡◌, ℕ, ◌<◌, ◌≤◌, Bool, true, false, not, ◌&&◌, List, [], ◌∷◌, length, get_or, map, filter, refl, sym, ◌∙◌, ap, subst, inl, inr, arith, Option, Some, None}
+use Rattle.std.specs.Prelude.{All, IfSome, nat_lt}
+use Rattle.std.specs.List.{list_all, list_any}
+use Rattle.std.proofs.lemmas.Bool.{and_parts, and_from, both_ways, cases_Bool, cases_lt, cond-true, cond-false, not_from_false, or_cases, ltb-true, true_from_ne_false}
+use Rattle.std.proofs.lemmas.List.{get_or_default, get_or_past, length-map}
+use Rattle.std.proofs.lemmas.List.FromFn.{length-range_with_len}
+use Rattle.std.proofs.lemmas.List.Folds.{list_any_at, list_all_at}
+use Rattle.std.proofs.lemmas.Option.{slice_get-get_or}
+use Rattle.loc_spec_plane.specs.Lists.{IsRisingListOf, is_in, is_rising, numbers, sorted_set}
+use Rattle.loc_spec_plane.specs.Points.{is_above}
+use Rattle.loc_spec_plane.specs.Tables.{Table, corner, edge, edge_numbers, ends_at, has}
+use Rattle.loc_spec_plane.specs.Places.{alive, alive_at, is_edge, IsFloor}
+use Rattle.loc_spec_plane.specs.Covers.{cover_above, cover_lists, feature_count, has_at, is_over, list_before}
+use Rattle.loc_laws_order.proofs.ListLaws.{is_in-get}
+use Rattle.loc_laws_order.proofs.TableOrder.{numbers_within}
+use Rattle.loc_laws_rays.proofs.Members.{feature_below}
+use Rattle.loc_edges.proofs.Counts.{length-sorted_set}
+use Rattle.loc_edges.proofs.SortedSet.{any-sorted_set, rising-sorted_set}
+use Rattle.loc_cover.specs.Legends.{AreLists, IsFew}
+use Rattle.loc_cover.specs.Numbered.{covers_of}
+use Rattle.loc_cover.proofs.Exchanging.{all_below}
+use Rattle.loc_cover.proofs.Lexicographic.{lists_by_before}
+use Rattle.loc_cover.proofs.Numbering.{above_rises}
+
+-- ---- the members of a list
+-- what every member passes none fails
+none_fails : {X : Type 0} (q : X → Bool) (xs : List X) → list_all q xs ≡ true → list_any (λ x. not (q x)) xs ≡ false
+none_fails q [] h = refl
+none_fails q (x ∷ xs) h = let parts = and_parts (q x) (list_all q xs) h in cc (parts.0, none_fails q xs parts.1)
+
+-- the members of a sorted set pass what those of the list pass
+sorted_pass : (q : List ℕ → Bool) (xs : List (List ℕ)) → list_all q xs ≡ true → (k : ℕ) (d : List ℕ) → k < length (sorted_set list_before xs) → q (get_or (sorted_set list_before xs) k d) ≡ true
+sorted_pass q xs h k d fits = true_from_ne_false (q (get_or (sorted_set list_before xs) k d)) (λ fails. both_ways (list_any (λ x. not (q x)) (sorted_set list_before xs)) (any-sorted_set lists_by_before (λ x. not (q x)) xs ∙ none_fails q xs h) (list_any_at (λ x. not (q x)) (sorted_set list_before xs) k d fits (not_from_false (q (get_or (sorted_set list_before xs) k d)) fails)))
+
+-- a member passes what every member passes
+all_at : (q : ℕ → Bool) (xs : List ℕ) → list_all q xs ≡ true → (k d : ℕ) → k < length xs → q (get_or xs k d) ≡ true
+all_at q xs h k d fits = true_from_ne_false (q (get_or xs k d)) (λ fails. both_ways (list_all q xs) (list_all_at q xs k d fits fails) h)
+
+all_kept : (q g : ℕ → Bool) (ns : List ℕ) → list_all q ns ≡ true → list_all q (filter g ns) ≡ true
+all_kept q g [] h = refl
+all_kept q g (n ∷ ns) h =
+    let parts = and_parts (q n) (list_all q ns) h in
+    elim (cases_Bool (g n)) [
+      | inl kept ↦ ap (list_all q) (cond-true _ _ _ kept) ∙ and_from (q n) (list_all q (filter g ns)) parts.0 (all_kept q g ns parts.1)
+      | inr left ↦ ap (list_all q) (cond-false _ _ _ left) ∙ all_kept q g ns parts.1
+    ]
+
+all_mapped : (q : List ℕ → Bool) (f : ℕ → List ℕ) (ns : List ℕ) → ((n : ℕ) → q (f n) ≡ true) → list_all q (map f ns) ≡ true
+all_mapped q f [] each = refl
+all_mapped q f (n ∷ ns) each = and_from (q (f n)) (list_all q (map f ns)) (each n) (all_mapped q f ns each)
+
+-- ---- the cover lists
+module _ (t : Table) where
+  -- their features are counted
+  pub covers_named : (most : ℕ) → feature_count t ≤ most → All (All (λ f. f < most)) (cover_lists t)
+  covers_named most le = λ k d fits i e inside. ltb-true (get_or (get_or (cover_lists t) k d) i e) most
+      (all_at (λ f. nat_lt f most) (get_or (cover_lists t) k d) (sorted_pass (list_all (λ f. nat_lt f most)) (covers_of t) (all_mapped (list_all (λ f. nat_lt f most)) (cover_above t) (edge_numbers t) (λ e. all_kept (λ f. nat_lt f most) (is_over t e) (numbers (feature_count t)) (all_below (feature_count t) most (numbers (feature_count t)) le (numbers_within (feature_count t))))) k d fits) i e inside)
+
+  -- and they are in order
+  pub are_lists : IsFew t → AreLists (length t.ends) (cover_lists t)
+  are_lists few = record {
+    rise = rising-sorted_set lists_by_before (covers_of t);
+    each_rises = λ n. elim (cases_lt n (length (cover_lists t))) [
+      | inl fits ↦ sorted_pass (is_rising nat_lt) (covers_of t) (all_mapped (is_rising nat_lt) (cover_above t) (edge_numbers t) (above_rises t)) n [] fits
+      | inr past ↦ ap (is_rising nat_lt) (get_or_past (cover_lists t) n [] past)
+    ];
+    few = omega (arith, length-sorted_set list_before (covers_of t), length-map (edge_numbers t) (cover_above t), length-range_with_len 0 (length t.ends));
+    few_members = few;
+  }
+
+  -- ---- the features that touch
+  pub marked_there : (c f : ℕ) (es : List ℕ) → list_any (λ e. ends_at t c e && has t f e) es ≡ true → f < feature_count t
+  marked_there c f [] h = absurd cc
+  marked_there c f (e ∷ es) h = elim (or_cases (ends_at t c e && has t f e) (list_any (λ e. ends_at t c e && has t f e) es) h) [
+    | inl here ↦ feature_below t f e (and_parts (ends_at t c e) (has t f e) here).1
+    | inr later ↦ marked_there c f es later
+  ]
+
+-- features that pass a test, where the features that pass it are below a number
+pub named_by : (test : ℕ → Bool) (most : ℕ) (fs : List ℕ) → IsRisingListOf nat_lt test fs → ((f : ℕ) → test f ≡ true → f < most) → All (λ f. f < most) fs
+named_by test most fs are below = λ k d fits. below (get_or fs k d) (sym (are.exact (get_or fs k d)) ∙ is_in-get fs k (get_or fs k d) (slice_get-get_or fs k d fits))
+
+-- rows of which each is so, and an empty row behind them
+pub each_row : (P : ℕ → List ℕ → Type 0) (rows : List (List ℕ)) (most : ℕ) → ((n : ℕ) (fs : List ℕ) → P n fs → All (λ f. f < most) fs) → ((n : ℕ) → n < length rows → P n (get_or rows n [])) → (n : ℕ) → All (λ f. f < most) (get_or rows n [])
+each_row P rows most named each n = elim (cases_lt n (length rows)) [
+  | inl fits ↦ named n (get_or rows n []) (each n fits)
+  | inr past ↦ subst (All (λ f. f < most)) (sym (get_or_past rows n [] past)) (λ k d fits. absurd (omega arith))
+]
+
+-- a floor is an edge
+pub floor_in_range : (t : Table) (c : ℕ) (floor : Option ℕ) → IsFloor t (corner t c) floor → IfSome floor (λ e. e < length t.ends)
+floor_in_range t c None is = tt
+floor_in_range t c (Some e) is =
+    let top = and_parts (alive_at t (corner t c) e) (is_above (edge t e) (corner t c)) is.0 in
+    ltb-true e (length t.ends) (and_parts (is_edge t e) (alive (edge t e) (corner t c)) top.0).0
+
+-- a floor that stands there is in range
+pub floor_there : (floors : List (Option ℕ)) (most : ℕ) → All (λ floor. IfSome floor (λ e. e < most)) floors → (c e : ℕ) → get_or floors c None ≡ Some e → e < most
+floor_there floors most each c e at = elim (cases_lt c (length floors)) [
+  | inl fits ↦ subst (λ o. IfSome o (λ k. k < most)) at (each c None fits)
+  | inr past ↦ absurd (let none = get_or_past floors c None past in cc (none, at))
+]
