@@ -7,7 +7,7 @@ use Rattle.loc_course.specs.Courses.{Text, Source, Course, Stopped, refused, unr
 use Rattle.loc_course.specs.Following.{Moment, IsToldAtMost, Follows, lacks, refuses_by, reads_not, reads_by, searches_by, answers_by, writes_by, makes_by}
 use Rattle.loc_course.specs.Moments.{IsToldText}
 use Rattle.loc_course.specs.Streams.{Answering, AnswersTo}
-use Rattle.loc_course.specs.Sentences.{status_of, HasLength, AreWhole, Hands, hands_none, hands_last, hands_on, hands_answered, hands_searched, Names, MayMake, MakesNone, Files, WithinSteps, SearchesNothing, Counts}
+use Rattle.loc_course.specs.Sentences.{status_of, HasLength, AreWhole, Hands, hands_none, hands_last, hands_on, hands_answered, hands_searched, Names, MayMake, MakesNone, Files, WithinSteps, SearchesNothing, Counts, InTimes}
 
 -- one entry more, and those behind it
 behind : (old mid new more : Entries) (name : Text) (taken k : ℕ) → mid ≡ old ++ (name, taken) ∷ [] → taken ≡ k → new ≡ mid ++ more → new ≡ old ++ (name, k) ∷ more
@@ -51,9 +51,9 @@ names (answers_by {s = s} {answer = answer} {m = m} {n = n} {came = came} done) 
   added = (s.name, done.taken) ∷ [];
   entries = done.entries;
   handed = hands_answered done.taken;
-  whole = λ zero. (whole_answers s answer (m.shelf.told s.name) done.taken done.text m.written n.written came done.comes zero, tt);
+  whole = λ zero. (whole_answers s answer (m.shelf.told s.name) done.taken done.text m.out.written n.out.written came done.comes zero, tt);
 }
-names (writes_by {m = m} text written faults is w) = record { added = []; entries = sym (append-nil m.shelf.entries); handed = hands_none; whole = λ zero. tt }
+names (writes_by {m = m} text out is w) = record { added = []; entries = sym (append-nil m.shelf.entries); handed = hands_none; whole = λ zero. tt }
 names (makes_by {m = m} text shelf is made) = record { added = []; entries = made.reading.entries ∙ sym (append-nil m.shelf.entries); handed = hands_none; whole = λ zero. tt }
 
 -- what is told of a file that a course does not make
@@ -64,7 +64,7 @@ others (reads_not shelf read) name no_maker = inl (read.files name)
 others (reads_by {n = n} text shelf read rest) name no_maker = subst (λ (t : Told). IsToldAtMost t (n.shelf.told name)) (read.files name) (others rest name (λ maker. no_maker (text, maker)))
 others (searches_by steps up within rest) name no_maker = others rest name no_maker
 others (answers_by done) name no_maker = inl (done.files name)
-others (writes_by text written faults is w) name no_maker = inl refl
+others (writes_by text out is w) name no_maker = inl refl
 others (makes_by text shelf is made) name no_maker = made.others name no_maker
 
 all : {c : Course} {m n : Moment} {end : Option Stopped} → Follows c m n end → MakesNone c → KeepsFiles m.shelf n.shelf
@@ -74,11 +74,21 @@ all (reads_not shelf read) no_maker name = read.files name
 all (reads_by text shelf read rest) no_maker name = all rest (λ other maker. no_maker other (text, maker)) name ∙ read.files name
 all (searches_by steps up within rest) no_maker name = all rest no_maker name
 all (answers_by done) no_maker name = done.files name
-all (writes_by text written faults is w) no_maker name = refl
+all (writes_by text out is w) no_maker name = refl
 all (makes_by {name = made} text shelf is it) no_maker name = absurd (no_maker made refl)
 
+steady : {c : Course} {m n : Moment} {end : Option Stopped} → Follows c m n end → MakesNone c → n.shelf.write_faults ≡ m.shelf.write_faults
+steady lacks no_maker = refl
+steady (refuses_by line passes) no_maker = refl
+steady (reads_not shelf read) no_maker = read.making.write_faults
+steady (reads_by text shelf read rest) no_maker = steady rest (λ name maker. no_maker name (text, maker)) ∙ read.making.write_faults
+steady (searches_by steps up within rest) no_maker = steady rest no_maker
+steady (answers_by done) no_maker = done.making.write_faults
+steady (writes_by text out is w) no_maker = refl
+steady (makes_by {name = made} text shelf is it) no_maker = absurd (no_maker made refl)
+
 pub files : {c : Course} {m n : Moment} {end : Option Stopped} → Follows c m n end → Files c m n
-files follows = record { others = others follows; all = all follows }
+files follows = record { others = others follows; all = all follows; steady = steady follows }
 
 up : {c : Course} {m n : Moment} {end : Option Stopped} → Follows c m n end → m.steps ≤ n.steps
 up lacks = omega arith
@@ -87,7 +97,7 @@ up (reads_not shelf read) = omega arith
 up (reads_by text shelf read rest) = up rest
 up (searches_by steps more within rest) = let k = up rest in omega (arith, more, k)
 up (answers_by done) = done.up
-up (writes_by text written faults is w) = omega arith
+up (writes_by text out is w) = omega arith
 up (makes_by text shelf is made) = omega arith
 
 within : {c : Course} {m n : Moment} {end : Option Stopped} → Follows c m n end → (k : ℕ) → WithinSteps m.shelf.told c k → n.steps ≤ m.steps + k
@@ -98,7 +108,7 @@ within (reads_by {next = next} text shelf read rest) k most =
     within rest k (subst (λ (told : Text → Told). WithinSteps told (next text) k) (sym (fun_ext read.files)) (most text (omega (arith, read.comes.0, read.comes.1)) read.comes.2))
 within (searches_by steps more few rest) k most = let l = within rest most.0 most.2 in omega (arith, few, most.1, l)
 within (answers_by done) k most = let l = most done.text done.within done.told in omega (arith, done.steps, l)
-within (writes_by text written faults is w) k most = omega arith
+within (writes_by text out is w) k most = omega arith
 within (makes_by text shelf is made) k most = omega arith
 
 stay : {c : Course} {m n : Moment} {end : Option Stopped} → Follows c m n end → SearchesNothing c → n.steps ≡ m.steps
@@ -108,8 +118,21 @@ stay (reads_not shelf read) none = refl
 stay (reads_by text shelf read rest) none = stay rest (none text)
 stay (searches_by steps more few rest) none = absurd none
 stay (answers_by done) none = absurd none
-stay (writes_by text written faults is w) none = refl
+stay (writes_by text out is w) none = refl
 stay (makes_by text shelf is made) none = refl
 
 pub counts : {c : Course} {m n : Moment} {end : Option Stopped} → Follows c m n end → Counts c m n
 counts follows = record { up = up follows; within = within follows; stay = stay follows }
+
+-- no call came late
+pub in_times : {c : Course} {m n : Moment} {end : Option Stopped} → Follows c m n end → InTimes m n
+in_times lacks = record { shelf = λ _ _. refl; out = λ _. refl }
+in_times (refuses_by line passes) = record { shelf = λ _ _. refl; out = λ _. refl }
+in_times (reads_not shelf read) = record { shelf = read.in_time; out = λ _. refl }
+in_times (reads_by text shelf read rest) =
+    let more = in_times rest in
+    record { shelf = λ no_read no_write. more.shelf (read.counts ∙ no_read) (read.making.write_faults ∙ no_write) ∙ read.in_time no_read no_write; out = more.out }
+in_times (searches_by steps up within rest) = let more = in_times rest in record { shelf = more.shelf; out = more.out }
+in_times (answers_by done) = record { shelf = done.in_time; out = done.out_in_time }
+in_times (writes_by text out is w) = record { shelf = λ _ _. refl; out = w.in_time }
+in_times (makes_by text shelf is made) = record { shelf = made.in_time; out = λ _. refl }

@@ -3,8 +3,9 @@ use Rattle.std.specs.Prelude.{◌≡◌, ◌≢◌, ◌⊎◌, ℕ, ◌+◌, ◌
 use Rattle.std.specs.Io.KnownBytes.{Keeps, Appends}
 use Rattle.loc_io.specs.Causes.{Rose}
 use Rattle.loc_io.specs.Entries.{Entries}
-use Rattle.loc_io.specs.Meaning.{KeepsFiles, Told, untold, absent, holds}
+use Rattle.loc_io.specs.Meaning.{KeepsFiles, NoneLate, Told, untold, absent, holds}
 use Rattle.loc_io.specs.Reading.{WroteFront}
+use Rattle.loc_io.specs.Streams.{InTime, Stream}
 use Rattle.loc_spec_text.specs.Bytes.{lines}
 use Rattle.loc_spec_text.specs.Points.{ended}
 use Rattle.loc_course.specs.Courses.{Text, Source, Course, refuses, reads, searches, answers, writes, makes, Stopped, refused, unread, unwritten, no_memory}
@@ -29,20 +30,20 @@ note_of unwritten = ended (codes "write failed")
 note_of no_memory = ended (codes "out of memory")
 
 -- the text was written on notes, or a front of it where the count of its faults rose
-abbrev pub Wrote : ℕ → ℕ → Option Text → Option Text → Text → Type 0
-Wrote n n' m m' text = (Appends m m' text × (n' ≡ n)) ⊎ (WroteFront m m' text × Rose n n')
+abbrev pub Wrote : Stream → Stream → Text → Type 0
+Wrote n n' text = (Appends n.written n'.written text × (n'.faults ≡ n.faults)) ⊎ (WroteFront n.written n'.written text × Rose n.faults n'.faults)
 
 -- the line of why a command stopped was written on notes, and nothing where it was done
-abbrev pub Noted : Option Stopped → ℕ → ℕ → Option Text → Option Text → Type 0
-Noted None n n' m m' = (n' ≡ n) × (m' ≡ m)
-Noted (Some stop) n n' m m' = Wrote n n' m m' (note_of stop)
+abbrev pub Noted : Option Stopped → Stream → Stream → Type 0
+Noted None n n' = n' ≡ n
+Noted (Some stop) n n' = Wrote n n' (note_of stop)
 
 -- Nothing is written on notes with status 0, and with 3, 4 and 5 the line of the cause. With 1 it is the line by which the texts are refused.
-pub record Notes (n n' : ℕ) (m m' : Option Text) (status : ℕ) : Type 0 where
-  pub done : status ≡ 0 → (n' ≡ n) × (m' ≡ m)
-  pub read : status ≡ 3 → Wrote n n' m m' (note_of unread)
-  pub write : status ≡ 4 → Wrote n n' m m' (note_of unwritten)
-  pub memory : status ≡ 5 → Wrote n n' m m' (note_of no_memory)
+pub record Notes (n n' : Stream) (status : ℕ) : Type 0 where
+  pub done : status ≡ 0 → n' ≡ n
+  pub read : status ≡ 3 → Wrote n n' (note_of unread)
+  pub write : status ≡ 4 → Wrote n n' (note_of unwritten)
+  pub memory : status ≡ 5 → Wrote n n' (note_of no_memory)
 
 -- How a command ends, by what its told files come to. A read may fail, and memory may be wanting, whatever they come to.
 abbrev pub EndsSo : Outcome → Option Text → Moment → Option Stopped → Type 0
@@ -57,13 +58,13 @@ EndsSo (refusal passes) before new (Some (refused line)) = IsTrue (passes line)
 EndsSo (refusal passes) before new (Some unread) = ⊤
 EndsSo (refusal passes) before new (Some unwritten) = ⊥
 EndsSo (refusal passes) before new (Some no_memory) = ⊤
-EndsSo (output passes) before new None = (text : Text) × IsTrue (passes text) × Appends before new.written text
+EndsSo (output passes) before new None = (text : Text) × IsTrue (passes text) × Appends before new.out.written text
 EndsSo (output passes) before new (Some (refused line)) = ⊥
 EndsSo (output passes) before new (Some unread) = ⊤
 EndsSo (output passes) before new (Some unwritten) = ⊤
 EndsSo (output passes) before new (Some no_memory) = ⊤
 EndsSo (partly out line) before new None = ⊥
-EndsSo (partly out line) before new (Some (refused other)) = (other ≡ line) × Appends before new.written out
+EndsSo (partly out line) before new (Some (refused other)) = (other ≡ line) × Appends before new.out.written out
 EndsSo (partly out line) before new (Some unread) = ⊤
 EndsSo (partly out line) before new (Some unwritten) = ⊤
 EndsSo (partly out line) before new (Some no_memory) = ⊤
@@ -75,17 +76,34 @@ EndsSo (file name passes) before new (Some no_memory) = ⊤
 
 -- With status 0 the told files come to an output, and out has grown by one that passes.
 abbrev pub Done : Course → Moment → Moment → ℕ → Type 0
-Done c old new status = status ≡ 0 → EndsSo (outcome old.shelf.told c) old.written new None
+Done c old new status = status ≡ 0 → EndsSo (outcome old.shelf.told c) old.out.written new None
 
 -- Status 1 comes only where the told files come to a refusal, and the line on notes passes.
-abbrev pub RefusedOnly : Course → Moment → Moment → ℕ → ℕ → Option Text → Option Text → ℕ → Type 0
-RefusedOnly c old new n n' m m' status = status ≡ 1 → (line : Text) × EndsSo (outcome old.shelf.told c) old.written new (Some (refused line)) × Wrote n n' m m' line
+abbrev pub RefusedOnly : Course → Moment → Moment → Stream → Stream → ℕ → Type 0
+RefusedOnly c old new n n' status = status ≡ 1 → (line : Text) × EndsSo (outcome old.shelf.told c) old.out.written new (Some (refused line)) × Wrote n n' line
 
--- no count rose, and each stood below its last value
-pub record NoneFailed (old new : Moment) : Type 0 where
-  pub reads : (old.shelf.read_faults < 2 ^ 64 - 1) × (new.shelf.read_faults ≡ old.shelf.read_faults)
-  pub out : (old.write_faults < 2 ^ 64 - 1) × (new.write_faults ≡ old.write_faults)
-  pub files : (old.shelf.write_faults < 2 ^ 64 - 1) × (new.shelf.write_faults ≡ old.shelf.write_faults)
+-- a course may make a file of this name
+abbrev pub MayMake : Course → Text → Type 0
+MayMake (refuses passes) name = ⊥
+MayMake (reads s next) name = (text : Text) × MayMake (next text) name
+MayMake (searches k c) name = MayMake c name
+MayMake (answers s each answer) name = ⊥
+MayMake (writes passes) name = ⊥
+MayMake (makes made passes) name = name ≡ made
+
+-- a course makes no file
+abbrev pub MakesNone : Course → Type 0
+MakesNone c = (name : Text) → MayMake c name → ⊥
+
+-- a count stood below its last value, and did not rise
+abbrev pub Steady : ℕ → ℕ → Type 0
+Steady before now = (before < 2 ^ 64 - 1) × (now ≡ before)
+
+-- no call failed: of reads, of out, and of files where the course may make one
+pub record NoneFailed (c : Course) (old new : Moment) : Type 0 where
+  pub reads : Steady old.shelf.read_faults new.shelf.read_faults
+  pub out : Steady old.out.faults new.out.faults
+  pub files : (name : Text) → MayMake c name → Steady old.shelf.write_faults new.shelf.write_faults
 
 -- the told files come to an output or to a file
 abbrev pub IsDoing : Outcome → Type 0
@@ -98,18 +116,18 @@ IsDoing (file name passes) = ⊤
 
 -- Where the told files come to an output or to a file and nothing failed, the status is 0, or 5.
 abbrev pub Succeeds : Course → Moment → Moment → ℕ → Type 0
-Succeeds c old new status = IsDoing (outcome old.shelf.told c) → NoneFailed old new → (status ≡ 0) ⊎ (status ≡ 5)
+Succeeds c old new status = IsDoing (outcome old.shelf.told c) → NoneFailed c old new → (status ≡ 0) ⊎ (status ≡ 5)
 
--- Where the told files come to a refusal and nothing failed, the status is 1 with a line that passes, or 5.
-abbrev pub Refuses : Course → Moment → Moment → ℕ → ℕ → Option Text → Option Text → ℕ → Type 0
-Refuses c old new n n' m m' status = (passes : Text → Bool) → outcome old.shelf.told c ≡ refusal passes → NoneFailed old new
-    → ((status ≡ 1) × (line : Text) × IsTrue (passes line) × Wrote n n' m m' line) ⊎ (status ≡ 5)
+-- Where the told files come to a refusal and no read failed, the status is 1 with a line that passes, or 5.
+abbrev pub Refuses : Course → Moment → Moment → Stream → Stream → ℕ → Type 0
+Refuses c old new n n' status = (passes : Text → Bool) → outcome old.shelf.told c ≡ refusal passes → Steady old.shelf.read_faults new.shelf.read_faults
+    → ((status ≡ 1) × (line : Text) × IsTrue (passes line) × Wrote n n' line) ⊎ (status ≡ 5)
 
 -- Where the told files come to some answers and then a refusal and nothing failed, the status is 1 with the line, and out has grown by these answers;
 -- or it is 5.
-abbrev pub RefusesPartly : Course → Moment → Moment → ℕ → ℕ → Option Text → Option Text → ℕ → Type 0
-RefusesPartly c old new n n' m m' status = (out line : Text) → outcome old.shelf.told c ≡ partly out line → NoneFailed old new
-    → ((status ≡ 1) × Appends old.written new.written out × Wrote n n' m m' line) ⊎ (status ≡ 5)
+abbrev pub RefusesPartly : Course → Moment → Moment → Stream → Stream → ℕ → Type 0
+RefusesPartly c old new n n' status = (out line : Text) → outcome old.shelf.told c ≡ partly out line → NoneFailed c old new
+    → ((status ≡ 1) × Appends old.out.written new.out.written out × Wrote n n' line) ⊎ (status ≡ 5)
 
 -- Where a file on the way is not there, the status is 3, or 5.
 abbrev pub Misses : Course → Moment → ℕ → Type 0
@@ -119,16 +137,15 @@ Misses c old status = outcome old.shelf.told c ≡ missing → (status ≡ 3) �
 abbrev pub ReadsFail : Moment → Moment → ℕ → Type 0
 ReadsFail old new status = old.shelf.read_faults < 2 ^ 64 - 1 → (status ≡ 3 → old.shelf.read_faults < new.shelf.read_faults) × (old.shelf.read_faults < new.shelf.read_faults → status ≡ 3)
 
--- status 4 comes exactly where a count of writes rose: that of out, or that of files
-abbrev pub WritesFail : Moment → Moment → ℕ → Type 0
-WritesFail old new status = old.write_faults < 2 ^ 64 - 1 → old.shelf.write_faults < 2 ^ 64 - 1
-    → (status ≡ 4 → (old.write_faults < new.write_faults) ⊎ (old.shelf.write_faults < new.shelf.write_faults))
-    × ((old.write_faults < new.write_faults) ⊎ (old.shelf.write_faults < new.shelf.write_faults) → status ≡ 4)
+-- Status 4 comes where a count of writes rose, that of out or that of files, and only there; of files only where the course may make one.
+pub record WritesFail (c : Course) (old new : Moment) (status : ℕ) : Type 0 where
+  pub rose : (old.out.faults < new.out.faults) ⊎ (old.shelf.write_faults < new.shelf.write_faults) → status ≡ 4
+  pub only : status ≡ 4 → Rose old.out.faults new.out.faults ⊎ ((name : Text) × MayMake c name × Rose old.shelf.write_faults new.shelf.write_faults)
 
 -- the count of reads rises with status 3 alone, and those of writes with status 4 alone
 pub record NoCountRose (old new : Moment) (status : ℕ) : Type 0 where
   pub reads : status ≢ 3 → new.shelf.read_faults ≡ old.shelf.read_faults
-  pub out : status ≢ 4 → new.write_faults ≡ old.write_faults
+  pub out : status ≢ 4 → new.out.faults ≡ old.out.faults
   pub files : status ≢ 4 → new.shelf.write_faults ≡ old.shelf.write_faults
 
 -- out is as before, or has grown by a front of what the told files come to
@@ -151,8 +168,8 @@ AtOnce (makes name passes) = ⊤
 
 -- Out has grown by no more than a front of what the told files come to. Where a course writes at once, nothing was written with status 1, 3 and 5.
 pub record OutGrows (c : Course) (old new : Moment) (status : ℕ) : Type 0 where
-  pub grows : OutSo (outcome old.shelf.told c) old.written new.written
-  pub kept : AtOnce c → status ≢ 0 → status ≢ 4 → new.written ≡ old.written
+  pub grows : OutSo (outcome old.shelf.told c) old.out.written new.out.written
+  pub kept : AtOnce c → status ≢ 0 → status ≢ 4 → new.out.written ≡ old.out.written
 
 -- The entries that a course adds, by what is told of each name: of each source at most one, in order, and one behind another only where that
 -- was read whole.
@@ -182,23 +199,11 @@ pub record Names (c : Course) (old new : Moment) (status : ℕ) : Type 0 where
   pub handed : Hands old.shelf.told c added
   pub whole : status ≡ 0 → AreWhole old.shelf.told added
 
--- a course may make a file of this name
-abbrev pub MayMake : Course → Text → Type 0
-MayMake (refuses passes) name = ⊥
-MayMake (reads s next) name = (text : Text) × MayMake (next text) name
-MayMake (searches k c) name = MayMake c name
-MayMake (answers s each answer) name = ⊥
-MayMake (writes passes) name = ⊥
-MayMake (makes made passes) name = name ≡ made
-
--- a course makes no file
-abbrev pub MakesNone : Course → Type 0
-MakesNone c = (name : Text) → MayMake c name → ⊥
-
 -- No file changes but one that the course may make. Others may no longer be told then, and where there is none, all are told as before.
 pub record Files (c : Course) (old new : Moment) : Type 0 where
   pub others : (name : Text) → (MayMake c name → ⊥) → IsToldAtMost (old.shelf.told name) (new.shelf.told name)
   pub all : MakesNone c → KeepsFiles old.shelf new.shelf
+  pub steady : MakesNone c → new.shelf.write_faults ≡ old.shelf.write_faults
 
 -- a course writes at once, and makes no file
 pub record IsPlain (c : Course) : Type 0 where
@@ -229,26 +234,32 @@ pub record Counts (c : Course) (old new : Moment) : Type 0 where
   pub within : (k : ℕ) → WithinSteps old.shelf.told c k → new.steps ≤ old.steps + k
   pub stay : SearchesNothing c → new.steps ≡ old.steps
 
+-- Where no call of the shelf had failed before, none was made after one had failed; so for out.
+pub record InTimes (old new : Moment) : Type 0 where
+  pub shelf : NoneLate old.shelf new.shelf
+  pub out : InTime old.out new.out
+
 -- What a command came to, and all of it by one end: it followed its course to this end, which gives the status and the line on notes.
-pub record Ended (c : Course) (old new : Moment) (n n' : ℕ) (m m' : Option Text) (status : ℕ) : Type 0 where
+pub record Ended (c : Course) (old new : Moment) (n n' : Stream) (status : ℕ) : Type 0 where
   pub end : Option Stopped
   pub follows : Follows c old new end
-  pub noted : Noted end n n' m m'
+  pub noted : Noted end n n'
   pub status_is : status ≡ status_of end
 
 -- All that holds of a command that follows a course, by its status, and the line on notes.
-pub record Sentences (c : Course) (old new : Moment) (n n' : ℕ) (m m' : Option Text) (status : ℕ) : Type 0 where
+pub record Sentences (c : Course) (old new : Moment) (n n' : Stream) (status : ℕ) : Type 0 where
   pub done : Done c old new status
   pub succeeds : Succeeds c old new status
-  pub refuses : Refuses c old new n n' m m' status
-  pub refuses_partly : RefusesPartly c old new n n' m m' status
-  pub refused_only : RefusedOnly c old new n n' m m' status
+  pub refuses : Refuses c old new n n' status
+  pub refuses_partly : RefusesPartly c old new n n' status
+  pub refused_only : RefusedOnly c old new n n' status
   pub misses : Misses c old status
   pub reads_fail : ReadsFail old new status
-  pub writes_fail : WritesFail old new status
+  pub writes_fail : WritesFail c old new status
   pub no_count_rose : NoCountRose old new status
   pub out : OutGrows c old new status
   pub names : Names c old new status
   pub files : Files c old new
   pub steps : Counts c old new
-  pub notes : Notes n n' m m' status
+  pub in_time : InTimes old new
+  pub notes : Notes n n' status

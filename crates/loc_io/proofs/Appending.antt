@@ -1,6 +1,9 @@
 -- Pieces that are written one after the other.
-use Rattle.std.proofs.Common.{◌≡◌, ℕ, List, ◌++◌, take, drop, Option, Some, None, sym, ◌∙◌, ap, append_assoc, take-append-drop}
+use Rattle.std.proofs.Common.{◌≡◌, ℕ, List, ◌++◌, take, drop, Option, Some, None, Bool, sym, subst, ◌∙◌, ap, append_assoc, take-append-drop}
+use Rattle.std.specs.Prelude.{nat_lt}
 use Rattle.std.specs.Io.KnownBytes.{Appends}
+use Rattle.loc_io.specs.Causes.{CountsLate}
+use Rattle.loc_io.specs.Streams.{InTime, Stream}
 
 -- two pieces that were appended one after the other
 pub Appends-more : (a b c : Option (List ℕ)) (front more : List ℕ) → Appends a b front → Appends b c more → Appends a c (front ++ more)
@@ -22,3 +25,11 @@ wrote-more a b c piece rest n so_far more = record {
   split = so_far.split ∙ ap (λ (l : List ℕ). so_far.front ++ l) (sym (take-append-drop n rest)) ∙ sym (append_assoc so_far.front (take n rest) (drop n rest));
   bytes = Appends-more a b c so_far.front (take n rest) so_far.bytes more;
 }
+
+-- a write where none has failed is in time
+pub in_time_by : (old new : Stream) → CountsLate (nat_lt 0 old.faults) old.late new.late → InTime old new
+in_time_by old new counted none = subst (λ (b : Bool). CountsLate b old.late new.late) (ap (λ (k : ℕ). nat_lt 0 k) none) counted
+
+-- and what is in time behind what was in time and did not fail
+pub in_time_after : (a b c : Stream) → InTime a b → b.faults ≡ a.faults → InTime b c → InTime a c
+in_time_after a b c first same second none = second (same ∙ none) ∙ first none

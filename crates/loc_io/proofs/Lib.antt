@@ -1,4 +1,4 @@
-mod Appending
+pub mod Appending
 mod Growing
 mod Lookup
-mod Reading
+pub mod Reading

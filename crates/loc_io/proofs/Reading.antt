@@ -1,13 +1,24 @@
 -- A loop of reads.
-use Rattle.std.proofs.Common.{◌≡◌, ◌≢◌, ℕ, ◌+◌, ◌<◌, ◌≤◌, true, List, [], ◌∷◌, ◌++◌, length, take, Option, Some, None, Ok, Err, refl, sym, subst, ◌∙◌, ap, arith, append_assoc, length-append, length-take}
+use Rattle.std.proofs.Common.{◌≡◌, ◌≢◌, ℕ, ◌+◌, ◌<◌, ◌≤◌, Bool, true, List, [], ◌∷◌, ◌++◌, length, take, Option, Some, None, Ok, Err, refl, sym, subst, ◌∙◌, ap, arith, append_assoc, length-append, length-take}
 use Rattle.std.proofs.lemmas.List.{append-nil}
 use Rattle.std.specs.Io.KnownBytes.{Consumes, IsAtEnd}
+use Rattle.std.specs.Prelude.{◌||◌, nat_lt}
+use Rattle.loc_io.specs.Causes.{CountsLate}
 use Rattle.loc_io.specs.Entries.{Entries, taken}
-use Rattle.loc_io.specs.Meaning.{Meaning, KeepsFiles, KeepsMaking, Reads, absent, bytes_of}
+use Rattle.loc_io.specs.Meaning.{Meaning, IsCounted, KeepsFiles, KeepsMaking, NoneLate, Reads, absent, bytes_of}
 use Rattle.loc_io.specs.Whole.{ReadsAll, BytesAreTold}
 use Rattle.loc_io.specs.declared.whole.ReadAllFault.TheVariants.{TooLong, NoMemory}
 use Rattle.std.specs.Prelude.{Vec}
 use Rattle.std.specs.declared.alloc.Global.{Global}
+
+-- a call where none has failed is in time
+pub in_time_by : (old new : Meaning) → IsCounted old new → NoneLate old new
+in_time_by old new counted no_read no_write =
+    subst (λ (b : Bool). CountsLate b old.late new.late) (ap (λ (k : ℕ). nat_lt 0 k || nat_lt 0 old.write_faults) no_read ∙ ap (λ (k : ℕ). nat_lt 0 k) no_write) counted
+
+-- and one behind calls that were in time and did not fail
+pub late_after : (a b c : Meaning) → NoneLate a b → b.read_faults ≡ a.read_faults → b.write_faults ≡ a.write_faults → IsCounted b c → NoneLate a c
+late_after a b c in_time same also counted no_read no_write = in_time_by b c counted (same ∙ no_read) (also ∙ no_write) ∙ in_time no_read no_write
 
 -- so much of the file was read
 pub record InHand (name : List ℕ) (limit : ℕ) (old new : Meaning) (all : List ℕ) : Type 0 where
@@ -18,6 +29,7 @@ pub record InHand (name : List ℕ) (limit : ℕ) (old new : Meaning) (all : Lis
   pub there : old.told name ≢ absent
   pub bytes : Consumes (bytes_of (old.told name)) new.rest all
   pub steady : new.read_faults ≡ old.read_faults
+  pub in_time : NoneLate old new
   pub few : length all ≤ limit
 
 -- files stay over two calls
@@ -69,6 +81,7 @@ reads_no_memory name limit old new all hand = record {
   length = hand.few;
   bytes = told_nothing limit (bytes_of (old.told name));
   there = λ gone. absurd (hand.there gone);
+  in_time = hand.in_time;
 }
 
 module _ {E : Type 0} (name : List ℕ) (limit : ℕ) (old mid new : Meaning) (all into : List ℕ) (n : ℕ)
@@ -81,6 +94,10 @@ module _ {E : Type 0} (name : List ℕ) (limit : ℕ) (old mid new : Meaning) (a
   length_is : length (all ++ take n into) ≡ length all + n
   length_is = let bound : n ≤ length into = reads.bound in omega (arith, length-append all (take n into), length-take n into)
 
+  -- none was late as yet
+  time_is : NoneLate old new
+  time_is = late_after old mid new hand.in_time hand.steady hand.making.write_faults reads.late
+
   -- within the limit the reading goes on
   pub reads_more : length all + n ≤ limit → InHand name limit old new (all ++ take n into)
   reads_more fits = record {
@@ -92,6 +109,7 @@ module _ {E : Type 0} (name : List ℕ) (limit : ℕ) (old mid new : Meaning) (a
     bytes = Consumes-then _ _ _ _ _ hand.bytes reads.bytes.0;
     steady = reads.cause.steady ∙ hand.steady;
     few = omega (arith, length_is);
+    in_time = time_is;
   }
 
   -- a read of 0 bytes is the end
@@ -107,6 +125,7 @@ module _ {E : Type 0} (name : List ℕ) (limit : ℕ) (old mid new : Meaning) (a
         (subst (λ (l : List ℕ). Consumes (bytes_of (old.told name)) new.rest l) (ap (λ (k : ℕ). all ++ take k into) none ∙ append-nil all) (Consumes-then _ _ _ _ _ hand.bytes reads.bytes.0))
         (reads.bytes.1 none room);
     there = hand.there;
+    in_time = time_is;
   }
 
   -- past the limit the file is too long
@@ -120,4 +139,5 @@ module _ {E : Type 0} (name : List ℕ) (limit : ℕ) (old mid new : Meaning) (a
     length = long;
     bytes = told_long limit (bytes_of (old.told name)) new.rest (all ++ take n into) (omega (arith, length_is)) (Consumes-then _ _ _ _ _ hand.bytes reads.bytes.0);
     there = hand.there;
+    in_time = time_is;
   }

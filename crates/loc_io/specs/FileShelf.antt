@@ -12,8 +12,9 @@ file_meaning s = record {
   is_making = is_some s.writing;
   made = None;
   entries = s.trace.entries;
-  read_faults = s.read_faults.number;
-  write_faults = s.write_faults.number;
+  read_faults = s.counts.read_faults.number;
+  write_faults = s.counts.write_faults.number;
+  late = s.counts.late.number;
 }
 
 -- the file that is being made

@@ -6,6 +6,7 @@ pub mod Meaning
 pub mod MemShelf
 pub mod Reading
 pub mod Sinks
+pub mod Streams
 pub mod Whole
 pub mod Steady
 pub mod SteadyShelf

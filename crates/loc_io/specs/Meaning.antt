@@ -1,7 +1,7 @@
 -- What a shelf means, and what each of its calls does to that: `TakesUp`, `Reads`, `Creates`, `Writes` and `Finishes`.
-use Rattle.std.specs.Prelude.{◌≡◌, ◌≢◌, ◌⊎◌, ℕ, ◌<◌, ◌≤◌, Bool, true, false, List, [], length, Option, Some, None, Result, IfOk, OnOk, OnErr, MatchResult}
+use Rattle.std.specs.Prelude.{◌≡◌, ◌≢◌, ◌⊎◌, ℕ, ◌<◌, ◌≤◌, Bool, true, false, ◌||◌, nat_lt, List, [], length, Option, Some, None, Result, IfOk, OnOk, OnErr, MatchResult}
 use Rattle.std.specs.Io.KnownBytes.{Keeps, ReadConsumes, WriteAppends}
-use Rattle.loc_io.specs.Causes.{HasCause}
+use Rattle.loc_io.specs.Causes.{CountsLate, HasCause}
 use Rattle.loc_io.specs.Entries.{Entries, handed, taken}
 
 -- what a shelf tells of a name: nothing, that no file is there, or the bytes of the file
@@ -30,6 +30,20 @@ pub record Meaning : Type 0 where
   pub entries : Entries
   pub read_faults : ℕ
   pub write_faults : ℕ
+  -- how many calls were made after one had failed
+  pub late : ℕ
+
+-- whether a call has failed
+abbrev pub has_failed : Meaning → Bool
+has_failed m = nat_lt 0 m.read_faults || nat_lt 0 m.write_faults
+
+-- a call after a failed one is counted as late
+abbrev pub IsCounted : Meaning → Meaning → Type 0
+IsCounted old new = CountsLate (has_failed old) old.late new.late
+
+-- where no call had failed before, none was made after one had failed
+abbrev pub NoneLate : Meaning → Meaning → Type 0
+NoneLate old new = old.read_faults ≡ 0 → old.write_faults ≡ 0 → new.late ≡ old.late
 
 -- every name is told as it was: no file changed, came or went
 abbrev pub KeepsFiles : Meaning → Meaning → Type 0
@@ -59,6 +73,7 @@ pub record IsFresh (new : Meaning) : Type 0 where
   pub is_making : new.is_making ≡ false
   pub read_faults : new.read_faults ≡ 0
   pub write_faults : new.write_faults ≡ 0
+  pub late : new.late ≡ 0
 
 -- the name is noted; at Ok its file was there, and is taken up with all its bytes
 pub record TakesUp {T E : Type 0} (name : List ℕ) (old new : Meaning) (result : Result T E) : Type 0 where
@@ -68,6 +83,7 @@ pub record TakesUp {T E : Type 0} (name : List ℕ) (old new : Meaning) (result 
   -- a name that is not there is a failure
   pub opened : OnOk result ((old.told name ≢ absent) × (new.is_open ≡ true) × Keeps (bytes_of (old.told name)) new.rest)
   pub cause : HasCause old.read_faults new.read_faults result
+  pub late : IsCounted old new
 
 -- so many bytes went from the front of the rest to the front of `into`, and 0 only at the end
 pub record Reads {E : Type 0} (old new : Meaning) (into : List ℕ) (result : Result ℕ E) : Type 0 where
@@ -78,6 +94,7 @@ pub record Reads {E : Type 0} (old new : Meaning) (into : List ℕ) (result : Re
   pub bytes : ReadConsumes old.rest new.rest result into
   pub bound : IfOk result (λ n. n ≤ length into)
   pub cause : HasCause old.read_faults new.read_faults result
+  pub late : IsCounted old new
 
 -- the file under the name is empty and is being made, and the others are as they were; or nothing is told any more
 abbrev pub CreatesFile : List ℕ → Meaning → Meaning → Type 0
@@ -91,6 +108,7 @@ pub record Creates {T E : Type 0} (name : List ℕ) (old new : Meaning) (result 
   pub file : OnOk result ((new.is_making ≡ true) × CreatesFile name old new)
   pub refused : OnErr result (HidesAtMost old new)
   pub cause : HasCause old.write_faults new.write_faults result
+  pub late : IsCounted old new
 
 -- at Ok the file being made has grown by a front of the piece, and at Err by nothing
 pub record Writes {E : Type 0} (piece : List ℕ) (old new : Meaning) (result : Result ℕ E) : Type 0 where
@@ -101,6 +119,7 @@ pub record Writes {E : Type 0} (piece : List ℕ) (old new : Meaning) (result : 
   pub others : (name : List ℕ) → old.made ≢ Some name → new.told name ≡ old.told name
   pub refused : OnErr result (KeepsFiles old new)
   pub cause : HasCause old.write_faults new.write_faults result
+  pub late : IsCounted old new
 
 -- no file is being made any more, also at Err, and no file has changed
 pub record Finishes {T E : Type 0} (old new : Meaning) (result : Result T E) : Type 0 where
@@ -108,6 +127,7 @@ pub record Finishes {T E : Type 0} (old new : Meaning) (result : Result T E) : T
   pub files : KeepsFiles old new
   pub over : new.is_making ≡ false
   pub cause : HasCause old.write_faults new.write_faults result
+  pub late : IsCounted old new
 
 -- the file is there with these bytes, and all else is as it was
 pub record PutsFile (name bytes : List ℕ) (old new : Meaning) : Type 0 where
@@ -115,6 +135,7 @@ pub record PutsFile (name bytes : List ℕ) (old new : Meaning) : Type 0 where
   pub others : (other : List ℕ) → other ≢ name → new.told other ≡ old.told other
   pub reading : KeepsReading old new
   pub making : KeepsMaking old new
+  pub late : new.late ≡ old.late
 
 -- the file was handed in, unless no file is told any more, and all else is as it was
 pub record HandsIn (name bytes : List ℕ) (old new : Meaning) : Type 0 where
@@ -123,3 +144,4 @@ pub record HandsIn (name bytes : List ℕ) (old new : Meaning) : Type 0 where
   pub hidden : (other : List ℕ) → old.told other ≡ untold → new.told other ≡ untold
   pub reading : KeepsReading old new
   pub making : KeepsMaking old new
+  pub late : new.late ≡ old.late

@@ -18,8 +18,9 @@ mem_meaning s = record {
   is_making = is_some s.making;
   made = option_map string_bytes s.making;
   entries = s.trace.entries;
-  read_faults = s.read_faults.number;
-  write_faults = s.write_faults.number;
+  read_faults = s.counts.read_faults.number;
+  write_faults = s.counts.write_faults.number;
+  late = s.counts.late.number;
 }
 
 -- the numbers of the calls that are to fail

@@ -1,15 +1,12 @@
 -- What the sinks tell.
-use Rattle.std.specs.Prelude.{ℕ, List}
+use Rattle.std.specs.Prelude.{ℕ, List, Some, None}
+use Rattle.loc_io.specs.Streams.{Stream, stream}
 use Rattle.loc_io.specs.declared.mem_sink.MemSink.{MemSink}
 use Rattle.loc_io.specs.declared.std_sink.StdSink.{StdSink}
 
--- the bytes that were written to a sink in memory
-abbrev pub mem_bytes : MemSink → List ℕ
-mem_bytes s = s.bytes.items
-
--- how many writes to a sink in memory have failed
-abbrev pub mem_faults : MemSink → ℕ
-mem_faults s = s.faults.number
+-- a sink in memory tells all
+abbrev pub mem_stream : MemSink → Stream
+mem_stream s = stream (Some s.bytes.items) s.faults.number s.late.number
 
 -- the numbers of the writes to a sink in memory that are to fail
 abbrev pub failing_writes : MemSink → List ℕ
@@ -23,6 +20,6 @@ writes_made s = s.fail.calls
 abbrev pub stream_of : {W : Type 0} → StdSink W → W
 stream_of s = s.inner
 
--- how many writes to a stream have failed
-abbrev pub std_faults : {W : Type 0} → StdSink W → ℕ
-std_faults s = s.faults.number
+-- nothing is told of the bytes of a real stream
+abbrev pub std_stream : {W : Type 0} → StdSink W → Stream
+std_stream s = stream None s.faults.number s.late.number

@@ -16,4 +16,5 @@ steady_meaning s = record {
   entries = s.trace.entries;
   read_faults = 0;
   write_faults = 0;
+  late = 0;
 }

@@ -2,7 +2,7 @@
 use Rattle.std.specs.Prelude.{◌≡◌, ℕ, ◌<◌, ◌≤◌, List, [], ◌∷◌, ◌++◌, length, Option, Some, None, Result, Ok, Err, Vec, ⊤}
 use Rattle.std.specs.declared.alloc.Global.{Global}
 use Rattle.loc_io.specs.Causes.{Rose}
-use Rattle.loc_io.specs.Meaning.{Meaning, KeepsFiles, KeepsMaking, absent, bytes_of}
+use Rattle.loc_io.specs.Meaning.{Meaning, KeepsFiles, KeepsMaking, NoneLate, absent, bytes_of}
 use Rattle.loc_io.specs.declared.whole.ReadAllFault.{ReadAllFault}
 use Rattle.loc_io.specs.declared.whole.ReadAllFault.TheVariants.{ReadFault, TooLong, NoMemory}
 
@@ -51,3 +51,4 @@ pub record ReadsAll (name : List ℕ) (limit : ℕ) (old new : Meaning) (result 
   pub bytes : BytesAreTold limit (bytes_of (old.told name)) result
   -- a name that is not there is never read
   pub there : old.told name ≡ absent → IsUnread result
+  pub in_time : NoneLate old new

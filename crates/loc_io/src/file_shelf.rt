@@ -3,7 +3,7 @@ ghost use Rattle.std.specs.Prelude.{◌≡◌, option_and_then};
 ghost use Rattle.std.specs.Io.KnownBytes.{WriteAppends};
 ghost use Rattle.loc_io.specs.Meaning.{IsFresh, Writes, untold};
 
-use crate::failed::FaultCount;
+use crate::failed::CallCounts;
 use crate::trace::Trace;
 use crate::{Failed, Shelf};
 use std::fs;
@@ -16,8 +16,7 @@ pub struct FileShelf<R: Files + Drop> {
     rt: R,
     reading: Option<R::File>,
     writing: Option<R::File>,
-    read_faults: FaultCount,
-    write_faults: FaultCount,
+    counts: CallCounts,
     trace: Trace,
 }
 
@@ -33,8 +32,7 @@ impl<R: Files + Drop> FileShelf<R> {
             rt,
             reading: None,
             writing: None,
-            read_faults: FaultCount::new(),
-            write_faults: FaultCount::new(),
+            counts: CallCounts::new(),
             trace: Trace::new(),
         }
     }
@@ -46,33 +44,36 @@ impl<R: Files + Drop> Shelf for FileShelf<R> {
     ghost meaning = { file_meaning };
 
     fn take_up(&mut self, name: &str) -> Result<(), Failed> {
+        self.counts.note_call();
         self.trace.note(&[], name.as_bytes());
         match fs::open(&self.rt, name) {
             Ok(file) => {
                 self.reading = Some(file);
                 Ok(())
             }
-            Err(_) => Err(self.read_faults.count_one()),
+            Err(_) => Err(self.counts.read_faults.count_one()),
         }
     }
 
     fn read(&mut self, into: &mut [u8]) -> Result<usize, Failed> {
+        self.counts.note_call();
         if let Some(file) = &mut self.reading {
             if let Ok(n) = file.read(into) {
                 self.trace.note(&[n as u64], &[]);
                 return Ok(n);
             }
         }
-        Err(self.read_faults.count_one())
+        Err(self.counts.read_faults.count_one())
     }
 
     fn create(&mut self, name: &str) -> Result<(), Failed> {
+        self.counts.note_call();
         match fs::create(&self.rt, name) {
             Ok(file) => {
                 self.writing = Some(file);
                 Ok(())
             }
-            Err(_) => Err(self.write_faults.count_one()),
+            Err(_) => Err(self.counts.write_faults.count_one()),
         }
     }
 
@@ -82,6 +83,7 @@ impl<R: Files + Drop> Shelf for FileShelf<R> {
         ensures file { WriteAppends (option_and_then R.File.contents (file_in_making self.old))
             (option_and_then R.File.contents (file_in_making self.new)) result piece.now }
     {
+        self.counts.note_call();
         if let Some(file) = &mut self.writing {
             if let Ok(n) = file.write(piece) {
                 if n > 0 {
@@ -89,11 +91,12 @@ impl<R: Files + Drop> Shelf for FileShelf<R> {
                 }
             }
         }
-        Err(self.write_faults.count_one())
+        Err(self.counts.write_faults.count_one())
     }
 
     // The file is closed where it is dropped. Nothing was held back from it.
     fn finish(&mut self) -> Result<(), Failed> {
+        self.counts.note_call();
         self.writing = None;
         Ok(())
     }

@@ -1,9 +1,11 @@
 //! A shelf in memory, of which all is told, and which can be made to fail.
-ghost use Rattle.std.specs.Prelude.{◌≡◌, ◌+◌, ◌<◌, ◌≤◌, ◌∷◌, ◌++◌, [], Some, None, length, drop, take, OnOk, OnErr, OnSome, IfOk, MatchOption, MatchResult, option_map, is_some, false, slice_get, string_bytes};
-ghost use Rattle.loc_io.specs.Meaning.{PutsFile, IsFresh, absent, holds};
+ghost use Rattle.std.specs.Prelude.{◌≡◌, ◌==◌, IsErr, IsTrue, true, ◌+◌, ◌<◌, ◌≤◌, ◌∷◌, ◌++◌, [], Some, None, length, drop, take, OnOk, OnErr, OnSome, IfOk, MatchOption, MatchResult, option_map, is_some, false, slice_get, string_bytes};
+ghost use Rattle.std.specs.List.{list_any};
+ghost use Rattle.loc_io.specs.Causes.{FailsAsTold};
+ghost use Rattle.loc_io.specs.Meaning.{PutsFile, IsFresh, TakesUp, Reads, Creates, Writes, Finishes, absent, holds};
 
 use crate::fail_list::FailList;
-use crate::failed::FaultCount;
+use crate::failed::CallCounts;
 use crate::mem_file::{MemFile, append, bytes_of, copy_front, put};
 use crate::trace::Trace;
 use crate::{Failed, Shelf};
@@ -20,8 +22,7 @@ pub struct MemShelf {
     at: usize,
     making: Option<String>,
     fail: FailList,
-    read_faults: FaultCount,
-    write_faults: FaultCount,
+    counts: CallCounts,
     trace: Trace,
 }
 
@@ -43,8 +44,7 @@ impl MemShelf {
             at: 0,
             making: None,
             fail: FailList::new(fail),
-            read_faults: FaultCount::new(),
-            write_faults: FaultCount::new(),
+            counts: CallCounts::new(),
             trace: Trace::new(),
         }
     }
@@ -69,20 +69,25 @@ impl MemShelf {
 }
 
 impl Shelf for MemShelf {
-    ghost use Rattle.loc_io.specs.MemShelf.{mem_meaning};
+    ghost use Rattle.loc_io.specs.MemShelf.{mem_meaning, failing_calls, calls_made};
 
     ghost meaning = { mem_meaning };
 
-    fn take_up(&mut self, name: &str) -> Result<(), Failed> {
+    fn take_up(&mut self, name: &str) -> Result<(), Failed>
+        ensures shelf { TakesUp name.now (mem_meaning self.old) (mem_meaning self.new) result }
+        ensures failing { FailsAsTold (failing_calls self.old) (calls_made self.old) (calls_made self.new) result }
+        ensures listed { failing_calls self.new ≡ failing_calls self.old }
+    {
+        self.counts.note_call();
         self.trace.note(&[], name.as_bytes());
         if self.fail.next_fails() {
-            return Err(self.read_faults.count_one());
+            return Err(self.counts.read_faults.count_one());
         }
         let Some(bytes) = bytes_of(&self.files, name) else {
-            return Err(self.read_faults.count_one());
+            return Err(self.counts.read_faults.count_one());
         };
         let Ok(copy) = bytes.to_vec(self.alloc) else {
-            return Err(self.read_faults.count_one());
+            return Err(self.counts.read_faults.count_one());
         };
         self.rest = copy;
         self.at = 0;
@@ -90,9 +95,17 @@ impl Shelf for MemShelf {
         Ok(())
     }
 
-    fn read(&mut self, into: &mut [u8]) -> Result<usize, Failed> {
+    fn read(&mut self, into: &mut [u8]) -> Result<usize, Failed>
+        requires open { (mem_meaning self.old).is_open ≡ true }
+        requires room { 0 < length into.old }
+        ensures shelf { Reads (mem_meaning self.old) (mem_meaning self.new) into.new result }
+        ensures failing { FailsAsTold (failing_calls self.old) (calls_made self.old) (calls_made self.new) result }
+        ensures listed { failing_calls self.new ≡ failing_calls self.old }
+        ensures only { IsErr result → IsTrue (list_any (λ number. number == calls_made self.new) (failing_calls self.old)) }
+    {
+        self.counts.note_call();
         if self.fail.next_fails() {
-            return Err(self.read_faults.count_one());
+            return Err(self.counts.read_faults.count_one());
         }
         let n = copy_front(&self.rest, self.at, into);
         self.at += n;
@@ -100,38 +113,57 @@ impl Shelf for MemShelf {
         Ok(n)
     }
 
-    fn create(&mut self, name: &str) -> Result<(), Failed> {
+    fn create(&mut self, name: &str) -> Result<(), Failed>
+        ensures shelf { Creates name.now (mem_meaning self.old) (mem_meaning self.new) result }
+        ensures failing { FailsAsTold (failing_calls self.old) (calls_made self.old) (calls_made self.new) result }
+        ensures listed { failing_calls self.new ≡ failing_calls self.old }
+    {
+        self.counts.note_call();
         if self.fail.next_fails() {
-            return Err(self.write_faults.count_one());
+            return Err(self.counts.write_faults.count_one());
         }
         let Ok(made) = String::from_str(self.alloc, name) else {
-            return Err(self.write_faults.count_one());
+            return Err(self.counts.write_faults.count_one());
         };
         if put(self.alloc, &mut self.files, name, Vec::new(self.alloc)).is_err() {
-            return Err(self.write_faults.count_one());
+            return Err(self.counts.write_faults.count_one());
         }
         self.making = Some(made);
         Ok(())
     }
 
-    fn write(&mut self, piece: &[u8]) -> Result<usize, Failed> {
+    fn write(&mut self, piece: &[u8]) -> Result<usize, Failed>
+        requires making { (mem_meaning self.old).is_making ≡ true }
+        requires some { 0 < length piece.now }
+        ensures shelf { Writes piece.now (mem_meaning self.old) (mem_meaning self.new) result }
+        ensures failing { FailsAsTold (failing_calls self.old) (calls_made self.old) (calls_made self.new) result }
+        ensures listed { failing_calls self.new ≡ failing_calls self.old }
+    {
+        self.counts.note_call();
         if self.fail.next_fails() {
-            return Err(self.write_faults.count_one());
+            return Err(self.counts.write_faults.count_one());
         }
         let Some(name) = &self.making else {
-            return Err(self.write_faults.count_one());
+            return Err(self.counts.write_faults.count_one());
         };
         if append(&mut self.files, name, piece) {
             Ok(piece.len())
         } else {
-            Err(self.write_faults.count_one())
+            Err(self.counts.write_faults.count_one())
         }
     }
 
-    fn finish(&mut self) -> Result<(), Failed> {
+    fn finish(&mut self) -> Result<(), Failed>
+        requires making { (mem_meaning self.old).is_making ≡ true }
+        ensures shelf { Finishes (mem_meaning self.old) (mem_meaning self.new) result }
+        ensures failing { FailsAsTold (failing_calls self.old) (calls_made self.old) (calls_made self.new) result }
+        ensures listed { failing_calls self.new ≡ failing_calls self.old }
+        ensures only { IsErr result → IsTrue (list_any (λ number. number == calls_made self.new) (failing_calls self.old)) }
+    {
+        self.counts.note_call();
         self.making = None;
         if self.fail.next_fails() {
-            return Err(self.write_faults.count_one());
+            return Err(self.counts.write_faults.count_one());
         }
         Ok(())
     }

@@ -1,9 +1,9 @@
 //! A real stream as a sink, of which nothing is told.
-ghost use Rattle.std.specs.Prelude.{◌≡◌, ◌<◌, ◌≤◌, None, length, IfOk};
+ghost use Rattle.std.specs.Prelude.{◌≡◌, None};
 ghost use Rattle.std.specs.Io.KnownBytes.{WriteAppends};
-ghost use Rattle.loc_io.specs.Causes.{HasCause};
+ghost use Rattle.loc_io.specs.Streams.{Takes, stream};
 
-use crate::failed::FaultCount;
+use crate::failed::{FaultCount, LateCount};
 use crate::{Failed, Sink};
 use std::io::Write;
 
@@ -12,36 +12,36 @@ use std::io::Write;
 pub struct StdSink<W: Write + Drop> {
     inner: W,
     faults: FaultCount,
+    late: LateCount,
 }
 
 impl<W: Write + Drop> StdSink<W> {
+    ghost use Rattle.loc_io.specs.Sinks.{std_stream};
+
     /// A sink over this stream, as `io::writer(&rt.stdout())`.
     pub fn new(inner: W) -> StdSink<W>
-        ensures bytes { ⟦<StdSink<W> as Sink>⟧.written result ≡ None }
-        ensures faults { ⟦<StdSink<W> as Sink>⟧.faults result ≡ 0 }
+        ensures fresh { std_stream result ≡ stream None 0 0 }
     {
         StdSink {
             inner,
             faults: FaultCount::new(),
+            late: LateCount::new(),
         }
     }
 }
 
 impl<W: Write + Drop> Sink for StdSink<W> {
-    ghost use Rattle.loc_io.specs.Sinks.{std_faults, stream_of};
+    ghost use Rattle.loc_io.specs.Sinks.{std_stream, stream_of};
 
-    ghost written = { λ _. None };
-
-    ghost faults = { std_faults };
+    ghost meaning = { std_stream };
 
     // One call of the stream. A write that takes no byte is a failure.
     fn write(&mut self, piece: &[u8]) -> Result<usize, Failed>
-        ensures count { IfOk result (λ n. (0 < n) × (n ≤ length piece.now)) }
-        ensures bytes { WriteAppends None None result piece.now }
-        ensures cause { HasCause (std_faults self.old) (std_faults self.new) result }
+        ensures sink { Takes piece.now (std_stream self.old) (std_stream self.new) result }
         ensures stream { WriteAppends (W.contents (stream_of self.old))
             (W.contents (stream_of self.new)) result piece.now }
     {
+        self.late.note(self.faults.number > 0);
         match self.inner.write(piece) {
             Ok(n) if n > 0 => Ok(n),
             _ => Err(self.faults.count_one()),

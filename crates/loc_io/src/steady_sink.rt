@@ -1,7 +1,6 @@
 //! A sink over which no call fails.
-ghost use Rattle.std.specs.Prelude.{◌≡◌, ◌<◌, ◌≤◌, None, Ok, length, IfOk};
-ghost use Rattle.std.specs.Io.KnownBytes.{WriteAppends};
-ghost use Rattle.loc_io.specs.Causes.{HasCause};
+ghost use Rattle.std.specs.Prelude.{◌≡◌, ◌<◌, None, Ok, length};
+ghost use Rattle.loc_io.specs.Streams.{Takes, stream};
 
 use crate::{Failed, Sink};
 
@@ -12,23 +11,20 @@ pub struct SteadySink;
 impl SteadySink {
     /// A sink that tells nothing and has no faults.
     pub fn new() -> SteadySink
-        ensures bytes { ⟦<SteadySink as Sink>⟧.written result ≡ None }
-        ensures faults { ⟦<SteadySink as Sink>⟧.faults result ≡ 0 }
+        ensures { ⟦<SteadySink as Sink>⟧.meaning result ≡ stream None 0 0 }
     {
         SteadySink
     }
 }
 
 impl Sink for SteadySink {
-    ghost written = { λ _. None };
+    ghost use Rattle.loc_io.specs.Streams.{stream};
 
-    ghost faults = { λ _. 0 };
+    ghost meaning = { λ _. stream None 0 0 };
 
     fn write(&mut self, piece: &[u8]) -> Result<usize, Failed>
         requires { 0 < length piece.now }
-        ensures count { IfOk result (λ n. (0 < n) × (n ≤ length piece.now)) }
-        ensures bytes { WriteAppends None None result piece.now }
-        ensures cause { HasCause 0 0 result }
+        ensures sink { Takes piece.now (stream None 0 0) (stream None 0 0) result }
         ensures whole { result ≡ Ok (length piece.now) }
     {
         Ok(piece.len())

@@ -3,6 +3,7 @@ use Rattle.std.proofs.Common.{◌≡◌, ◌≢◌, ◌⊎◌, ℕ, ◌+◌, ◌
 use Rattle.std.specs.Prelude.{IsTrue, codes, not}
 use Rattle.std.specs.Io.KnownBytes.{Appends}
 use Rattle.std.proofs.lemmas.Bool.{not-true}
+use Rattle.loc_io.specs.Streams.{Stream}
 use Rattle.loc_io.specs.Meaning.{Told, holds}
 use Rattle.loc_spec_text.specs.Bytes.{lines}
 use Rattle.loc_spec_text.specs.Points.{ended}
@@ -12,7 +13,7 @@ use Rattle.loc_edges.specs.Conflicts.{has_conflict}
 use Rattle.loc_course.specs.Courses.{Text, Course}
 use Rattle.loc_course.specs.Moments.{Moment, IsToldText}
 use Rattle.loc_course.specs.Outcomes.{Outcome, refusal, output, exactly, outcome}
-use Rattle.loc_course.specs.Sentences.{EndsSo, IsDoing, IsPlain, NoneFailed, Sentences, WithinSteps, Wrote}
+use Rattle.loc_course.specs.Sentences.{EndsSo, IsDoing, IsPlain, NoneFailed, Sentences, Steady, WithinSteps, Wrote}
 use Rattle.loc_course.proofs.Plain.{plain_reads, plain_refuses, plain_searches, plain_writes}
 use Rattle.loc_course.proofs.Streamed.{long_or_short}
 use Rattle.loc_course.proofs.Told.{it_exactly}
@@ -77,50 +78,53 @@ module _ (told : Text → Told) (file : LayerFile) (points layer text : Text) (i
       by_read (Err fault) most = tt
       by_read (Ok features) most = judged_all (λ (c : Course). WithinSteps told c k) (λ passes. tt) file.scale features (points_course file.scale points features) (by_points features most)
 
-module _ (file : LayerFile) (points : Text) (old new : Moment) (n n' : ℕ) (m m' : Option Text) (status : ℕ) (s : Sentences (query_course file points) old new n n' m m' status) where
-  kept : status ≢ 0 → status ≢ 4 → new.written ≡ old.written
+module _ (file : LayerFile) (points : Text) (old new : Moment) (n n' : Stream) (status : ℕ) (s : Sentences (query_course file points) old new n n' status) where
+  kept : status ≢ 0 → status ≢ 4 → new.out.written ≡ old.out.written
   kept = s.out.kept (query_plain file points).at_once
 
-  memory : status ≡ 5 → (status ≡ 5) × (new.written ≡ old.written)
+  none_failed : Steady old.shelf.read_faults new.shelf.read_faults → Steady old.out.faults new.out.faults → NoneFailed (query_course file points) old new
+  none_failed reads out = record { reads = reads; out = out; files = λ name maker. absurd ((query_plain file points).makes_none name maker) }
+
+  memory : status ≡ 5 → (status ≡ 5) × (new.out.written ≡ old.out.written)
   memory five = (five, kept (λ e. omega (arith, e, five)) (λ e. omega (arith, e, five)))
 
-  grown : (answer : Text) → outcome old.shelf.told (query_course file points) ≡ output (exactly answer) → status ≡ 0 → Appends old.written new.written answer
+  grown : (answer : Text) → outcome old.shelf.told (query_course file points) ≡ output (exactly answer) → status ≡ 0 → Appends old.out.written new.out.written answer
   grown answer is zero =
-      let done = subst (λ (o : Outcome). EndsSo o old.written new None) is (s.done zero) in
-      subst (λ (t : Text). Appends old.written new.written t) (it_exactly answer done.0 done.1) done.2
+      let done = subst (λ (o : Outcome). EndsSo o old.out.written new None) is (s.done zero) in
+      subst (λ (t : Text). Appends old.out.written new.out.written t) (it_exactly answer done.0 done.1) done.2
 
   -- a refusal by a line that passes
-  refused : (passes : Text → Bool) → outcome old.shelf.told (query_course file points) ≡ refusal passes → NoneFailed old new
-      → ((status ≡ 1) × (new.written ≡ old.written) × (line : Text) × IsTrue (passes line) × Wrote n n' m m' line) ⊎ ((status ≡ 5) × (new.written ≡ old.written))
-  refused passes is none = elim (s.refuses passes is none) [
+  refused : (passes : Text → Bool) → outcome old.shelf.told (query_course file points) ≡ refusal passes → Steady old.shelf.read_faults new.shelf.read_faults
+      → ((status ≡ 1) × (new.out.written ≡ old.out.written) × (line : Text) × IsTrue (passes line) × Wrote n n' line) ⊎ ((status ≡ 5) × (new.out.written ≡ old.out.written))
+  refused passes is steady = elim (s.refuses passes is steady) [
     | inl one ↦ inl (one.0, kept (λ e. omega (arith, e, one.0)) (λ e. omega (arith, e, one.0)), one.1, one.2, one.3)
     | inr five ↦ inr (memory five)
   ]
 
   -- a refusal by this line
-  refused_by : (line : Text) → outcome old.shelf.told (query_course file points) ≡ refusal (exactly line) → NoneFailed old new
-      → ((status ≡ 1) × (new.written ≡ old.written) × Wrote n n' m m' line) ⊎ ((status ≡ 5) × (new.written ≡ old.written))
-  refused_by line is none = elim (refused (exactly line) is none) [
-    | inl one ↦ inl (one.0, one.1, subst (λ (t : Text). Wrote n n' m m' t) (it_exactly line one.2 one.3) one.4)
+  refused_by : (line : Text) → outcome old.shelf.told (query_course file points) ≡ refusal (exactly line) → Steady old.shelf.read_faults new.shelf.read_faults
+      → ((status ≡ 1) × (new.out.written ≡ old.out.written) × Wrote n n' line) ⊎ ((status ≡ 5) × (new.out.written ≡ old.out.written))
+  refused_by line is steady = elim (refused (exactly line) is steady) [
+    | inl one ↦ inl (one.0, one.1, subst (λ (t : Text). Wrote n n' t) (it_exactly line one.2 one.3) one.4)
     | inr five ↦ inr five
   ]
 
   -- what a query answers
-  pub headline : Headline file points old new n n' m m' status
+  pub headline : Headline file points old new n n' status
   headline = record {
     done = λ layer text is also zero.
-        let a = accepted old.shelf.told file points layer text is also old.written new (s.done zero) in
+        let a = accepted old.shelf.told file points layer text is also old.out.written new (s.done zero) in
         (a.0, a.1, a.2, grown (output_of file.scale a.0 text) (comes_to old.shelf.told file points layer text is also a.0 a.1 a.2) zero);
-    answers = λ layer text features is also a short none.
+    answers = λ layer text features is also a short reads out.
         let to = comes_to old.shelf.told file points layer text is also features a short in
-        elim (s.succeeds (subst IsDoing (sym to) tt) none) [
+        elim (s.succeeds (subst IsDoing (sym to) tt) (none_failed reads out)) [
           | inl zero ↦ inl (zero, grown (output_of file.scale features text) to zero)
           | inr five ↦ inr (memory five)
         ];
-    layer_long = λ layer is long none. refused_by (ended (codes "layer: too long")) (rows.layer_long old.shelf.told file points layer is long) none;
-    layer_fault = λ layer fault is few reads none. refused_by (ended (layer_fault_text file.form fault)) (rows.layer_line old.shelf.told file points layer is fault few reads) none;
-    conflict = λ layer features is few reads has none. refused (names_conflict file.scale (edges_of features)) (rows.conflict old.shelf.told file points layer is features few reads has) none;
-    points_long = λ layer text features is also a long none. refused_by (ended (codes "points: too long"))
-        (rows.points_long old.shelf.told file points layer is features text a.within a.reads (not-true (has_conflict (edges_of features)) a.apart) also long) none;
+    layer_long = λ layer is long steady. refused_by (ended (codes "layer: too long")) (rows.layer_long old.shelf.told file points layer is long) steady;
+    layer_fault = λ layer fault is few reads steady. refused_by (ended (layer_fault_text file.form fault)) (rows.layer_line old.shelf.told file points layer is fault few reads) steady;
+    conflict = λ layer features is few reads has steady. refused (names_conflict file.scale (edges_of features)) (rows.conflict old.shelf.told file points layer is features few reads has) steady;
+    points_long = λ layer text features is also a long steady. refused_by (ended (codes "points: too long"))
+        (rows.points_long old.shelf.told file points layer is features text a.within a.reads (not-true (has_conflict (edges_of features)) a.apart) also long) steady;
     steps = λ layer text is also. s.steps.within _ (steps_within old.shelf.told file points layer text is also _ (omega arith));
   }

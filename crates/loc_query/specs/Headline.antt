@@ -1,6 +1,7 @@
 -- The headline of the program, in the words of its user: what a query whose files are told answers.
-use Rattle.std.specs.Prelude.{◌≡◌, ◌⊎◌, ℕ, ◌+◌, ◌*◌, ◌<◌, ◌≤◌, List, length, Option, Ok, Err, IsTrue, codes}
+use Rattle.std.specs.Prelude.{◌≡◌, ◌⊎◌, ℕ, ◌+◌, ◌*◌, ◌<◌, ◌≤◌, List, length, Ok, Err, IsTrue, codes}
 use Rattle.std.specs.Io.KnownBytes.{Appends}
+use Rattle.loc_io.specs.Streams.{Stream}
 use Rattle.loc_io.specs.Meaning.{holds}
 use Rattle.loc_spec_text.specs.Bytes.{lines}
 use Rattle.loc_spec_text.specs.Points.{ended}
@@ -10,7 +11,7 @@ use Rattle.loc_csvform.specs.declared.faults.LayerFault.{LayerFault}
 use Rattle.loc_edges.specs.Conflicts.{has_conflict}
 use Rattle.loc_course.specs.Courses.{Text}
 use Rattle.loc_course.specs.Moments.{Moment}
-use Rattle.loc_course.specs.Sentences.{NoneFailed, Wrote}
+use Rattle.loc_course.specs.Sentences.{Steady, Wrote}
 use Rattle.loc_maps.specs.Conflicts.{Accepts, names_conflict}
 use Rattle.loc_maps.specs.LineTexts.{layer_fault_text}
 use Rattle.loc_maps.specs.Located.{edges_of, steps_of}
@@ -29,28 +30,28 @@ steps_in (Ok features) = steps_of features
 steps_in (Err fault) = 0
 
 -- The texts of the layer and of the points are those told of their files. An answer may want memory: the status is 5 then, and nothing is on out.
-pub record Headline (file : LayerFile) (points : Text) (old new : Moment) (n n' : ℕ) (m m' : Option Text) (status : ℕ) : Type 0 where
+pub record Headline (file : LayerFile) (points : Text) (old new : Moment) (n n' : Stream) (status : ℕ) : Type 0 where
   -- With status 0 the layer is accepted, the points are within the limit, and out has grown by exactly the defined answers.
   pub done : (layer text : Text) → old.shelf.told file.name ≡ holds layer → old.shelf.told points ≡ holds text → status ≡ 0
-      → (features : List Feature) × IsAccepted file layer features × (length text ≤ limit) × Appends old.written new.written (output_of file.scale features text)
-  -- The status is 0 for every accepted layer and points within the limit, unless a call failed.
+      → (features : List Feature) × IsAccepted file layer features × (length text ≤ limit) × Appends old.out.written new.out.written (output_of file.scale features text)
+  -- The status is 0 for every accepted layer and points within the limit, unless a read or a write failed.
   pub answers : (layer text : Text) (features : List Feature) → old.shelf.told file.name ≡ holds layer → old.shelf.told points ≡ holds text
-      → IsAccepted file layer features → length text ≤ limit → NoneFailed old new
-      → ((status ≡ 0) × Appends old.written new.written (output_of file.scale features text)) ⊎ ((status ≡ 5) × (new.written ≡ old.written))
-  -- Else it is 1, nothing is on out, and the line on notes is that of the cause: the layer is too long,
-  pub layer_long : (layer : Text) → old.shelf.told file.name ≡ holds layer → limit < length layer → NoneFailed old new
-      → ((status ≡ 1) × (new.written ≡ old.written) × Wrote n n' m m' (ended (codes "layer: too long"))) ⊎ ((status ≡ 5) × (new.written ≡ old.written))
+      → IsAccepted file layer features → length text ≤ limit → Steady old.shelf.read_faults new.shelf.read_faults → Steady old.out.faults new.out.faults
+      → ((status ≡ 0) × Appends old.out.written new.out.written (output_of file.scale features text)) ⊎ ((status ≡ 5) × (new.out.written ≡ old.out.written))
+  -- Else, unless a read failed, it is 1, nothing is on out, and the line on notes is that of the cause: the layer is too long,
+  pub layer_long : (layer : Text) → old.shelf.told file.name ≡ holds layer → limit < length layer → Steady old.shelf.read_faults new.shelf.read_faults
+      → ((status ≡ 1) × (new.out.written ≡ old.out.written) × Wrote n n' (ended (codes "layer: too long"))) ⊎ ((status ≡ 5) × (new.out.written ≡ old.out.written))
   -- or is at fault,
-  pub layer_fault : (layer : Text) (fault : LayerFault) → old.shelf.told file.name ≡ holds layer → length layer ≤ limit → layer_of file.form file.scale layer ≡ Err fault → NoneFailed old new
-      → ((status ≡ 1) × (new.written ≡ old.written) × Wrote n n' m m' (ended (layer_fault_text file.form fault))) ⊎ ((status ≡ 5) × (new.written ≡ old.written))
+  pub layer_fault : (layer : Text) (fault : LayerFault) → old.shelf.told file.name ≡ holds layer → length layer ≤ limit → layer_of file.form file.scale layer ≡ Err fault → Steady old.shelf.read_faults new.shelf.read_faults
+      → ((status ≡ 1) × (new.out.written ≡ old.out.written) × Wrote n n' (ended (layer_fault_text file.form fault))) ⊎ ((status ≡ 5) × (new.out.written ≡ old.out.written))
   -- or two of its edges conflict, and the line names two that do,
   pub conflict : (layer : Text) (features : List Feature) → old.shelf.told file.name ≡ holds layer → length layer ≤ limit → layer_of file.form file.scale layer ≡ Ok features
-      → IsTrue (has_conflict (edges_of features)) → NoneFailed old new
-      → ((status ≡ 1) × (new.written ≡ old.written) × (line : Text) × IsTrue (names_conflict file.scale (edges_of features) line) × Wrote n n' m m' line) ⊎ ((status ≡ 5) × (new.written ≡ old.written))
+      → IsTrue (has_conflict (edges_of features)) → Steady old.shelf.read_faults new.shelf.read_faults
+      → ((status ≡ 1) × (new.out.written ≡ old.out.written) × (line : Text) × IsTrue (names_conflict file.scale (edges_of features) line) × Wrote n n' line) ⊎ ((status ≡ 5) × (new.out.written ≡ old.out.written))
   -- or the layer is accepted and the points are too long.
   pub points_long : (layer text : Text) (features : List Feature) → old.shelf.told file.name ≡ holds layer → old.shelf.told points ≡ holds text
-      → IsAccepted file layer features → limit < length text → NoneFailed old new
-      → ((status ≡ 1) × (new.written ≡ old.written) × Wrote n n' m m' (ended (codes "points: too long"))) ⊎ ((status ≡ 5) × (new.written ≡ old.written))
+      → IsAccepted file layer features → limit < length text → Steady old.shelf.read_faults new.shelf.read_faults
+      → ((status ≡ 1) × (new.out.written ≡ old.out.written) × Wrote n n' (ended (codes "points: too long"))) ⊎ ((status ≡ 5) × (new.out.written ≡ old.out.written))
   -- At most one step was counted for each corner and each edge of the layer, for each line of the points.
   pub steps : (layer text : Text) → old.shelf.told file.name ≡ holds layer → old.shelf.told points ≡ holds text
       → new.steps ≤ old.steps + length (lines text) * steps_in (layer_of file.form file.scale layer)

@@ -1,14 +1,15 @@
 //! The top call: the words, the command, the status and the line on notes.
 
-ghost use Rattle.std.specs.Prelude.{◌≡◌, ◌≤◌, ℕ, IfSome, Some, map, string_bytes};
+ghost use Rattle.std.specs.Prelude.{◌≡◌, ◌≤◌, IfSome, Some, map, string_bytes};
 ghost use Rattle.loc_io.specs.Meaning.{KeepsFiles};
+ghost use Rattle.loc_io.specs.Streams.{InTime};
 ghost use Rattle.loc_words.specs.Words.{AskedQuery, command_of, query};
-ghost use Rattle.loc_course.specs.Courses.{Course, Text};
+ghost use Rattle.loc_course.specs.Courses.{Course};
 ghost use Rattle.loc_course.specs.Moments.{moment};
-ghost use Rattle.loc_course.specs.Sentences.{Counts, Done, Misses, Names, NoCountRose, Notes, ReadsFail, RefusedOnly, Refuses, RefusesPartly, Succeeds, WritesFail};
+ghost use Rattle.loc_course.specs.Sentences.{Counts, Done, InTimes, Misses, Names, NoCountRose, Notes, ReadsFail, RefusedOnly, Refuses, RefusesPartly, Succeeds};
 ghost use Rattle.loc_maps.specs.MapCourses.{layer_file};
 ghost use Rattle.loc_query.specs.Headline.{Headline};
-ghost use Rattle.loc_top.specs.Run.{OutOf, Ran, RefusesWords, course_of};
+ghost use Rattle.loc_top.specs.Run.{OutFails, OutOf, Ran, RefusesWords, course_of};
 
 use loc_course::{Scale, Stop, report, write_text};
 use loc_geom::Steps;
@@ -28,7 +29,8 @@ fn run_course<F: Shelf, O: Sink, N: Sink, L: Ledger>(
     notes: &mut N,
     steps: &mut Steps<L>,
 ) -> u8
-    ensures { Ran (course_of (map string_bytes words.now)) (moment (F.meaning shelf.old) (O.written out.old) (O.faults out.old) steps.old) (moment (F.meaning shelf.new) (O.written out.new) (O.faults out.new) steps.new) (N.faults notes.old) (N.faults notes.new) (N.written notes.old) (N.written notes.new) result }
+    ensures ran { Ran (course_of (map string_bytes words.now)) (moment (F.meaning shelf.old) (O.meaning out.old) steps.old) (moment (F.meaning shelf.new) (O.meaning out.new) steps.new) (N.meaning notes.old) (N.meaning notes.new) result }
+    ensures notes_in_time { InTime (N.meaning notes.old) (N.meaning notes.new) }
 {
     match command_of(alloc, words) {
         Ok(Command::Query(asked)) => {
@@ -67,23 +69,26 @@ pub fn run<F: Shelf, O: Sink, N: Sink, L: Ledger>(
     steps: &mut Steps<L>,
 ) -> u8
     ensures headline { (asked : AskedQuery) → command_of (map string_bytes words.now) ≡ Some (query asked)
-        → Headline (layer_file asked.layer asked.form asked.scale) asked.points (moment (F.meaning shelf.old) (O.written out.old) (O.faults out.old) steps.old) (moment (F.meaning shelf.new) (O.written out.new) (O.faults out.new) steps.new) (N.faults notes.old) (N.faults notes.new) (N.written notes.old) (N.written notes.new) result }
-    ensures ran { Ran (course_of (map string_bytes words.now)) (moment (F.meaning shelf.old) (O.written out.old) (O.faults out.old) steps.old) (moment (F.meaning shelf.new) (O.written out.new) (O.faults out.new) steps.new) (N.faults notes.old) (N.faults notes.new) (N.written notes.old) (N.written notes.new) result }
-    ensures done { IfSome (course_of (map string_bytes words.now)) (λ (c : Course). Done c (moment (F.meaning shelf.old) (O.written out.old) (O.faults out.old) steps.old) (moment (F.meaning shelf.new) (O.written out.new) (O.faults out.new) steps.new) result) }
-    ensures succeeds { IfSome (course_of (map string_bytes words.now)) (λ (c : Course). Succeeds c (moment (F.meaning shelf.old) (O.written out.old) (O.faults out.old) steps.old) (moment (F.meaning shelf.new) (O.written out.new) (O.faults out.new) steps.new) result) }
-    ensures refuses { IfSome (course_of (map string_bytes words.now)) (λ (c : Course). Refuses c (moment (F.meaning shelf.old) (O.written out.old) (O.faults out.old) steps.old) (moment (F.meaning shelf.new) (O.written out.new) (O.faults out.new) steps.new) (N.faults notes.old) (N.faults notes.new) (N.written notes.old) (N.written notes.new) result) }
-    ensures refuses_partly { IfSome (course_of (map string_bytes words.now)) (λ (c : Course). RefusesPartly c (moment (F.meaning shelf.old) (O.written out.old) (O.faults out.old) steps.old) (moment (F.meaning shelf.new) (O.written out.new) (O.faults out.new) steps.new) (N.faults notes.old) (N.faults notes.new) (N.written notes.old) (N.written notes.new) result) }
-    ensures refused_only { IfSome (course_of (map string_bytes words.now)) (λ (c : Course). RefusedOnly c (moment (F.meaning shelf.old) (O.written out.old) (O.faults out.old) steps.old) (moment (F.meaning shelf.new) (O.written out.new) (O.faults out.new) steps.new) (N.faults notes.old) (N.faults notes.new) (N.written notes.old) (N.written notes.new) result) }
-    ensures refuses_words { RefusesWords (course_of (map string_bytes words.now)) (moment (F.meaning shelf.old) (O.written out.old) (O.faults out.old) steps.old) (moment (F.meaning shelf.new) (O.written out.new) (O.faults out.new) steps.new) (N.faults notes.old) (N.faults notes.new) (N.written notes.old) (N.written notes.new) result }
-    ensures misses { IfSome (course_of (map string_bytes words.now)) (λ (c : Course). Misses c (moment (F.meaning shelf.old) (O.written out.old) (O.faults out.old) steps.old) result) }
-    ensures reads_fail { ReadsFail (moment (F.meaning shelf.old) (O.written out.old) (O.faults out.old) steps.old) (moment (F.meaning shelf.new) (O.written out.new) (O.faults out.new) steps.new) result }
-    ensures writes_fail { WritesFail (moment (F.meaning shelf.old) (O.written out.old) (O.faults out.old) steps.old) (moment (F.meaning shelf.new) (O.written out.new) (O.faults out.new) steps.new) result }
-    ensures no_count_rose { NoCountRose (moment (F.meaning shelf.old) (O.written out.old) (O.faults out.old) steps.old) (moment (F.meaning shelf.new) (O.written out.new) (O.faults out.new) steps.new) result }
-    ensures out { OutOf (course_of (map string_bytes words.now)) (moment (F.meaning shelf.old) (O.written out.old) (O.faults out.old) steps.old) (moment (F.meaning shelf.new) (O.written out.new) (O.faults out.new) steps.new) result }
-    ensures notes { Notes (N.faults notes.old) (N.faults notes.new) (N.written notes.old) (N.written notes.new) result }
-    ensures names { IfSome (course_of (map string_bytes words.now)) (λ (c : Course). Names c (moment (F.meaning shelf.old) (O.written out.old) (O.faults out.old) steps.old) (moment (F.meaning shelf.new) (O.written out.new) (O.faults out.new) steps.new) result) }
+        → Headline (layer_file asked.layer asked.form asked.scale) asked.points (moment (F.meaning shelf.old) (O.meaning out.old) steps.old) (moment (F.meaning shelf.new) (O.meaning out.new) steps.new) (N.meaning notes.old) (N.meaning notes.new) result }
+    ensures ran { Ran (course_of (map string_bytes words.now)) (moment (F.meaning shelf.old) (O.meaning out.old) steps.old) (moment (F.meaning shelf.new) (O.meaning out.new) steps.new) (N.meaning notes.old) (N.meaning notes.new) result }
+    ensures done { IfSome (course_of (map string_bytes words.now)) (λ (c : Course). Done c (moment (F.meaning shelf.old) (O.meaning out.old) steps.old) (moment (F.meaning shelf.new) (O.meaning out.new) steps.new) result) }
+    ensures succeeds { IfSome (course_of (map string_bytes words.now)) (λ (c : Course). Succeeds c (moment (F.meaning shelf.old) (O.meaning out.old) steps.old) (moment (F.meaning shelf.new) (O.meaning out.new) steps.new) result) }
+    ensures refuses { IfSome (course_of (map string_bytes words.now)) (λ (c : Course). Refuses c (moment (F.meaning shelf.old) (O.meaning out.old) steps.old) (moment (F.meaning shelf.new) (O.meaning out.new) steps.new) (N.meaning notes.old) (N.meaning notes.new) result) }
+    ensures refuses_partly { IfSome (course_of (map string_bytes words.now)) (λ (c : Course). RefusesPartly c (moment (F.meaning shelf.old) (O.meaning out.old) steps.old) (moment (F.meaning shelf.new) (O.meaning out.new) steps.new) (N.meaning notes.old) (N.meaning notes.new) result) }
+    ensures refused_only { IfSome (course_of (map string_bytes words.now)) (λ (c : Course). RefusedOnly c (moment (F.meaning shelf.old) (O.meaning out.old) steps.old) (moment (F.meaning shelf.new) (O.meaning out.new) steps.new) (N.meaning notes.old) (N.meaning notes.new) result) }
+    ensures refuses_words { RefusesWords (course_of (map string_bytes words.now)) (moment (F.meaning shelf.old) (O.meaning out.old) steps.old) (moment (F.meaning shelf.new) (O.meaning out.new) steps.new) (N.meaning notes.old) (N.meaning notes.new) result }
+    ensures misses { IfSome (course_of (map string_bytes words.now)) (λ (c : Course). Misses c (moment (F.meaning shelf.old) (O.meaning out.old) steps.old) result) }
+    ensures reads_fail { ReadsFail (moment (F.meaning shelf.old) (O.meaning out.old) steps.old) (moment (F.meaning shelf.new) (O.meaning out.new) steps.new) result }
+    ensures writes_fail { OutFails (moment (F.meaning shelf.old) (O.meaning out.old) steps.old) (moment (F.meaning shelf.new) (O.meaning out.new) steps.new) result }
+    ensures no_count_rose { NoCountRose (moment (F.meaning shelf.old) (O.meaning out.old) steps.old) (moment (F.meaning shelf.new) (O.meaning out.new) steps.new) result }
+    ensures out { OutOf (course_of (map string_bytes words.now)) (moment (F.meaning shelf.old) (O.meaning out.old) steps.old) (moment (F.meaning shelf.new) (O.meaning out.new) steps.new) result }
+    ensures notes { Notes (N.meaning notes.old) (N.meaning notes.new) result }
+    ensures names { IfSome (course_of (map string_bytes words.now)) (λ (c : Course). Names c (moment (F.meaning shelf.old) (O.meaning out.old) steps.old) (moment (F.meaning shelf.new) (O.meaning out.new) steps.new) result) }
     ensures files { KeepsFiles (F.meaning shelf.old) (F.meaning shelf.new) }
-    ensures steps { IfSome (course_of (map string_bytes words.now)) (λ (c : Course). Counts c (moment (F.meaning shelf.old) (O.written out.old) (O.faults out.old) steps.old) (moment (F.meaning shelf.new) (O.written out.new) (O.faults out.new) steps.new)) }
+    ensures no_file_made { (F.meaning shelf.new).write_faults ≡ (F.meaning shelf.old).write_faults }
+    ensures steps { IfSome (course_of (map string_bytes words.now)) (λ (c : Course). Counts c (moment (F.meaning shelf.old) (O.meaning out.old) steps.old) (moment (F.meaning shelf.new) (O.meaning out.new) steps.new)) }
+    ensures in_time { InTimes (moment (F.meaning shelf.old) (O.meaning out.old) steps.old) (moment (F.meaning shelf.new) (O.meaning out.new) steps.new) }
+    ensures notes_in_time { InTime (N.meaning notes.old) (N.meaning notes.new) }
     ensures range { result ≤ 5 }
 {
     run_course(alloc, words, shelf, out, notes, steps)

@@ -1,9 +1,7 @@
 // Grid values in print: a minus where the value is negative, the whole part, and behind a point as many digits as the scale says.
 
-ghost use Rattle.std.specs.Prelude.{◌≡◌, ◌<◌, ◌≤◌, ◌+◌, ◌-◌, pos, int_lt, length, drop, OnOk, OnErr};
-ghost use Rattle.std.specs.Io.KnownBytes.{Appends};
-ghost use Rattle.loc_io.specs.Causes.{HasCause};
-ghost use Rattle.loc_io.specs.Reading.{WroteFront};
+ghost use Rattle.std.specs.Prelude.{◌≡◌, ◌<◌, ◌≤◌, ◌+◌, ◌-◌, pos, int_lt, length, drop};
+ghost use Rattle.loc_io.specs.Streams.{TakesAll};
 ghost use Rattle.loc_spec_text.specs.Points.{fraction_text, grid_text, padded_digits};
 
 use itoa::write_digits;
@@ -70,9 +68,7 @@ fn put_value(room: &mut [u8], value: i64, scale: u8) -> usize
 /// Writes a grid value at a scale of at most 15. It takes no memory.
 pub fn print_grid<O: Sink>(value: i64, scale: u8, sink: &mut O) -> Result<(), WriteFault>
     requires { scale ≤ 15 }
-    ensures ok { OnOk result (Appends (O.written sink.old) (O.written sink.new) (grid_text scale value)) }
-    ensures err { OnErr result (WroteFront (O.written sink.old) (O.written sink.new) (grid_text scale value)) }
-    ensures cause { HasCause (O.faults sink.old) (O.faults sink.new) result }
+    ensures { TakesAll (grid_text scale value) (O.meaning sink.old) (O.meaning sink.new) result }
 {
     let mut room = [b'0'; ROOM];
     let start = put_value(&mut room, value, scale);

@@ -1,11 +1,10 @@
 use Rattle.std.proofs.Common.{◌∙◌, ap, arith, rules, drop, length-drop, subst, w64}
-use Rattle.std.specs.Prelude.{OnErr}
 use Rattle.std.proofs.lemmas.Int.{to_z-of_z}
 use Rattle.std.proofs.lemmas.List.{take_all}
-use Rattle.loc_io.specs.Reading.{WroteFront}
+use Rattle.loc_io.specs.Streams.{TakesAll}
 use Rattle.loc_spec_text.specs.Points.{grid_text}
 use Rattle.loc_wkt.proofs.grid_texts.print_grid.Goals as goal
 
-pub returns-clause-err : goal.returns-clause-err
-returns-clause-err g c = subst (λ t. OnErr c.write_all.result (WroteFront (g.O.Sink.written c.args.sink.now) (g.O.Sink.written c.write_all.new.sink) t))
-    (take_all _ (drop c.put_value-start.result c.put_value-start.new.room) (simp length-drop (omega arith)) ∙ c.put_value-start.ensures.text ∙ ap (grid_text c.args.scale) (to_z-of_z w64 c.args.value (search rules))) c.write_all.ensures.err
+pub returns : goal.returns
+returns g c = subst (λ t. TakesAll t (g.O.Sink.meaning c.args.sink.now) (g.O.Sink.meaning c.write_all.new.sink) c.write_all.result)
+    (take_all _ (drop c.put_value-start.result c.put_value-start.new.room) (simp length-drop (omega arith)) ∙ c.put_value-start.ensures.text ∙ ap (grid_text c.args.scale) (to_z-of_z w64 c.args.value (search rules))) c.write_all.ensures

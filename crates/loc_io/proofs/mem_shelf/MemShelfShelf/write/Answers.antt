@@ -5,8 +5,8 @@ use Rattle.loc_io.specs.Files.{Grows}
 use Rattle.loc_io.proofs.Growing.{told_grows, told_keeps}
 use Rattle.loc_io.proofs.mem_shelf.MemShelfShelf.write.Goals as goal
 
-pub returns-then-append : goal.returns-then-append
-returns-then-append c =
+pub returns-then-append-clause-shelf : goal.returns-then-append-clause-shelf
+returns-then-append-clause-shelf c =
     let made : option_map string_bytes c.args.self.now.making ≡ Some (string_bytes c.in-Some.name) = search rules in
     let grows : Grows (string_bytes c.in-Some.name) c.args.piece.now c.args.self.now.files.items c.append.new.files = search rules in
     let items : (with_items c.args.self.now.files c.append.new.files).items ≡ c.append.new.files = with_items_is c.args.self.now.files c.append.new.files (search rules) in
@@ -19,4 +19,5 @@ returns-then-append c =
       others = λ q not. rw items (told_keeps _ _ _ _ grows q (λ e. not (made ∙ ap Some e)));
       refused = tt;
       cause = search rules;
+      late = search rules;
     }

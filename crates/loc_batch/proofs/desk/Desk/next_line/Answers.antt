@@ -1,5 +1,0 @@
-use Rattle.std.proofs.Common.{arith, inr, refl}
-use Rattle.loc_batch.proofs.desk.Desk.next_line.Goals as goal
-
-pub returns-then-is_full-clause-cuts : goal.returns-then-is_full-clause-cuts
-returns-then-is_full-clause-cuts c = let full = c.is_full.ensures.full c.if-is_full.true in inr (omega (arith, full))
