@@ -1,6 +1,8 @@
-//! What no clause of the top call says: that its answers come where there is memory, on worked layers and with each call
-//! failing in turn. Tests alone.
+//! What no clause says: that answers come where there is memory, on worked layers by hand and on runs with each call failing in
+//! turn. Tests that need several crates, and nothing else; nothing stands on it.
 #![tactic(auto)]
 
+#[cfg(test)]
+mod legends;
 #[cfg(test)]
 mod tests;
