@@ -10,7 +10,7 @@ ghost use Rattle.loc_cover.specs.Legends.{AreLists, FitsTable, IsFew, IsRefused,
 use crate::LegendFault;
 use crate::covers::cover_rows;
 use crate::touching::{touching_corners, touching_edges};
-use loc_edges::{EdgeTable, Floors};
+use loc_edges::{EdgeTable, Floors, Rows};
 use loc_rings::Layer;
 use std::alloc::{AllocError, Global};
 use std::marker::Model;
@@ -20,8 +20,8 @@ use std::marker::Model;
 #[derive(Drop)]
 pub struct Legend {
     ids: Vec<Vec<u8>>,
-    on_corner: Vec<Vec<u32>>,
-    on_edge: Vec<Vec<u32>>,
+    on_corner: Rows<u32>,
+    on_edge: Rows<u32>,
     lists: Vec<Vec<u32>>,
     above: Vec<u32>,
     floors: Vec<Option<u32>>,
@@ -35,8 +35,8 @@ impl Model for Legend {
 
     ghost view = { λ l. record {
       ids = map (λ id. id.items) l.ids.items;
-      on_corner = map (λ row. row.items) l.on_corner.items;
-      on_edge = map (λ row. row.items) l.on_edge.items;
+      on_corner = l.on_corner;
+      on_edge = l.on_edge;
       lists = map (λ list. list.items) l.lists.items;
       above = l.above.items;
       floors = l.floors.items;
@@ -44,8 +44,8 @@ impl Model for Legend {
 
     ghost invariant = { λ l. IsSound (record {
       ids = map (λ id. id.items) l.ids.items;
-      on_corner = map (λ row. row.items) l.on_corner.items;
-      on_edge = map (λ row. row.items) l.on_edge.items;
+      on_corner = l.on_corner;
+      on_edge = l.on_edge;
       lists = map (λ list. list.items) l.lists.items;
       above = l.above.items;
       floors = l.floors.items;
@@ -178,7 +178,7 @@ impl Legend {
         requires { n < length self.now.on_corner }
         ensures { slice_get self.now.on_corner n ≡ Some result.now }
     {
-        self.on_corner[n as usize].as_slice()
+        self.on_corner.row(n as usize)
     }
 
     /// The features that touch edge n, in order.
@@ -186,7 +186,7 @@ impl Legend {
         requires { n < length self.now.on_edge }
         ensures { slice_get self.now.on_edge n ≡ Some result.now }
     {
-        self.on_edge[n as usize].as_slice()
+        self.on_edge.row(n as usize)
     }
 
     /// The cover list above an edge: the features that cover what lies just above it, in order.

@@ -1,8 +1,6 @@
-use Rattle.std.proofs.Common.{◌≡◌, ℕ, ◌<◌, ◌≤◌, ◌==◌, ◌&&◌, [], List, length, get_or, map, sym, ◌∙◌, ap, subst, inl, inr, arith}
+use Rattle.std.proofs.Common.{◌≡◌, ◌<◌, ◌≤◌, [], length, map, sym, ◌∙◌, subst, arith}
 use Rattle.std.specs.Prelude.{All, nat_lt}
-use Rattle.std.specs.List.{list_any}
-use Rattle.std.proofs.lemmas.Bool.{cases_lt}
-use Rattle.std.proofs.lemmas.List.{get_or_default, length-map}
+use Rattle.std.proofs.lemmas.List.{length-map}
 use Rattle.loc_spec_plane.specs.Lists.{IsRisingListOf}
 use Rattle.loc_spec_plane.specs.Tables.{edge_numbers, has}
 use Rattle.loc_spec_plane.specs.Covers.{feature_count, has_at}
@@ -14,12 +12,12 @@ use Rattle.loc_cover.proofs.legend.Legend.of_parts.Goals as goal
 pub invariant_of-result : goal.invariant_of-result
 invariant_of-result c =
     let t = c.args.table.now in
-    let rows = map (λ row. row.items) c.in_ok-on_corner.on_corner.items in
-    let edge_rows = map (λ row. row.items) c.in_ok-on_edge.on_edge.items in
+    let rows = c.in_ok-on_corner.on_corner in
+    let edge_rows = c.in_ok-on_edge.on_edge in
     let lists = map (λ list. list.items) c.args.covers.items in
     let ids : length (map (λ id. id.items) c.args.ids.items) ≡ length c.args.ids.items = length-map c.args.ids.items (λ id. id.items) in
-    let corners : length (map (λ row. row.items) c.in_ok-on_corner.on_corner.items) ≡ length t.corners = length-map c.in_ok-on_corner.on_corner.items (λ row. row.items) ∙ c.in_ok-on_corner.ensures.as_many in
-    let edges : length (map (λ row. row.items) c.in_ok-on_edge.on_edge.items) ≡ length t.ends = length-map c.in_ok-on_edge.on_edge.items (λ row. row.items) ∙ c.in_ok-on_edge.ensures.as_many in
+    let corners : length c.in_ok-on_corner.on_corner ≡ length t.corners = c.in_ok-on_corner.ensures.as_many in
+    let edges : length c.in_ok-on_edge.on_edge ≡ length t.ends = c.in_ok-on_edge.ensures.as_many in
     let many : feature_count c.args.table.now ≤ length (map (λ id. id.items) c.args.ids.items) = omega (arith, c.requires.features, ids) in
     record {
       few_features = omega (arith, c.requires.few_features, ids);
