@@ -76,8 +76,7 @@ pub(crate) fn touching_corners(alloc: Global, table: &EdgeTable) -> Result<Rows<
     let mut row = Vec::new(alloc);
     for corner in 0..table.corner_count() {
         put_corner(&mut row, table, corner)?;
-        rows.start(corner as usize + 1)?;
-        rows.extend(&row)?;
+        rows.push(&row)?;
     }
     Ok(rows)
 }
@@ -91,8 +90,7 @@ pub(crate) fn touching_edges(alloc: Global, table: &EdgeTable) -> Result<Rows<u3
     let mut row = Vec::new(alloc);
     for edge in 0..table.edge_count() {
         put_features(&mut row, table.marks(edge))?;
-        rows.start(edge as usize + 1)?;
-        rows.extend(&row)?;
+        rows.push(&row)?;
     }
     Ok(rows)
 }

@@ -1,6 +1,6 @@
 // Rows that lie one behind another in one list.
 
-ghost use Rattle.std.specs.Prelude.{◌≡◌, ◌<◌, ◌≤◌, ◌-◌, ◌++◌, [], Some, length, replicate, slice_get, slice_index_or, slice_set, map, All, IfOk, OnOk};
+ghost use Rattle.std.specs.Prelude.{◌≡◌, ◌<◌, ◌≤◌, ◌-◌, ◌++◌, ◌∷◌, [], Some, length, replicate, slice_get, slice_index_or, slice_set, map, All, IfOk, OnOk};
 ghost use Rattle.std.specs.List.Sorted.{IsNonDecreasingBy};
 ghost use Rattle.loc_spec_plane.specs.Lists.{numbers};
 ghost use Rattle.loc_edges.specs.Ending.{row_of};
@@ -80,6 +80,16 @@ impl<T: Copy> Rows<T> {
         ensures { OnOk result (self.new ≡ slice_set self.old (length self.old - 1) (slice_index_or self.old (length self.old - 1) [] ++ more.now)) }
     {
         self.items.extend_from_slice(more)?;
+        Ok(())
+    }
+
+    /// Puts a row behind the last.
+    pub fn push(&mut self, row: &[T]) -> Result<(), AllocError>
+        ensures { OnOk result (self.new ≡ self.old ++ row.now ∷ []) }
+    {
+        let count = self.starts.len() + 1;
+        self.start(count)?;
+        self.extend(row)?;
         Ok(())
     }
 

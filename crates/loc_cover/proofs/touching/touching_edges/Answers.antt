@@ -1,11 +1,10 @@
-use Rattle.std.proofs.Common.{◌≡◌, ◌+◌, ◌-◌, ◌++◌, ◌==◌, [], length, replicate, sym, ◌∙◌, ap, subst, arith}
+use Rattle.std.proofs.Common.{◌==◌, [], sym, subst}
 use Rattle.std.specs.Prelude.{nat_lt}
 use Rattle.std.specs.List.{list_any}
 use Rattle.std.proofs.lemmas.Option.{get_or_from_slice_get}
 use Rattle.loc_spec_plane.specs.declared.Mark.{Mark}
 use Rattle.loc_spec_plane.specs.Lists.{IsRisingListOf}
 use Rattle.loc_spec_plane.specs.Tables.{has}
-use Rattle.loc_edges.proofs.RowLists.{rows_put}
 use Rattle.loc_cover.proofs.Gathered.{row_more}
 use Rattle.loc_cover.proofs.touching.touching_edges.Goals as goal
 
@@ -13,8 +12,6 @@ pub loop-edge-preserved : goal.loop-edge-preserved
 loop-edge-preserved c =
     let t = c.args.table.now in
     let rows = c.loop-edge.rows in
-    let one : (c.loop-edge.edge + 1) - length c.loop-edge.rows ≡ 1 = omega (arith, c.loop-edge.invariant.as_many) in
-    let put = rows_put rows c.start.new.self c.extend.new.self c.deref.result.now (c.in_ok-start.ensures ∙ ap (λ k. rows ++ replicate k []) one) c.in_ok-extend.ensures in
     let marks = get_or_from_slice_get t.marks c.loop-edge.edge c.marks.result.now [] c.marks.ensures.value in
-    let more = row_more (λ e. IsRisingListOf nat_lt (λ f. has t f e)) rows c.extend.new.self c.deref.result.now c.loop-edge.edge c.loop-edge.invariant.as_many c.loop-edge.invariant.each (subst (IsRisingListOf nat_lt (λ f. has t f c.loop-edge.edge)) (sym c.deref.ensures.value) (subst (λ ms. IsRisingListOf nat_lt (λ f. list_any (λ (m : Mark). m.feature == f) ms) c.put_features.new.row.items) (sym marks) c.in_ok-put_features.ensures)) put in
+    let more = row_more (λ e. IsRisingListOf nat_lt (λ f. has t f e)) rows c.push.new.self c.deref.result.now c.loop-edge.edge c.loop-edge.invariant.as_many c.loop-edge.invariant.each (subst (IsRisingListOf nat_lt (λ f. has t f c.loop-edge.edge)) (sym c.deref.ensures.value) (subst (λ ms. IsRisingListOf nat_lt (λ f. list_any (λ (m : Mark). m.feature == f) ms) c.put_features.new.row.items) (sym marks) c.in_ok-put_features.ensures)) c.in_ok-push.ensures in
     record { as_many = more.0; each = more.1 }
