@@ -1,5 +1,5 @@
 -- What touches and what covers a point, read off a legend at the point's place.
-use Rattle.std.proofs.Common.{◌≡◌, ℕ, ◌<◌, not, List, [], length, get_or, filter, refl, sym, ◌∙◌, ap, Option, Some, None}
+use Rattle.std.proofs.Common.{◌≡◌, ℕ, ◌<◌, not, [], length, get_or, filter, refl, ◌∙◌, ap, Option, Some, None}
 use Rattle.std.specs.Prelude.{nat_lt}
 use Rattle.std.proofs.lemmas.Bool.{and_parts, ltb-true}
 use Rattle.std.proofs.lemmas.List.Elements.{filter_agree}

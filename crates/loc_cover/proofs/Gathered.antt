@@ -7,7 +7,7 @@ use Rattle.std.specs.Ordering.{MatchOrdering, nat_cmp}
 use Rattle.std.proofs.lemmas.Bool.{and_parts, and_from, and_right, or_left, or_right, or_cases, cases_Bool, cases_eq, cases_order, cond-false, cond-true, true≢false, eq-eqb, eqb-true, lt-ltb, ltb-true}
 use Rattle.std.proofs.lemmas.Cmp.{nat_cmp_total}
 use Rattle.std.proofs.Math.Seq.{get_or-append_seam}
-use Rattle.std.proofs.lemmas.List.{get_or_append_left, length-map, map_push}
+use Rattle.std.proofs.lemmas.List.{get_or_append_left, length-append}
 use Rattle.std.proofs.lemmas.List.Folds.{list_any-append, list_any_at}
 use Rattle.loc_spec_plane.specs.declared.Mark.{Mark}
 use Rattle.loc_spec_plane.specs.Lists.{is_in, is_rising, numbers, IsRisingListOf}
@@ -140,11 +140,11 @@ below_count g n i fits =
 
 -- ---- row after row
 -- one more row, where each row before is as it should be
-pub put_row : {V : Type 0} (f : V → List ℕ) (P : ℕ → List ℕ → Type 0) (rows next : List V) (row : V) (n : ℕ) → length rows ≡ n → ((k : ℕ) → k < n → P k (get_or (map f rows) k [])) → P n (f row) → next ≡ rows ++ row ∷ [] → (k : ℕ) → k < n + 1 → P k (get_or (map f next) k [])
-put_row f P rows next row n size each here is k lt =
-    let many : length (map f rows) ≡ n = length-map rows f ∙ size in
-    let same : map f next ≡ map f rows ++ f row ∷ [] = ap (map f) is ∙ map_push f rows row in
-    elim (cases_eq k n) [
-      | inl last ↦ subst (λ xs. P k xs) (sym (ap (λ xs. get_or xs k []) same ∙ (ap (λ j. get_or (map f rows ++ f row ∷ []) j []) (last ∙ sym many) ∙ get_or-append_seam (map f rows) (f row) [] []))) (subst (λ j. P j (f row)) (sym last) here)
-      | inr other ↦ (let ne : k ≢ n = other in let fits : k < length (map f rows) = omega (arith, many) in subst (λ xs. P k xs) (sym (ap (λ xs. get_or xs k []) same ∙ get_or_append_left (map f rows) (f row ∷ []) [] k fits)) (each k (omega (arith, ne))))
-    ]
+pub row_more : (P : ℕ → List ℕ → Type 0) (rows next : List (List ℕ)) (row : List ℕ) (n : ℕ) → length rows ≡ n → ((k : ℕ) → k < n → P k (get_or rows k [])) → P n row → next ≡ rows ++ row ∷ [] → (length next ≡ n + 1) × ((k : ℕ) → k < n + 1 → P k (get_or next k []))
+row_more P rows next row n size each here is = (
+  ap length is ∙ (length-append rows (row ∷ []) ∙ ap (λ k. k + 1) size),
+  λ k lt. elim (cases_eq k n) [
+    | inl last ↦ subst (λ xs. P k xs) (sym (ap (λ xs. get_or xs k []) is ∙ (ap (λ j. get_or (rows ++ row ∷ []) j []) (last ∙ sym size) ∙ get_or-append_seam rows row [] []))) (subst (λ j. P j row) (sym last) here)
+    | inr other ↦ (let ne : k ≢ n = other in let fits : k < length rows = omega (arith, size) in subst (λ xs. P k xs) (sym (ap (λ xs. get_or xs k []) is ∙ get_or_append_left rows (row ∷ []) [] k fits)) (each k (omega (arith, ne))))
+  ],
+)

@@ -3,15 +3,15 @@ use Rattle.std.proofs.Common.{◌≡◌, ℕ, ◌<◌, ◌≤◌, Bool, true, fa
 use Rattle.std.specs.Prelude.{All, IfSome, nat_lt}
 use Rattle.std.specs.List.{list_all, list_any}
 use Rattle.std.proofs.lemmas.Bool.{and_parts, and_from, both_ways, cases_Bool, cases_lt, cond-true, cond-false, not_from_false, or_cases, ltb-true, true_from_ne_false}
-use Rattle.std.proofs.lemmas.List.{get_or_default, get_or_past, length-map}
+use Rattle.std.proofs.lemmas.List.{get_or_past, length-map}
 use Rattle.std.proofs.lemmas.List.FromFn.{length-range_with_len}
 use Rattle.std.proofs.lemmas.List.Folds.{list_any_at, list_all_at}
 use Rattle.std.proofs.lemmas.Option.{slice_get-get_or}
-use Rattle.loc_spec_plane.specs.Lists.{IsRisingListOf, is_in, is_rising, numbers, sorted_set}
+use Rattle.loc_spec_plane.specs.Lists.{IsRisingListOf, is_rising, numbers, sorted_set}
 use Rattle.loc_spec_plane.specs.Points.{is_above}
 use Rattle.loc_spec_plane.specs.Tables.{Table, corner, edge, edge_numbers, ends_at, has}
 use Rattle.loc_spec_plane.specs.Places.{alive, alive_at, is_edge, IsFloor}
-use Rattle.loc_spec_plane.specs.Covers.{cover_above, cover_lists, feature_count, has_at, is_over, list_before}
+use Rattle.loc_spec_plane.specs.Covers.{cover_above, cover_lists, feature_count, is_over, list_before}
 use Rattle.loc_laws_order.proofs.ListLaws.{is_in-get}
 use Rattle.loc_laws_order.proofs.TableOrder.{numbers_within}
 use Rattle.loc_laws_rays.proofs.Members.{feature_below}

@@ -10,7 +10,7 @@ ghost use Rattle.loc_cover.specs.Stores.{IsAt, IsStore};
 use crate::LegendFault;
 use crate::exchange::exchanged;
 use crate::store::Store;
-use loc_edges::EdgeTable;
+use loc_edges::{EdgeTable, Rows};
 use std::alloc::{AllocError, Global};
 
 // The number of the list above an edge that may be missing.
@@ -200,10 +200,10 @@ pub(crate) fn cover_rows(
     alloc: Global,
     table: &EdgeTable,
     below: &[Option<u32>],
-) -> Result<(Vec<Vec<u32>>, Vec<u32>), LegendFault>
+) -> Result<(Rows<u32>, Vec<u32>), LegendFault>
     requires even { IsEven table.now }
     requires below { AreBelow table.now below.now }
-    ensures lists { IfOk result (λ made. map (λ list. list.items) made.0.items ≡ cover_lists table.now) }
+    ensures lists { IfOk result (λ made. made.0 ≡ cover_lists table.now) }
     ensures as_many { IfOk result (λ made. length made.1.items ≡ length table.now.ends) }
     ensures above { IfOk result (λ made. (e : ℕ) → e < length table.now.ends → IsAt (cover_lists table.now) (cover_above table.now e) (get_or made.1.items e 0)) }
     ensures few { IfOk result (λ _. IsFew table.now) }

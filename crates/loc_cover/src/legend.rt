@@ -10,7 +10,7 @@ ghost use Rattle.loc_cover.specs.Legends.{AreLists, FitsTable, IsFew, IsRefused,
 use crate::LegendFault;
 use crate::covers::cover_rows;
 use crate::touching::{touching_corners, touching_edges};
-use loc_edges::{EdgeTable, Floors};
+use loc_edges::{EdgeTable, Floors, Rows};
 use loc_rings::Layer;
 use std::alloc::{AllocError, Global};
 use std::marker::Model;
@@ -20,9 +20,9 @@ use std::marker::Model;
 #[derive(Drop)]
 pub struct Legend {
     ids: Vec<Vec<u8>>,
-    on_corner: Vec<Vec<u32>>,
-    on_edge: Vec<Vec<u32>>,
-    lists: Vec<Vec<u32>>,
+    on_corner: Rows<u32>,
+    on_edge: Rows<u32>,
+    lists: Rows<u32>,
     above: Vec<u32>,
     floors: Vec<Option<u32>>,
 }
@@ -35,18 +35,18 @@ impl Model for Legend {
 
     ghost view = { λ l. record {
       ids = map (λ id. id.items) l.ids.items;
-      on_corner = map (λ row. row.items) l.on_corner.items;
-      on_edge = map (λ row. row.items) l.on_edge.items;
-      lists = map (λ list. list.items) l.lists.items;
+      on_corner = l.on_corner;
+      on_edge = l.on_edge;
+      lists = l.lists;
       above = l.above.items;
       floors = l.floors.items;
     } };
 
     ghost invariant = { λ l. IsSound (record {
       ids = map (λ id. id.items) l.ids.items;
-      on_corner = map (λ row. row.items) l.on_corner.items;
-      on_edge = map (λ row. row.items) l.on_edge.items;
-      lists = map (λ list. list.items) l.lists.items;
+      on_corner = l.on_corner;
+      on_edge = l.on_edge;
+      lists = l.lists;
       above = l.above.items;
       floors = l.floors.items;
     }) };
@@ -62,6 +62,17 @@ fn ids_of(alloc: Global, layer: &Layer) -> Result<Vec<Vec<u8>>, AllocError>
         ids.push(Vec::from_slice(alloc, feature.id())?)?;
     }
     Ok(ids)
+}
+
+// Lists one behind another.
+fn flat(alloc: Global, lists: &[Vec<u32>]) -> Result<Rows<u32>, AllocError>
+    ensures { IfOk result (λ rows. rows ≡ map (λ list. list.items) lists.now) }
+{
+    let mut rows = Rows::new(alloc);
+    for list in lists {
+        rows.push(list)?;
+    }
+    Ok(rows)
 }
 
 impl Legend {
@@ -87,7 +98,7 @@ impl Legend {
         let ids = ids_of(alloc, layer)?;
         let (covers, cover_of) = cover_rows(alloc, table, floors.of_edge())?;
         let floors = Vec::from_slice(alloc, floors.of_corner())?;
-        Ok(Legend::of_parts(alloc, table, ids, covers, cover_of, floors)?)
+        Ok(Legend::assemble(alloc, table, ids, covers, cover_of, floors)?)
     }
 
     /// The legend of a table with these ids, these cover lists, the number of the list above each edge, and these floors, which may be those
@@ -114,6 +125,33 @@ impl Legend {
         ensures floors { IfOk result (λ rows. rows.floors ≡ floors.items) }
         ensures fits { IfOk result (FitsTable table.now) }
     {
+        let lists = flat(alloc, &covers)?;
+        Legend::assemble(alloc, table, ids, lists, cover_of, floors)
+    }
+
+    // The legend with these rows, and with the features that touch each corner and each edge.
+    fn assemble(
+        alloc: Global,
+        table: &EdgeTable,
+        ids: Vec<Vec<u8>>,
+        lists: Rows<u32>,
+        above: Vec<u32>,
+        floors: Vec<Option<u32>>,
+    ) -> Result<Legend, AllocError>
+        requires few_features { length ids.items ≤ 2 ^ 18 }
+        requires features { feature_count table.now ≤ length ids.items }
+        requires lists { AreLists (length table.now.ends) lists }
+        requires lists_named { All (All (λ f. f < length ids.items)) lists }
+        requires as_many_edges { length above.items ≡ length table.now.ends }
+        requires above_in_range { All (λ n. n < length lists) above.items }
+        requires as_many_corners { length floors.items ≡ length table.now.corners }
+        requires floors_in_range { All (λ floor. IfSome floor (λ e. e < length table.now.ends)) floors.items }
+        ensures ids { IfOk result (λ rows. rows.ids ≡ map (λ id. id.items) ids.items) }
+        ensures lists { IfOk result (λ rows. rows.lists ≡ lists) }
+        ensures above { IfOk result (λ rows. rows.above ≡ above.items) }
+        ensures floors { IfOk result (λ rows. rows.floors ≡ floors.items) }
+        ensures fits { IfOk result (FitsTable table.now) }
+    {
         table.law();
         let on_corner = touching_corners(alloc, table)?;
         let on_edge = touching_edges(alloc, table)?;
@@ -121,8 +159,8 @@ impl Legend {
             ids,
             on_corner,
             on_edge,
-            lists: covers,
-            above: cover_of,
+            lists,
+            above,
             floors,
         })
     }
@@ -153,7 +191,7 @@ impl Legend {
         requires { n < length self.now.lists }
         ensures { slice_get self.now.lists n ≡ Some result.now }
     {
-        self.lists[n as usize].as_slice()
+        self.lists.row(n as usize)
     }
 
     /// The number of the cover list above an edge.
@@ -178,7 +216,7 @@ impl Legend {
         requires { n < length self.now.on_corner }
         ensures { slice_get self.now.on_corner n ≡ Some result.now }
     {
-        self.on_corner[n as usize].as_slice()
+        self.on_corner.row(n as usize)
     }
 
     /// The features that touch edge n, in order.
@@ -186,7 +224,7 @@ impl Legend {
         requires { n < length self.now.on_edge }
         ensures { slice_get self.now.on_edge n ≡ Some result.now }
     {
-        self.on_edge[n as usize].as_slice()
+        self.on_edge.row(n as usize)
     }
 
     /// The cover list above an edge: the features that cover what lies just above it, in order.
@@ -194,7 +232,7 @@ impl Legend {
         requires { edge < length self.now.above }
         ensures { result.now ≡ list_above self.now edge }
     {
-        self.lists[self.above[edge as usize] as usize].as_slice()
+        self.lists.row(self.above[edge as usize] as usize)
     }
 
     /// The floor of a corner: the edge just below it, where there is one.

@@ -7,6 +7,7 @@ ghost use Rattle.loc_spec_plane.specs.Covers.{list_before};
 ghost use Rattle.loc_cover.specs.Stores.{GainsAtMost, IsAt, IsStore, IsGap, IsPast, lists_in, lists_of};
 
 use crate::LegendFault;
+use loc_edges::Rows;
 use std::alloc::{AllocError, Global};
 use std::cmp::Ordering;
 use std::marker::Model;
@@ -110,13 +111,13 @@ impl Store {
     }
 
     // The lists in their order.
-    pub(crate) fn lists(&self, alloc: Global) -> Result<Vec<Vec<u32>>, AllocError>
+    pub(crate) fn lists(&self, alloc: Global) -> Result<Rows<u32>, AllocError>
         requires stands { IsStore self.now }
-        ensures { IfOk result (λ lists. map (λ list. list.items) lists.items ≡ lists_of self.now) }
+        ensures { IfOk result (λ lists. lists ≡ lists_of self.now) }
     {
-        let mut lists = Vec::with_capacity(alloc, self.order.len())?;
+        let mut lists = Rows::new(alloc);
         for number in &self.order {
-            lists.push(Vec::from_slice(alloc, self.row(*number))?)?;
+            lists.push(self.row(*number))?;
         }
         Ok(lists)
     }

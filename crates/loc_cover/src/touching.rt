@@ -7,7 +7,7 @@ ghost use Rattle.loc_spec_plane.specs.Lists.{is_in, is_rising, IsRisingListOf};
 ghost use Rattle.loc_spec_plane.specs.Tables.{edge_numbers, has, hi_of, lo_of, mark_before};
 ghost use Rattle.loc_spec_plane.specs.Covers.{has_at};
 
-use loc_edges::EdgeTable;
+use loc_edges::{EdgeTable, Rows};
 use loc_spec_plane::Mark;
 use std::alloc::{AllocError, Global};
 
@@ -19,16 +19,6 @@ fn add_features(row: &mut Vec<u32>, marks: &[Mark]) -> Result<(), AllocError>
         row.push(mark.feature)?;
     }
     Ok(())
-}
-
-// The features of marks.
-fn features_of(alloc: Global, marks: &[Mark]) -> Result<Vec<u32>, AllocError>
-    requires in_order { IsTrue (is_rising mark_before marks.now) }
-    ensures { IfOk result (λ row. IsRisingListOf nat_lt (λ f. list_any (λ (m : MarkOf). m.feature == f) marks.now) row.items) }
-{
-    let mut row = Vec::with_capacity(alloc, marks.len())?;
-    add_features(&mut row, marks)?;
-    Ok(row)
 }
 
 // Adds the features that have an edge that begins at a corner.
@@ -54,42 +44,53 @@ fn add_ending(row: &mut Vec<u32>, table: &EdgeTable, corner: u32) -> Result<(), 
     Ok(())
 }
 
-// The features that touch a corner.
-fn touching_corner(alloc: Global, table: &EdgeTable, corner: u32) -> Result<Vec<u32>, AllocError>
+// Puts the features that touch a corner into a row, in place of others.
+fn put_corner(row: &mut Vec<u32>, table: &EdgeTable, corner: u32) -> Result<(), AllocError>
     requires { corner < length table.now.corners }
-    ensures { IfOk result (λ row. IsRisingListOf nat_lt (has_at table.now corner) row.items) }
+    ensures { OnOk result (IsRisingListOf nat_lt (has_at table.now corner) row.new.items) }
 {
-    let mut row = Vec::new(alloc);
-    add_beginning(&mut row, table, corner)?;
-    add_ending(&mut row, table, corner)?;
+    row.clear();
+    add_beginning(row, table, corner)?;
+    add_ending(row, table, corner)?;
     row.sort_unstable();
     row.dedup();
-    Ok(row)
+    Ok(())
+}
+
+// Puts the features of marks into a row, in place of others.
+fn put_features(row: &mut Vec<u32>, marks: &[Mark]) -> Result<(), AllocError>
+    requires in_order { IsTrue (is_rising mark_before marks.now) }
+    ensures { OnOk result (IsRisingListOf nat_lt (λ f. list_any (λ (m : MarkOf). m.feature == f) marks.now) row.new.items) }
+{
+    row.clear();
+    add_features(row, marks)?;
+    Ok(())
 }
 
 // The features that touch each corner.
-pub(crate) fn touching_corners(
-    alloc: Global,
-    table: &EdgeTable,
-) -> Result<Vec<Vec<u32>>, AllocError>
-    ensures as_many { IfOk result (λ rows. length rows.items ≡ length table.now.corners) }
-    ensures each { IfOk result (λ rows. (c : ℕ) → c < length table.now.corners → IsRisingListOf nat_lt (has_at table.now c) (get_or (map (λ row. row.items) rows.items) c [])) }
+pub(crate) fn touching_corners(alloc: Global, table: &EdgeTable) -> Result<Rows<u32>, AllocError>
+    ensures as_many { IfOk result (λ rows. length rows ≡ length table.now.corners) }
+    ensures each { IfOk result (λ rows. (c : ℕ) → c < length table.now.corners → IsRisingListOf nat_lt (has_at table.now c) (get_or rows c [])) }
 {
-    let mut rows = Vec::with_capacity(alloc, table.corner_count() as usize)?;
+    let mut rows = Rows::new(alloc);
+    let mut row = Vec::new(alloc);
     for corner in 0..table.corner_count() {
-        rows.push(touching_corner(alloc, table, corner)?)?;
+        put_corner(&mut row, table, corner)?;
+        rows.push(&row)?;
     }
     Ok(rows)
 }
 
 // The features that touch each edge.
-pub(crate) fn touching_edges(alloc: Global, table: &EdgeTable) -> Result<Vec<Vec<u32>>, AllocError>
-    ensures as_many { IfOk result (λ rows. length rows.items ≡ length table.now.ends) }
-    ensures each { IfOk result (λ rows. (e : ℕ) → e < length table.now.ends → IsRisingListOf nat_lt (λ f. has table.now f e) (get_or (map (λ row. row.items) rows.items) e [])) }
+pub(crate) fn touching_edges(alloc: Global, table: &EdgeTable) -> Result<Rows<u32>, AllocError>
+    ensures as_many { IfOk result (λ rows. length rows ≡ length table.now.ends) }
+    ensures each { IfOk result (λ rows. (e : ℕ) → e < length table.now.ends → IsRisingListOf nat_lt (λ f. has table.now f e) (get_or rows e [])) }
 {
-    let mut rows = Vec::with_capacity(alloc, table.edge_count() as usize)?;
+    let mut rows = Rows::new(alloc);
+    let mut row = Vec::new(alloc);
     for edge in 0..table.edge_count() {
-        rows.push(features_of(alloc, table.marks(edge))?)?;
+        put_features(&mut row, table.marks(edge))?;
+        rows.push(&row)?;
     }
     Ok(rows)
 }

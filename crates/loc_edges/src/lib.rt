@@ -20,6 +20,7 @@ mod views;
 pub use floors::Floors;
 pub use loc_spec_plane::Mark;
 pub use ranks::{Placing, Ranks};
+pub use rows::Rows;
 pub use table::EdgeTable;
 pub use tables::{corners_between, edges};
 pub use views::Views;

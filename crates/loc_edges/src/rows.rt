@@ -1,6 +1,6 @@
 // Rows that lie one behind another in one list.
 
-ghost use Rattle.std.specs.Prelude.{◌≡◌, ◌<◌, ◌≤◌, ◌-◌, ◌++◌, [], Some, length, replicate, slice_get, slice_index_or, slice_set, map, All, IfOk, OnOk};
+ghost use Rattle.std.specs.Prelude.{◌≡◌, ◌<◌, ◌≤◌, ◌-◌, ◌++◌, ◌∷◌, [], Some, length, replicate, slice_get, slice_index_or, slice_set, map, All, IfOk, OnOk};
 ghost use Rattle.std.specs.List.Sorted.{IsNonDecreasingBy};
 ghost use Rattle.loc_spec_plane.specs.Lists.{numbers};
 ghost use Rattle.loc_edges.specs.Ending.{row_of};
@@ -9,9 +9,9 @@ ghost use Rattle.loc_edges.specs.RowLists.{start_of};
 use std::alloc::{AllocError, Global};
 use std::marker::Model;
 
-// Rows of items, and the place in the list where each starts. A row ends where the next starts, the last where the list ends.
+/// Rows of items, and the place in the list where each starts. A row ends where the next starts, the last where the list ends.
 #[derive(Drop)]
-pub(crate) struct Rows<T> {
+pub struct Rows<T> {
     items: Vec<T>,
     starts: Vec<usize>,
 }
@@ -38,8 +38,8 @@ fn start_at<T>(items: &[T], starts: &[usize], n: usize) -> usize
 }
 
 impl<T: Copy> Rows<T> {
-    // No rows.
-    pub(crate) fn new(alloc: Global) -> Rows<T>
+    /// No rows.
+    pub fn new(alloc: Global) -> Rows<T>
         ensures { result ≡ [] }
     {
         Rows {
@@ -48,15 +48,15 @@ impl<T: Copy> Rows<T> {
         }
     }
 
-    // How many rows there are.
-    pub(crate) fn len(&self) -> usize
+    /// How many rows there are.
+    pub fn len(&self) -> usize
         ensures { result ≡ length self.now }
     {
         self.starts.len()
     }
 
-    // Row n.
-    pub(crate) fn row(&self, n: usize) -> &[T]
+    /// Row n.
+    pub fn row(&self, n: usize) -> &[T]
         requires { n < length self.now }
         ensures { slice_get self.now n ≡ Some result.now }
     {
@@ -65,8 +65,8 @@ impl<T: Copy> Rows<T> {
         &self.items[start..end]
     }
 
-    // Starts rows behind the last, so that there are so many.
-    pub(crate) fn start(&mut self, count: usize) -> Result<(), AllocError>
+    /// Starts rows behind the last, so that there are so many.
+    pub fn start(&mut self, count: usize) -> Result<(), AllocError>
         requires { length self.old ≤ count }
         ensures { OnOk result (self.new ≡ self.old ++ replicate (count - length self.old) []) }
     {
@@ -74,8 +74,8 @@ impl<T: Copy> Rows<T> {
         Ok(())
     }
 
-    // Puts items behind those of the last row.
-    pub(crate) fn extend(&mut self, more: &[T]) -> Result<(), AllocError>
+    /// Puts items behind those of the last row.
+    pub fn extend(&mut self, more: &[T]) -> Result<(), AllocError>
         requires { 0 < length self.old }
         ensures { OnOk result (self.new ≡ slice_set self.old (length self.old - 1) (slice_index_or self.old (length self.old - 1) [] ++ more.now)) }
     {
@@ -83,12 +83,18 @@ impl<T: Copy> Rows<T> {
         Ok(())
     }
 
-    // The items of each key below the count, from items behind their keys in the order of the keys.
-    pub(crate) fn by_key(
-        alloc: Global,
-        keyed: &[(u32, T)],
-        count: usize,
-    ) -> Result<Rows<T>, AllocError>
+    /// Puts a row behind the last.
+    pub fn push(&mut self, row: &[T]) -> Result<(), AllocError>
+        ensures { OnOk result (self.new ≡ self.old ++ row.now ∷ []) }
+    {
+        let count = self.starts.len() + 1;
+        self.start(count)?;
+        self.extend(row)?;
+        Ok(())
+    }
+
+    /// The items of each key below the count, from items behind their keys in the order of the keys.
+    pub fn by_key(alloc: Global, keyed: &[(u32, T)], count: usize) -> Result<Rows<T>, AllocError>
         requires in_order { IsNonDecreasingBy (λ pair. pair.0) keyed.now }
         requires in_range { All (λ pair. pair.0 < count) keyed.now }
         ensures { IfOk result (λ rows. rows ≡ map (row_of keyed.now) (numbers count)) }

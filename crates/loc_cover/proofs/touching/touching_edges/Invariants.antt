@@ -1,4 +1,4 @@
-use Rattle.std.proofs.Common.{◌≡◌, ℕ, ◌<◌, [], length, get_or, map}
+use Rattle.std.proofs.Common.{◌≡◌, ℕ, ◌<◌, [], length, get_or}
 use Rattle.std.specs.Prelude.{nat_lt}
 use Rattle.loc_spec_plane.specs.Lists.{IsRisingListOf}
 use Rattle.loc_spec_plane.specs.Tables.{has}
@@ -7,6 +7,6 @@ use Rattle.loc_cover.proofs.touching.touching_edges.Given as goal
 -- the edges before have their rows
 abbrev pub invariant-loop-edge : goal.invariant-loop-edge
 invariant-loop-edge l = record {
-  as_many : length l.rows.items ≡ l.edge;
-  each : (e : ℕ) → e < l.edge → IsRisingListOf nat_lt (λ f. has l.table f e) (get_or (map (λ row. row.items) l.rows.items) e []);
+  as_many : length l.rows ≡ l.edge;
+  each : (e : ℕ) → e < l.edge → IsRisingListOf nat_lt (λ f. has l.table f e) (get_or l.rows e []);
 }

@@ -1,24 +1,24 @@
-use Rattle.std.proofs.Common.{◌≡◌, ℕ, ◌<◌, length, get_or, map, sym, ◌∙◌, ap, subst, arith, None}
+use Rattle.std.proofs.Common.{◌<◌, length, get_or, sym, ◌∙◌, ap, subst, arith, None}
 use Rattle.std.specs.Prelude.{All, IfSome}
 use Rattle.std.proofs.lemmas.List.{get_or_default, length-map}
 use Rattle.loc_cover.specs.Legends.{AreLists}
 use Rattle.loc_cover.proofs.Sound.{are_lists, covers_named, floor_in_range}
 use Rattle.loc_cover.proofs.legend.Legend.make.Goals as goal
 
-pub of_parts-requires-clause-covers : goal.of_parts-requires-clause-covers
-of_parts-requires-clause-covers c = subst (AreLists (length c.args.table.now.ends)) (sym c.in_ok-covers.ensures.lists) (are_lists c.args.table.now c.in_ok-covers.ensures.few)
+pub assemble-requires-clause-lists : goal.assemble-requires-clause-lists
+assemble-requires-clause-lists c = subst (AreLists (length c.args.table.now.ends)) (sym c.in_ok-covers.ensures.lists) (are_lists c.args.table.now c.in_ok-covers.ensures.few)
 
-pub of_parts-requires-clause-covers_named : goal.of_parts-requires-clause-covers_named
-of_parts-requires-clause-covers_named c = subst (All (All (λ f. f < length c.in_ok-ids.ids.items))) (sym c.in_ok-covers.ensures.lists) (covers_named c.args.table.now (length c.in_ok-ids.ids.items)
+pub assemble-requires-clause-lists_named : goal.assemble-requires-clause-lists_named
+assemble-requires-clause-lists_named c = subst (All (All (λ f. f < length c.in_ok-ids.ids.items))) (sym c.in_ok-covers.ensures.lists) (covers_named c.args.table.now (length c.in_ok-ids.ids.items)
     (let same = ap length c.in_ok-ids.ensures.value in omega (arith, c.requires.features, same, length-map c.in_ok-ids.ids.items (λ id. id.items), length-map c.args.layer.now (λ f. f.id))))
 
-pub of_parts-requires-clause-cover_in_range : goal.of_parts-requires-clause-cover_in_range
-of_parts-requires-clause-cover_in_range c = λ e d fits.
+pub assemble-requires-clause-above_in_range : goal.assemble-requires-clause-above_in_range
+assemble-requires-clause-above_in_range c = λ e d fits.
     (let at = c.in_ok-covers.ensures.above e (omega (arith, c.in_ok-covers.ensures.as_many)) in
-    omega (arith, at.fits, get_or_default c.in_ok-covers.cover_of.items e d 0 fits, ap length c.in_ok-covers.ensures.lists, length-map c.in_ok-covers.covers.items (λ list. list.items)))
+    omega (arith, at.fits, get_or_default c.in_ok-covers.cover_of.items e d 0 fits, ap length c.in_ok-covers.ensures.lists))
 
-pub of_parts-requires-clause-floors_in_range : goal.of_parts-requires-clause-floors_in_range
-of_parts-requires-clause-floors_in_range c =
+pub assemble-requires-clause-floors_in_range : goal.assemble-requires-clause-floors_in_range
+assemble-requires-clause-floors_in_range c =
     let t = c.args.table.now in
     let are = c.in_ok-floors.ensures.items ∙ c.of_corner.ensures in
     subst (All (λ floor. IfSome floor (λ e. e < length c.args.table.now.ends))) (sym are) (λ k d fits.

@@ -1,35 +1,33 @@
-use Rattle.std.proofs.Common.{◌≡◌, ℕ, ◌<◌, ◌≤◌, ◌==◌, ◌&&◌, [], List, length, get_or, map, sym, ◌∙◌, ap, subst, inl, inr, arith}
+use Rattle.std.proofs.Common.{◌≡◌, ◌<◌, ◌≤◌, [], length, map, sym, ◌∙◌, subst, arith}
 use Rattle.std.specs.Prelude.{All, nat_lt}
-use Rattle.std.specs.List.{list_any}
-use Rattle.std.proofs.lemmas.Bool.{cases_lt}
-use Rattle.std.proofs.lemmas.List.{get_or_default, length-map}
+use Rattle.std.proofs.lemmas.List.{length-map}
 use Rattle.loc_spec_plane.specs.Lists.{IsRisingListOf}
 use Rattle.loc_spec_plane.specs.Tables.{edge_numbers, has}
 use Rattle.loc_spec_plane.specs.Covers.{feature_count, has_at}
 use Rattle.loc_laws_rays.proofs.Members.{feature_below}
 use Rattle.loc_cover.specs.Legends.{AreLists}
 use Rattle.loc_cover.proofs.Sound.{each_row, floor_there, marked_there, named_by}
-use Rattle.loc_cover.proofs.legend.Legend.of_parts.Goals as goal
+use Rattle.loc_cover.proofs.legend.Legend.assemble.Goals as goal
 
 pub invariant_of-result : goal.invariant_of-result
 invariant_of-result c =
     let t = c.args.table.now in
-    let rows = map (λ row. row.items) c.in_ok-on_corner.on_corner.items in
-    let edge_rows = map (λ row. row.items) c.in_ok-on_edge.on_edge.items in
-    let lists = map (λ list. list.items) c.args.covers.items in
+    let rows = c.in_ok-on_corner.on_corner in
+    let edge_rows = c.in_ok-on_edge.on_edge in
+    let lists = c.args.lists in
     let ids : length (map (λ id. id.items) c.args.ids.items) ≡ length c.args.ids.items = length-map c.args.ids.items (λ id. id.items) in
-    let corners : length (map (λ row. row.items) c.in_ok-on_corner.on_corner.items) ≡ length t.corners = length-map c.in_ok-on_corner.on_corner.items (λ row. row.items) ∙ c.in_ok-on_corner.ensures.as_many in
-    let edges : length (map (λ row. row.items) c.in_ok-on_edge.on_edge.items) ≡ length t.ends = length-map c.in_ok-on_edge.on_edge.items (λ row. row.items) ∙ c.in_ok-on_edge.ensures.as_many in
+    let corners : length c.in_ok-on_corner.on_corner ≡ length t.corners = c.in_ok-on_corner.ensures.as_many in
+    let edges : length c.in_ok-on_edge.on_edge ≡ length t.ends = c.in_ok-on_edge.ensures.as_many in
     let many : feature_count c.args.table.now ≤ length (map (λ id. id.items) c.args.ids.items) = omega (arith, c.requires.features, ids) in
     record {
       few_features = omega (arith, c.requires.few_features, ids);
       few_edges = omega (arith, edges, c.law.ensures.small.few_edges);
-      lists = subst (λ n. AreLists n lists) (sym edges) c.requires.covers;
+      lists = subst (λ n. AreLists n lists) (sym edges) c.requires.lists;
       as_many_floors = c.requires.as_many_corners ∙ sym corners;
       as_many_above = c.requires.as_many_edges ∙ sym edges;
       floors_in_range = λ k e at. omega (arith, edges, floor_there c.args.floors.items (length t.ends) c.requires.floors_in_range k e at);
-      above_in_range = λ e fits. omega (arith, c.requires.cover_in_range e 0 fits, length-map c.args.covers.items (λ list. list.items));
+      above_in_range = λ e fits. omega (arith, c.requires.above_in_range e 0 fits);
       corners_named = each_row (λ n fs. IsRisingListOf nat_lt (has_at t n) fs) rows (length (map (λ id. id.items) c.args.ids.items)) (λ n fs are. named_by (has_at t n) _ fs are (λ f h. omega (arith, marked_there t n f (edge_numbers t) h, many))) (λ n fits. c.in_ok-on_corner.ensures.each n (omega (arith, corners)));
       edges_named = each_row (λ n fs. IsRisingListOf nat_lt (λ f. has t f n) fs) edge_rows (length (map (λ id. id.items) c.args.ids.items)) (λ n fs are. named_by (λ f. has t f n) _ fs are (λ f h. omega (arith, feature_below t f n h, many))) (λ n fits. c.in_ok-on_edge.ensures.each n (omega (arith, edges)));
-      lists_named = each_row (λ n fs. All (λ f. f < length c.args.ids.items) fs) lists (length (map (λ id. id.items) c.args.ids.items)) (λ n fs are. subst (λ k. All (λ f. f < k) fs) (sym ids) are) (λ n fits. c.requires.covers_named n [] fits);
+      lists_named = each_row (λ n fs. All (λ f. f < length c.args.ids.items) fs) lists (length (map (λ id. id.items) c.args.ids.items)) (λ n fs are. subst (λ k. All (λ f. f < k) fs) (sym ids) are) (λ n fits. c.requires.lists_named n [] fits);
     }
