@@ -42,9 +42,9 @@ pub record IsNodeRow (rows : Map Row) (row : Row) (numbered : NodeRow) : Type 0 
   pub stamp : numbered.stamp ≡ stamp_of row.extra
   pub extra : IsNumber rows (to_of row.extra) numbered.extra
 
--- of a row where there are so many items, sealed versions and nodes, changed since the last seal or not: each field has its bound, and what is said of an extra is 0 where there is none
-pub record IsWithin (items versions nodes : ℕ) (is_changed : Bool) (numbered : NodeRow) : Type 0 where
-  pub item : numbered.item < items
+-- the bounds of a row, where there are so many sealed versions and nodes: what is said of an extra is 0 where there is none, and an extra is of a sealed version where nothing changed since the last seal
+pub record IsWithin (past_greatest versions nodes : ℕ) (is_changed : Bool) (numbered : NodeRow) : Type 0 where
+  pub item : numbered.item < past_greatest
   pub left : numbered.left ≤ nodes
   pub right : numbered.right ≤ nodes
   pub side : numbered.side ≤ 2

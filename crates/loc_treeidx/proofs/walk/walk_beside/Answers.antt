@@ -1,4 +1,4 @@
-use Rattle.std.proofs.Common.{◌<◌, ◌∙◌, ◌++◌, List, [], ◌∷◌, sym, subst, length, Option, None, refl}
+use Rattle.std.proofs.Common.{◌<◌, ◌∙◌, ◌++◌, [], ◌∷◌, sym, subst, length, Option, None, refl}
 use Rattle.loc_pool.specs.declared.Link.{Link}
 use Rattle.loc_pool.specs.declared.Turn.TheVariants.{Left, Right}
 use Rattle.loc_persist.specs.Meaning.{present_nodes}
