@@ -115,8 +115,8 @@ module _ (layer : List Rings) (f : ℕ) where
   touches_is p =
       ap (λ n. list_any (λ e. has (table_of layer) f e && lies_on (edge (table_of layer) e) p) (numbers n)) (as_many_ends layer)
       ∙ (any_by_number (λ e. has (table_of layer) f e && lies_on (edge (table_of layer) e) p) (λ e. list_any (same_edge e) own && lies_on e p) (pieces_of whole layer) 0 (λ k d fits. (let same : 0 + k ≡ k = omega arith in
-          ap (λ n. has (table_of layer) f n && lies_on (edge (table_of layer) n) p) same
-          ∙ (ap (λ b. b && lies_on (edge (table_of layer) k) p) (piece_has k d fits) ∙ ap (λ e. list_any (same_edge (get_or (pieces_of whole layer) k d)) own && lies_on e p) (sym (edge_is_piece layer k d fits)))))
+      ap (λ n. has (table_of layer) f n && lies_on (edge (table_of layer) n) p) same
+      ∙ (ap (λ b. b && lies_on (edge (table_of layer) k) p) (piece_has k d fits) ∙ ap (λ e. list_any (same_edge (get_or (pieces_of whole layer) k d)) own && lies_on e p) (sym (edge_is_piece layer k d fits)))))
       ∙ any_by_edges (λ e. lies_on e p) (pieces_of whole layer) own own_part)
 
   -- and covers what it covers
@@ -124,9 +124,9 @@ module _ (layer : List Rings) (f : ℕ) where
   covers_is p = ap (λ b. not b && odd_many (λ e. has_odd (table_of layer) f e && crosses_right (edge (table_of layer) e) p) (edge_numbers (table_of layer))) (touches_is p) ∙ ap (λ b. not (touches (get_or layer f []) p) && b)
       (ap (λ n. odd_many (λ e. has_odd (table_of layer) f e && crosses_right (edge (table_of layer) e) p) (numbers n)) (as_many_ends layer)
       ∙ (odd_by_number (λ e. has_odd (table_of layer) f e && crosses_right (edge (table_of layer) e) p) (λ e. crosses_right e p && odd_many (same_edge e) own) (pieces_of whole layer) 0 (λ k d fits. (let same : 0 + k ≡ k = omega arith in
-          ap (λ n. has_odd (table_of layer) f n && crosses_right (edge (table_of layer) n) p) same
-          ∙ (and_swap (has_odd (table_of layer) f k) (crosses_right (edge (table_of layer) k) p)
-          ∙ (ap (λ b. crosses_right (edge (table_of layer) k) p && b) (piece_odd layer f k d fits) ∙ ap (λ e. crosses_right e p && odd_many (same_edge (get_or (pieces_of whole layer) k d)) own) (sym (edge_is_piece layer k d fits))))))
+      ap (λ n. has_odd (table_of layer) f n && crosses_right (edge (table_of layer) n) p) same
+      ∙ (and_swap (has_odd (table_of layer) f k) (crosses_right (edge (table_of layer) k) p)
+      ∙ (ap (λ b. crosses_right (edge (table_of layer) k) p && b) (piece_odd layer f k d fits) ∙ ap (λ e. crosses_right e p && odd_many (same_edge (get_or (pieces_of whole layer) k d)) own) (sym (edge_is_piece layer k d fits))))))
       ∙ by_edges (λ e. crosses_right e p) (pieces_of whole layer) own (pieces_rise layer) own_part))
 
 -- ---- the features
