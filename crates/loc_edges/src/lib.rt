@@ -248,7 +248,7 @@ mod tests {
         requires parts { blank.parts ≡ L.parts }
         requires some { 0 < L.parts }
     {
-        let views = table.views();
+        let views = table.views::<L>();
         let ranks = table.ranks();
         let mut steps = Steps::<L>::new(blank);
         for (a, b, placing, lower, side, order) in ROWS {
@@ -270,7 +270,7 @@ mod tests {
     fn views_and_ranks_by_hand(rt: HostRuntime) -> Result<(), Fail> {
         let layer = layer_of(rt.alloc(), &[&BESIDE, &SQUARE])?;
         let table = EdgeTable::make(rt.alloc(), &layer)?;
-        assert_eq!(rt; table.views().corner_count(), 7);
+        assert_eq!(rt; table.views::<Brand>().corner_count(), 7);
         expect_rows::<Brand>(&rt, &table, Blank::new(1));
 
         let floors = Floors::of(

@@ -13,16 +13,18 @@ use crate::table::EdgeTable;
 use loc_geom::laws::point_order;
 use loc_geom::{Point, Side, Steps, lower, side};
 use std::cmp::Ordering;
-use std::marker::Model;
+use std::marker::{Model, PhantomData};
 use std::sync::ledger::Ledger;
 
-/// A table shut off from its coordinates: a point is tested against an edge or a corner by number, and each test counts one step.
+/// A table shut off from its coordinates: a point is tested against an edge or a corner by number, and each test counts one step of the
+/// count `L`, and of no other.
 #[derive(Drop)]
-pub struct Views<'t> {
+pub struct Views<'t, L: Ledger> {
     table: &'t EdgeTable,
+    count: PhantomData<L>,
 }
 
-impl<'t> Model for Views<'t> {
+impl<'t, L: Ledger> Model for Views<'t, L> {
     ghost use Rattle.loc_spec_plane.specs.Tables.{Table};
 
     ghost Value = { Table };
@@ -31,15 +33,18 @@ impl<'t> Model for Views<'t> {
 }
 
 impl EdgeTable {
-    /// The table without its coordinates.
-    pub fn views(&self) -> Views<'_>
+    /// The table without its coordinates, for one count of steps.
+    pub fn views<L: Ledger>(&self) -> Views<'_, L>
         ensures { result ≡ self.now }
     {
-        Views { table: self }
+        Views {
+            table: self,
+            count: PhantomData,
+        }
     }
 }
 
-impl<'t> Views<'t> {
+impl<'t, L: Ledger> Views<'t, L> {
     /// What is true of every table, as a call that does no work: its rows stand in order, and it has few corners and edges.
     pub fn law(&self)
         ensures in_order { IsTable self.now }
@@ -65,7 +70,7 @@ impl<'t> Views<'t> {
     }
 
     /// The side of p against the line through an edge. It counts one step.
-    pub fn side<L: Ledger>(&self, edge: u32, p: Point, steps: &mut Steps<L>) -> Side
+    pub fn side(&self, edge: u32, p: Point, steps: &mut Steps<L>) -> Side
         requires in_range { edge < length self.now.ends }
         ensures value { IsSide (edge_of self.now edge) p result }
         ensures counted { steps.new ≡ steps.old + 1 }
@@ -75,7 +80,7 @@ impl<'t> Views<'t> {
     }
 
     /// How a corner stands to p in the order of points. It counts one step.
-    pub fn compare<L: Ledger>(&self, corner: u32, p: Point, steps: &mut Steps<L>) -> Ordering
+    pub fn compare(&self, corner: u32, p: Point, steps: &mut Steps<L>) -> Ordering
         requires in_range { corner < length self.now.corners }
         ensures value { MatchOrdering result (IsTrue (before (corner_of self.now corner) p)) (IsTrue (same_point (corner_of self.now corner) p)) (IsTrue (before p (corner_of self.now corner))) }
         ensures counted { steps.new ≡ steps.old + 1 }

@@ -16,7 +16,7 @@ pub enum Standing {
 }
 
 /// Where a point stands among the corners. Each turn leaves at most half of them to look at.
-pub fn search_corners<L: Ledger>(views: &Views<'_>, p: Point, steps: &mut Steps<L>) -> Standing
+pub fn search_corners<L: Ledger>(views: &Views<'_, L>, p: Point, steps: &mut Steps<L>) -> Standing
     ensures standing { IsStanding views.now p result }
     ensures counted { steps.old ≤ steps.new }
     ensures halving { 2 ^ (steps.new - steps.old) ≤ 2 * length views.now.corners + 1 }

@@ -34,7 +34,7 @@ pub trait Locator {
     /// What it finds for a point. Where it stands for the table, that is the place of the point, and never `Deep`. It counts its steps.
     fn locate<L: Ledger>(
         &self,
-        views: &Views<'_>,
+        views: &Views<'_, L>,
         p: Point,
         steps: &mut Steps<L>,
     ) -> Result<Place, Deep>

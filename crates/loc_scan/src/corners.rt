@@ -12,7 +12,7 @@ use std::sync::ledger::Ledger;
 
 // Where a point stands among the corners, by a look at each up to the first that it does not stand behind.
 pub(crate) fn among_corners<L: Ledger>(
-    views: &Views<'_>,
+    views: &Views<'_, L>,
     p: Point,
     steps: &mut Steps<L>,
 ) -> Standing

@@ -23,7 +23,7 @@ enum Look {
 
 // What a look at an edge shows, from the number of corners that the point has passed: only an alive edge is tested.
 fn look_at<L: Ledger>(
-    views: &Views<'_>,
+    views: &Views<'_, L>,
     edge: u32,
     p: Point,
     passed: u32,
@@ -48,7 +48,7 @@ fn look_at<L: Ledger>(
 }
 
 // The higher of two edges, or the second where there is no first.
-fn higher(views: &Views<'_>, highest: Option<u32>, edge: u32) -> u32
+fn higher<L: Ledger>(views: &Views<'_, L>, highest: Option<u32>, edge: u32) -> u32
     requires highest_in_range { IfSome highest (λ e. e < length views.now.ends) }
     requires in_range { edge < length views.now.ends }
     ensures { result ≡ higher_of views.now highest edge }
@@ -61,7 +61,7 @@ fn higher(views: &Views<'_>, highest: Option<u32>, edge: u32) -> u32
 
 // The place of a point that is no corner: the edge on which it lies, or else the highest of the alive edges that it is above.
 pub(crate) fn among_edges<L: Ledger>(
-    views: &Views<'_>,
+    views: &Views<'_, L>,
     p: Point,
     passed: u32,
     steps: &mut Steps<L>,

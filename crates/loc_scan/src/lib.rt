@@ -16,7 +16,7 @@ pub use vec_index::VecIndex;
 #[cfg(test)]
 mod tests {
     use super::*;
-    use loc_edges::{EdgeTable, Views};
+    use loc_edges::EdgeTable;
     use loc_geom::{Point, Steps};
     use loc_place::{Locator, Place};
     use loc_rings::{Feature, Layer, Rings};
@@ -141,22 +141,27 @@ mod tests {
     fn expect<I: Locator, L: Ledger>(
         rt: &impl Abort,
         index: &I,
-        views: &Views<'_>,
+        table: &EdgeTable,
         wanted: &[(i64, i64, Place)],
         blank: Blank,
     )
-        requires stands { I.stands index.now views.now }
+        requires stands { I.stands index.now table.now }
         requires name { blank.name ≡ L.name }
         requires parts { blank.parts ≡ L.parts }
         requires some { 0 < L.parts }
     {
+        let views = table.views::<L>();
         let mut steps = Steps::<L>::new(blank);
         for (x, y, place) in wanted.iter().copied() {
             let Some(p) = Point::new(x, y) else {
                 assert!(rt; false, "at {x} {y}");
                 return;
             };
-            assert_eq!(rt; index.locate(views, p, &mut steps), Ok(place), "at {x} {y}");
+            assert_eq!(rt;
+                index.locate(&views, p, &mut steps),
+                Ok(place),
+                "at {x} {y}"
+            );
         }
     }
 
@@ -168,10 +173,9 @@ mod tests {
             let Ok((index, _)) = sweep(rt.alloc(), &table, VecIndex::new(rt.alloc())) else {
                 return Err(Fail::new("edges that conflict"));
             };
-            let views = table.views();
-            views.law();
-            expect::<Scan, Brand>(&rt, &Scan, &views, wanted, Blank::new(1));
-            expect::<VecIndex, Brand>(&rt, &index, &views, wanted, Blank::new(1));
+            table.law();
+            expect::<Scan, Brand>(&rt, &Scan, &table, wanted, Blank::new(1));
+            expect::<VecIndex, Brand>(&rt, &index, &table, wanted, Blank::new(1));
         }
         Ok(())
     }

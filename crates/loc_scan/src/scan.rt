@@ -28,7 +28,7 @@ impl Locator for Scan {
 
     fn locate<L: Ledger>(
         &self,
-        views: &Views<'_>,
+        views: &Views<'_, L>,
         p: Point,
         steps: &mut Steps<L>,
     ) -> Result<Place, Deep> {

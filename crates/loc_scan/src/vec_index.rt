@@ -103,7 +103,7 @@ impl Locator for VecIndex {
 
     fn locate<L: Ledger>(
         &self,
-        views: &Views<'_>,
+        views: &Views<'_, L>,
         p: Point,
         steps: &mut Steps<L>,
     ) -> Result<Place, Deep> {

@@ -12,7 +12,7 @@ use std::sync::ledger::Ledger;
 // The place of a point that is no corner, from the list of the edges alive there: an edge of it on which the point lies, or else the last
 // one that has the point above it.
 pub(crate) fn search_list<L: Ledger>(
-    views: &Views<'_>,
+    views: &Views<'_, L>,
     list: &[u32],
     p: Point,
     steps: &mut Steps<L>,

@@ -125,7 +125,7 @@ fn expect<I: Locator, L: Ledger>(
     requires parts { blank.parts ≡ L.parts }
     requires some { 0 < L.parts }
 {
-    let views = table.views();
+    let views = table.views::<L>();
     let mut steps = Steps::<L>::new(blank);
     for (x, y, place) in wanted.iter().copied() {
         let Some(p) = Point::new(x, y) else {

@@ -106,7 +106,7 @@ impl Locator for TreeIndex {
     // The first five clauses are those of the trait; the last counts only the edges that are alive at the point.
     fn locate<L: Ledger>(
         &self,
-        views: &Views<'_>,
+        views: &Views<'_, L>,
         p: Point,
         steps: &mut Steps<L>,
     ) -> Result<Place, Deep>

@@ -19,7 +19,7 @@ use std::sync::ledger::Ledger;
 fn search_version<L: Ledger>(
     versions: &Versions,
     version: u32,
-    views: &Views<'_>,
+    views: &Views<'_, L>,
     p: Point,
     steps: &mut Steps<L>,
 ) -> Place
@@ -53,7 +53,7 @@ fn search_version<L: Ledger>(
 pub(crate) fn search_behind<L: Ledger>(
     versions: &Versions,
     passed: u32,
-    views: &Views<'_>,
+    views: &Views<'_, L>,
     p: Point,
     steps: &mut Steps<L>,
 ) -> Place
