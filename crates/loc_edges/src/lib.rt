@@ -204,7 +204,7 @@ mod tests {
         let corners = vec![in alloc; edge.lo(), edge.hi()]?;
         let marks = vec![in alloc; (0, BOTH[0]), (0, BOTH[1])]?;
         let table = EdgeTable::of_parts(alloc, corners, vec![in alloc; (0, 1)]?, marks)?;
-        let views = table.views();
+        let views = table.views::<Brand>();
         assert!(rt; views.corner_count() == 2 && table.edge_count() == 1);
         assert_eq!(rt; table.marks(0), BOTH);
         assert_eq!(rt; table.edge(0), edge);
