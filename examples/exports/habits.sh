@@ -10,6 +10,7 @@ form_forgotten|gdal|6 lines|layer line 1: tag|6 csv
 all_digits|gdal|6 csv|layer row 1: number 1 off grid|6 csv
 scale_too_large|gdal|15 csv|layer row 1: number 1 out of range|3 csv
 heights|gdal|13 csv|layer row 1: dimension|13 csv
+geometry_name|gdal|6 csv|read failed|6 csv
 curves|gdal|15 csv|layer row 1: tag|15 csv
 other_bytes|gdal|15 csv|layer row 61: id not UTF-8|15 csv
 slivers|gdal|15 csv|layer: edges .* cross|9 csv
@@ -59,6 +60,14 @@ cure_scale_too_large() { "$recipes/gdal" nybb.shp BoroName 3 "$1"; }
 
 habit_heights() { as_wkt "$1" nc.shp -dim XYZ; }
 cure_heights() { as_wkt "$1" nc.shp -dim XY; }
+
+from_geopackage() {
+    local column=$2
+    cp "$layers_of_sf/../gpkg/nc.gpkg" counties.gpkg
+    as_wkt "$1" counties.gpkg -dialect sqlite -sql "select SnapToGrid($column, 1e-6) as geometry, NAME as id from \"nc.gpkg\""
+}
+habit_geometry_name() { from_geopackage "$1" geometry; }
+cure_geometry_name() { from_geopackage "$1" geom; }
 
 of_curves() { as_wkt "$1" "$here/curve.csv" -oo GEOM_POSSIBLE_NAMES=wkt -oo KEEP_GEOM_COLUMNS=NO "${@:2}"; }
 habit_curves() { of_curves "$1"; }

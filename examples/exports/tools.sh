@@ -21,10 +21,10 @@ has() {
 version_of() {
     case $1 in
         gdal) ogr2ogr --version | cut -d, -f1 ;;
-        postgis) echo "PostGIS $(psql -qAtc "select extversion from pg_extension where extname = 'postgis'"), $(psql --version | cut -d' ' -f1-3)" ;;
+        postgis) psql -qAtc "select 'PostGIS ' || extversion || ', ' || split_part(version(), ' (', 1) from pg_extension where extname = 'postgis'" ;;
         spatialite) echo "SpatiaLite $(echo "select spatialite_version();" | spatialite -silent :memory: 2>/dev/null | tail -n 1)" ;;
-        geopandas) /usr/bin/python3 -c "import geopandas, shapely; print('geopandas', geopandas.__version__, 'shapely', shapely.__version__)" ;;
-        sf) Rscript -e "cat('sf', format(packageVersion('sf')), R.version.string)" 2>/dev/null && echo ;;
+        geopandas) /usr/bin/python3 -c "import geopandas, shapely; print(f'geopandas {geopandas.__version__}, shapely {shapely.__version__}')" ;;
+        sf) Rscript -e "cat('sf ', format(packageVersion('sf')), ', R ', format(getRversion()), '\\n', sep = '')" 2>/dev/null ;;
     esac
 }
 
