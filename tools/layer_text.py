@@ -191,6 +191,11 @@ def write_without(layer, left_out, path):
             writer.writerow(cut)
 
 
+def turn(a, b, p):
+    """Above 0 where p lies to the left of the way from a to b, 0 where in line with it."""
+    return (b[0] - a[0]) * (p[1] - a[1]) - (b[1] - a[1]) * (p[0] - a[0])
+
+
 def printed(value, scale):
     """A coordinate as `locate` prints it, with exactly `scale` decimals."""
     digits = str(abs(value)).rjust(scale + 1, "0")

@@ -8,7 +8,7 @@ no_geometry|gdal|6 csv|layer: no wkt column|6 csv
 semicolons|gdal|13 csv|layer: no wkt column|13 csv
 form_forgotten|gdal|6 lines|layer line 1: tag|6 csv
 all_digits|gdal|6 csv|layer row 1: number 1 off grid|6 csv
-scale_too_large|gdal|15 csv|layer row 1: number 1 out of range|3 csv
+scale_too_large|gdal|15 csv|layer row 1: number 1 out of range|9 csv
 heights|gdal|13 csv|layer row 1: dimension|13 csv
 geometry_name|gdal|6 csv|read failed|6 csv
 curves|gdal|15 csv|layer row 1: tag|15 csv
@@ -56,7 +56,7 @@ habit_all_digits() { as_wkt "$1" nc.shp; }
 cure_all_digits() { "$recipes/gdal" nc.shp NAME 6 "$1"; }
 
 habit_scale_too_large() { as_wkt "$1" nybb.shp; }
-cure_scale_too_large() { "$recipes/gdal" nybb.shp BoroName 3 "$1"; }
+cure_scale_too_large() { as_wkt "$1" nybb.shp; }
 
 habit_heights() { as_wkt "$1" nc.shp -dim XYZ; }
 cure_heights() { as_wkt "$1" nc.shp -dim XY; }
