@@ -1,17 +1,27 @@
 #!/usr/bin/env python3
-"""A plain reference, to compare the program with: reference.py LAYER POINTS prints the answers by whole numbers, from the texts alone.
+"""A plain reference, to compare the program with: reference.py LAYER POINTS [SCALE] prints the answers by whole numbers, from the texts alone.
 
-It reads lines POLYGON ((x y, ..)) and points x y, and takes the layer as free of conflicts.
+It reads lines POLYGON ((x y, ..)) and points x y, of numbers with at most SCALE decimals, and takes the layer as free of conflicts.
 """
 import re
 import sys
 
+NUMBER = r"[-+]?\d+(?:\.\d*)?"
+POINT = re.compile(rf"[ \t\r]*({NUMBER})[ \t\r]+({NUMBER})[ \t\r]*\n?")
 
-def read_layer(path):
+
+def whole(word, scale):
+    units, _, decimals = word.partition(".")
+    if len(decimals) > scale:
+        raise ValueError(f"{word} has more than {scale} decimals")
+    return int(units + decimals.ljust(scale, "0"))
+
+
+def read_layer(path, scale=0):
     features = []
     for number, line in enumerate(open(path), 1):
         if line.strip(" \t\r\n"):
-            values = [int(v) for v in re.findall(r"[-+]?\d+", line)]
+            values = [whole(word, scale) for word in re.findall(NUMBER, line)]
             features.append((number, list(zip(values[0::2], values[1::2]))))
     return features
 
@@ -37,18 +47,23 @@ def covers(ring, p):
     return inside
 
 
+def touching_and_covering(features, p):
+    on = [n for n, ring in features if any(lies_on(edge, p) for edge in segments(ring))]
+    return on, [n for n, ring in features if n not in on and covers(ring, p)]
+
+
 def main():
-    features = read_layer(sys.argv[1])
+    scale = int(sys.argv[3]) if len(sys.argv) > 3 else 0
+    features = read_layer(sys.argv[1], scale)
     edges = sorted({edge for _, ring in features for edge in segments(ring)})
     corners = sorted({p for edge in edges for p in edge})
     for line in open(sys.argv[2]):
-        found = re.fullmatch(r"[ \t\r]*([-+]?\d+)[ \t\r]+([-+]?\d+)[ \t\r]*\n?", line)
+        found = POINT.fullmatch(line)
         if not found:
             print("unread")
             continue
-        p = (int(found[1]), int(found[2]))
-        on = [n for n, ring in features if any(lies_on(edge, p) for edge in segments(ring))]
-        inside = [n for n, ring in features if n not in on and covers(ring, p)]
+        p = (whole(found[1], scale), whole(found[2], scale))
+        on, inside = touching_and_covering(features, p)
         words = ["face"]
         if p in corners:
             words = ["corner", str(corners.index(p)), "on"] + [f'"{n}"' for n in on]
@@ -57,4 +72,5 @@ def main():
         print(" ".join(words + ["in"] + [f'"{n}"' for n in inside]))
 
 
-main()
+if __name__ == "__main__":
+    main()

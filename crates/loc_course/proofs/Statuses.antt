@@ -1,5 +1,5 @@
 -- The status of a command, by what its told files come to.
-use Rattle.std.proofs.Common.{◌≡◌, ◌⊎◌, ℕ, ◌-◌, ◌^◌, ◌<◌, ◌≤◌, Bool, Option, Some, None, refl, sym, subst, inl, inr, arith}
+use Rattle.std.proofs.Common.{◌≡◌, ◌⊎◌, ℕ, ◌<◌, ◌≤◌, Bool, Option, Some, None, refl, sym, subst, inl, inr, arith}
 use Rattle.std.specs.Prelude.{IsTrue}
 use Rattle.loc_io.specs.Causes.{Rose}
 use Rattle.loc_io.specs.Streams.{Stream}
@@ -10,7 +10,7 @@ use Rattle.loc_course.specs.Outcomes.{Outcome, unknown, missing, refusal, output
 use Rattle.loc_course.specs.Sentences.{status_of, EndsSo, Ended, IsDoing, MayMake, NoneFailed, Noted, Notes, Sentences, Steady, Wrote}
 use Rattle.loc_course.proofs.Told.{ends_so}
 use Rattle.loc_course.proofs.Counted.{reads_fail, writes_fail, written_by, no_count_rose}
-use Rattle.loc_course.proofs.Grown.{kept, out_so}
+use Rattle.loc_course.proofs.Grown.{kept, kept_memory, kept_refused, out_so}
 use Rattle.loc_course.proofs.Along.{counts, files, in_times, names}
 
 module _ (before : Option Text) (new : Moment) (o : Outcome) where
@@ -115,7 +115,7 @@ sentences {c = c} {old = old} {new = new} {end = end} n n' follows noted =
       reads_fail = reads_fail follows;
       writes_fail = writes_fail follows;
       no_count_rose = no_count_rose follows;
-      out = record { grows = out_so follows; kept = kept follows };
+      out = record { grows = out_so follows; memory = kept_memory follows; refused = kept_refused n n' follows noted; kept = kept follows };
       names = names follows;
       files = files follows;
       steps = counts follows;

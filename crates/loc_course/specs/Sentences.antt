@@ -1,5 +1,5 @@
 -- What holds of every command that follows a course, in the words of its user.
-use Rattle.std.specs.Prelude.{◌≡◌, ◌≢◌, ◌⊎◌, ℕ, ◌+◌, ◌*◌, ◌-◌, ◌^◌, ◌<◌, ◌≤◌, Bool, [], ◌∷◌, ◌++◌, length, Option, Some, None, Result, IsTrue, ⊤, codes}
+use Rattle.std.specs.Prelude.{◌≡◌, ◌≢◌, ◌⊎◌, ℕ, ◌+◌, ◌*◌, ◌-◌, ◌^◌, ◌<◌, ◌≤◌, Bool, [], ◌∷◌, ◌++◌, length, Option, Some, None, Result, Err, IsTrue, ⊤, codes}
 use Rattle.std.specs.Io.KnownBytes.{Keeps, Appends}
 use Rattle.loc_io.specs.Causes.{Rose}
 use Rattle.loc_io.specs.Entries.{Entries}
@@ -152,10 +152,10 @@ pub record NoCountRose (old new : Moment) (status : ℕ) : Type 0 where
 abbrev pub OutSo : Outcome → Option Text → Option Text → Type 0
 OutSo unknown before now = ⊤
 OutSo missing before now = Keeps before now
-OutSo (refusal passes) before now = Keeps before now
+OutSo (refusal passes) before now = now ≡ before
 OutSo (output passes) before now = Keeps before now ⊎ ((text : Text) × IsTrue (passes text) × WroteFront before now text)
 OutSo (partly out line) before now = WroteFront before now out
-OutSo (file name passes) before now = Keeps before now
+OutSo (file name passes) before now = now ≡ before
 
 -- a course answers no lines: it writes at once
 abbrev pub AtOnce : Course → Type 0
@@ -166,9 +166,21 @@ AtOnce (answers s each answer) = ⊥
 AtOnce (writes passes) = ⊤
 AtOnce (makes name passes) = ⊤
 
--- Out has grown by no more than a front of what the told files come to. Where a course writes at once, nothing was written with status 1, 3 and 5.
-pub record OutGrows (c : Course) (old new : Moment) (status : ℕ) : Type 0 where
+-- a line by which a course may refuse a file whose lines it answers: the file is too long, or a line is refused
+abbrev pub MayRefuseBehind : Course → Text → Type 0
+MayRefuseBehind (refuses passes) line = ⊥
+MayRefuseBehind (reads s next) line = (text : Text) × MayRefuseBehind (next text) line
+MayRefuseBehind (searches k c) line = MayRefuseBehind c line
+MayRefuseBehind (answers s each answer) line = (line ≡ s.too_long) ⊎ ((asked : Text) × (answer asked ≡ Err line))
+MayRefuseBehind (writes passes) line = ⊥
+MayRefuseBehind (makes name passes) line = ⊥
+
+-- Out has grown by no more than a front of what the told files come to. Nothing was written with status 5, and with status 1 only where the line on
+-- notes refuses a file whose lines were answered. Where a course writes at once, nothing was written with status 1, 3 and 5.
+pub record OutGrows (c : Course) (old new : Moment) (n n' : Stream) (status : ℕ) : Type 0 where
   pub grows : OutSo (outcome old.shelf.told c) old.out.written new.out.written
+  pub memory : status ≡ 5 → new.out.written ≡ old.out.written
+  pub refused : status ≡ 1 → (new.out.written ≡ old.out.written) ⊎ ((line : Text) × MayRefuseBehind c line × Wrote n n' line)
   pub kept : AtOnce c → status ≢ 0 → status ≢ 4 → new.out.written ≡ old.out.written
 
 -- The entries that a course adds, by what is told of each name: of each source at most one, in order, and one behind another only where that
@@ -257,7 +269,7 @@ pub record Sentences (c : Course) (old new : Moment) (n n' : Stream) (status : �
   pub reads_fail : ReadsFail old new status
   pub writes_fail : WritesFail c old new status
   pub no_count_rose : NoCountRose old new status
-  pub out : OutGrows c old new status
+  pub out : OutGrows c old new n n' status
   pub names : Names c old new status
   pub files : Files c old new
   pub steps : Counts c old new

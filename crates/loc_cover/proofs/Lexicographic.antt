@@ -1,11 +1,11 @@
--- Lists of numbers in lexicographic order, and rising lists of any kind: where a new member goes, and what their sums are.
-use Rattle.std.proofs.Common.{◌≡◌, ℕ, zero, suc, ◌<◌, ◌≤◌, Bool, true, not, ◌&&◌, List, [], ◌∷◌, ◌++◌, length, get_or, take, drop, refl, sym, ◌∙◌, ap, subst, inl, inr, arith, Ordering, Less, Equal, Greater}
+-- Lists of numbers in lexicographic order, and rising lists of any kind, and what their sums are.
+use Rattle.std.proofs.Common.{◌≡◌, ℕ, ◌<◌, ◌≤◌, Bool, true, false, not, ◌&&◌, List, [], ◌∷◌, refl, sym, ◌∙◌, ap, subst, inl, inr, arith, Ordering, Less, Equal, Greater}
 use Rattle.std.specs.Prelude.{nat_lt, ◌==◌, sum_by}
 use Rattle.std.specs.List.{list_all, list_any}
 use Rattle.std.specs.Cmp.{nat_cmp_is}
 use Rattle.std.specs.Cmp.Lexicographic.{slice_cmp}
 use Rattle.std.specs.Ordering.{MatchOrdering, nat_cmp, ordering_then}
-use Rattle.std.proofs.lemmas.Bool.{and_parts, and_from, or_left, or_right, or_cases, both_ways, cases_Bool, cases_order, cond-true, cond-false, false_from_ne_true, true≢false, eq-eqb, eqb-true, lt-ltb, ltb-true}
+use Rattle.std.proofs.lemmas.Bool.{and_parts, and_from, or_left, or_right, or_cases, both_ways, cases_Bool, cases_order, cond-true, true≢false, eq-eqb, eqb-true, lt-ltb, ltb-true}
 use Rattle.std.proofs.lemmas.Cmp.{nat_list_cmp_total}
 use Rattle.std.proofs.lemmas.List.Sums.{sum_by-cons}
 use Rattle.loc_spec_plane.specs.Lists.{is_rising, sorted_set, with_member}
@@ -72,12 +72,9 @@ any_less p q (x ∷ xs) h = elim (or_cases (p x && q x) (list_any (λ x. p x && 
 ]
 
 -- where all members pass q, none fails it
-none_fails : {X : Type 0} (q : X → Bool) (xs : List X) → list_all q xs ≡ true → list_any (λ x. not (q x)) xs ≡ true → ⊥
-none_fails q [] all h = true≢false (sym h)
-none_fails q (x ∷ xs) all h = let parts = and_parts (q x) (list_all q xs) all in elim (or_cases (not (q x)) (list_any (λ x. not (q x)) xs) h) [
-  | inl here ↦ true≢false (sym here ∙ ap not parts.0)
-  | inr later ↦ none_fails q xs parts.1 later
-]
+pub none_fails : {X : Type 0} (q : X → Bool) (xs : List X) → list_all q xs ≡ true → list_any (λ x. not (q x)) xs ≡ false
+none_fails q [] all = refl
+none_fails q (x ∷ xs) all = let parts = and_parts (q x) (list_all q xs) all in cc (parts.0, none_fails q xs parts.1)
 
 module _ {X : Type 0} {R : X → X → Ordering} {comes_before : X → X → Bool} (order : IsOrderBy R comes_before) where
   -- coming before passes on
@@ -94,16 +91,6 @@ module _ {X : Type 0} {R : X → X → Ordering} {comes_before : X → X → Boo
       first : (x : X) (xs : List X) → list_all (comes_before x) xs ≡ true → with_member comes_before x xs ≡ x ∷ xs
       first x [] all = refl
       first x (y ∷ ys) all = cond-true _ _ _ (and_parts (comes_before x y) (list_all (comes_before x) ys) all).0
-
-  -- the place of a new member is behind those that come before it
-  pub with_member_at : (x d : X) (k : ℕ) (xs : List X) → ((j : ℕ) → j < k → j < length xs → comes_before (get_or xs j d) x ≡ true) → ((j : ℕ) → k ≤ j → j < length xs → comes_before x (get_or xs j d) ≡ true) → with_member comes_before x xs ≡ take k xs ++ x ∷ drop k xs
-  with_member_at x d zero [] before behind = refl
-  with_member_at x d (suc k) [] before behind = refl
-  with_member_at x d zero (y ∷ ys) before behind = cond-true _ _ _ (behind 0 (omega arith) (omega arith))
-  with_member_at x d (suc k) (y ∷ ys) before behind =
-      let first : comes_before y x ≡ true = before 0 (omega arith) (omega arith) in
-      cond-false _ _ _ (false_from_ne_true (comes_before x y) (λ h. order.asym x y h first)) ∙ (cond-true _ _ _ first
-      ∙ ap (λ zs. y ∷ zs) (with_member_at x d k ys (λ j lt fits. before (suc j) (omega arith) (omega arith)) (λ j le fits. behind (suc j) (omega arith) (omega arith))))
 
   -- what is within a rising list, and behind its first member, is within the rest
   within_rest : (y : X) (xs ys : List X) → list_all (comes_before y) xs ≡ true → IsWithin xs (y ∷ ys) → IsWithin xs ys
@@ -125,7 +112,7 @@ module _ {X : Type 0} {R : X → X → Ordering} {comes_before : X → X → Boo
         | inl first ↦ (let all : list_all (comes_before y) (x ∷ xs) ≡ true = and_from _ _ first (passes y x xs first parts_x.0) in
             let less = sum_within f (x ∷ xs) ys rx parts_y.1 (within_rest y (x ∷ xs) ys all within) in omega arith)
         | inr not_first ↦ elim (cases_Bool (comes_before x y)) [
-          | inl before ↦ absurd (none_fails (comes_before x) (y ∷ ys) (and_from _ _ before (passes x y ys before parts_y.0)) (within (λ z. not (comes_before x z)) (or_left _ _ (ap not (irrefl order x)))))
+          | inl before ↦ absurd (both_ways _ (none_fails (comes_before x) (y ∷ ys) (and_from _ _ before (passes x y ys before parts_y.0))) (within (λ z. not (comes_before x z)) (or_left _ _ (ap not (irrefl order x)))))
           | inr neither ↦ (let same : x ≡ y = same_from_neither order x y neither not_first in
               let less = sum_within f xs ys parts_x.1 parts_y.1 (within_rest y xs ys (subst (λ z. list_all (comes_before z) xs ≡ true) same parts_x.0) (λ p h. within p (or_right (p x) _ h))) in
               let eq : f x ≡ f y = ap f same in omega arith)

@@ -2,7 +2,7 @@
 use Rattle.std.proofs.Common.{◌≡◌, ℕ, ◌+◌, ◌<◌, ◌≤◌, Bool, true, false, ◌&&◌, ◌||◌, List, [], ◌∷◌, length, refl, sym, ◌∙◌, ap, subst, inl, inr, arith, Some, cond}
 use Rattle.std.specs.Prelude.{nat_lt, ◌==◌, count_by}
 use Rattle.std.specs.List.{list_all}
-use Rattle.std.proofs.lemmas.Bool.{and_parts, and_from, or_left, or_right, or_from, or_cases, both_ways, cases_Bool, cases_lt, cond-true, cond-false, true≢false, false_from_ne_true, not-true, eq-eqb, eqb-true, lt-ltb, le-ltb, ltb-true}
+use Rattle.std.proofs.lemmas.Bool.{and_parts, and_from, or_left, or_right, or_from, or_cases, both_ways, cases_lt, true≢false, false_from_ne_true, not-true, eq-eqb, eqb-true, lt-ltb, le-ltb, ltb-true}
 use Rattle.std.proofs.lemmas.List.Sums.{sum_by-cons}
 use Rattle.loc_spec_plane.specs.Lists.{is_in}
 use Rattle.loc_spec_plane.specs.Points.{before}
@@ -22,42 +22,32 @@ abbrev pub rank : Table → ℕ → ℕ
 rank t e = count_by (stands_before t e) (edge_numbers t)
 
 -- ---- counting
-count_cons : (p : ℕ → Bool) (x : ℕ) (xs : List ℕ) → ((p x ≡ true) → count_by p (x ∷ xs) ≡ 1 + count_by p xs) × ((p x ≡ false) → count_by p (x ∷ xs) ≡ count_by p xs)
-count_cons p x xs = (
-  λ h. sum_by-cons (λ y. cond (p y) 1 0) x xs ∙ ap (λ n. n + count_by p xs) (cond-true (p x) 1 0 h),
-  λ h. sum_by-cons (λ y. cond (p y) 1 0) x xs ∙ (let e : cond (p x) 1 0 + count_by p xs ≡ 0 + count_by p xs = ap (λ n. n + count_by p xs) (cond-false (p x) 1 0 h) in let z : 0 + count_by p xs ≡ count_by p xs = omega arith in e ∙ z),
-)
+-- one member more, of which the second test asks less
+count_step : (a b : Bool) (m n : ℕ) → (a ≡ true → b ≡ true) → m ≤ n → cond a 1 0 + m ≤ cond b 1 0 + n
+count_step true true m n less le = omega arith
+count_step true false m n less le = absurd (true≢false (sym (less refl)))
+count_step false true m n less le = omega arith
+count_step false false m n less le = omega arith
 
 count_more : (p q : ℕ → Bool) (n : ℕ) (xs : List ℕ) → list_all (λ k. nat_lt k n) xs ≡ true → ((x : ℕ) → x < n → p x ≡ true → q x ≡ true) → count_by p xs ≤ count_by q xs
 count_more p q n [] fits more = omega arith
 count_more p q n (x ∷ xs) fits more =
     let parts = and_parts (nat_lt x n) (list_all (λ k. nat_lt k n) xs) fits in
-    let rest = count_more p q n xs parts.1 more in
-    elim (cases_Bool (p x)) [
-      | inl passed ↦ (let a = (count_cons p x xs).0 passed in let b = (count_cons q x xs).0 (more x (ltb-true x n parts.0) passed) in omega arith)
-      | inr failed ↦ (let a = (count_cons p x xs).1 failed in elim (cases_Bool (q x)) [
-        | inl passed ↦ (let b = (count_cons q x xs).0 passed in omega arith)
-        | inr none ↦ (let b = (count_cons q x xs).1 none in omega arith)
-      ])
-    ]
+    let step = count_step (p x) (q x) (count_by p xs) (count_by q xs) (more x (ltb-true x n parts.0)) (count_more p q n xs parts.1 more) in
+    omega (arith, step, sum_by-cons (λ y. cond (p y) 1 0) x xs, sum_by-cons (λ y. cond (q y) 1 0) x xs)
 
 count_less : (p q : ℕ → Bool) (n d : ℕ) (xs : List ℕ) → list_all (λ k. nat_lt k n) xs ≡ true → ((x : ℕ) → x < n → p x ≡ true → q x ≡ true) → p d ≡ false → q d ≡ true → is_in d xs ≡ true → count_by p xs < count_by q xs
 count_less p q n d [] fits more failed passed here = absurd (true≢false (sym here))
 count_less p q n d (x ∷ xs) fits more failed passed here =
     let parts = and_parts (nat_lt x n) (list_all (λ k. nat_lt k n) xs) fits in
+    let old = sum_by-cons (λ y. cond (p y) 1 0) x xs in
+    let new = sum_by-cons (λ y. cond (q y) 1 0) x xs in
     elim (or_cases (x == d) (is_in d xs) here) [
       | inl same ↦ (let at : x ≡ d = eqb-true x d same in
-          let a = (count_cons p x xs).1 (subst (λ k. p k ≡ false) (sym at) failed) in
-          let b = (count_cons q x xs).0 (subst (λ k. q k ≡ true) (sym at) passed) in
-          let rest = count_more p q n xs parts.1 more in omega arith)
-      | inr later ↦ (let rest = count_less p q n d xs parts.1 more failed passed later in
-          elim (cases_Bool (p x)) [
-            | inl is ↦ (let a = (count_cons p x xs).0 is in let b = (count_cons q x xs).0 (more x (ltb-true x n parts.0) is) in omega arith)
-            | inr is_not ↦ (let a = (count_cons p x xs).1 is_not in elim (cases_Bool (q x)) [
-              | inl is ↦ (let b = (count_cons q x xs).0 is in omega arith)
-              | inr none ↦ (let b = (count_cons q x xs).1 none in omega arith)
-            ])
-          ])
+          let none : cond (p x) 1 0 ≡ 0 = ap (λ (b : Bool). cond {A = ℕ} b 1 0) (ap p at ∙ failed) in
+          let one : cond (q x) 1 0 ≡ 1 = ap (λ (b : Bool). cond {A = ℕ} b 1 0) (ap q at ∙ passed) in
+          let rest = count_more p q n xs parts.1 more in omega (arith, old, new, none, one, rest))
+      | inr later ↦ (let step = count_step (p x) (q x) (count_by p xs + 1) (count_by q xs) (more x (ltb-true x n parts.0)) (let rest = count_less p q n d xs parts.1 more failed passed later in omega (arith, rest)) in omega (arith, old, new, step))
     ]
 
 -- ---- the edge just below

@@ -1,11 +1,11 @@
 -- The rows of a legend are in order, and their numbers in range.
-use Rattle.std.proofs.Common.{◌≡◌, ℕ, ◌<◌, ◌≤◌, Bool, true, false, not, ◌&&◌, List, [], ◌∷◌, length, get_or, map, filter, refl, sym, ◌∙◌, ap, subst, inl, inr, arith, Option, Some, None}
+use Rattle.std.proofs.Common.{◌≡◌, ℕ, ◌<◌, ◌≤◌, Bool, true, not, ◌&&◌, List, [], ◌∷◌, length, get_or, map, filter, refl, sym, ◌∙◌, ap, subst, inl, inr, arith, Option, Some, None}
 use Rattle.std.specs.Prelude.{All, IfSome, nat_lt}
 use Rattle.std.specs.List.{list_all, list_any}
 use Rattle.std.proofs.lemmas.Bool.{and_parts, and_from, both_ways, cases_Bool, cases_lt, cond-true, cond-false, not_from_false, or_cases, ltb-true, true_from_ne_false}
 use Rattle.std.proofs.lemmas.List.{get_or_past, length-map}
 use Rattle.std.proofs.lemmas.List.FromFn.{length-range_with_len}
-use Rattle.std.proofs.lemmas.List.Folds.{list_any_at, list_all_at}
+use Rattle.std.proofs.lemmas.List.Folds.{list_any_at}
 use Rattle.std.proofs.lemmas.Option.{slice_get-get_or}
 use Rattle.loc_spec_plane.specs.Lists.{IsRisingListOf, is_rising, numbers, sorted_set}
 use Rattle.loc_spec_plane.specs.Points.{is_above}
@@ -13,29 +13,20 @@ use Rattle.loc_spec_plane.specs.Tables.{Table, corner, edge, edge_numbers, ends_
 use Rattle.loc_spec_plane.specs.Places.{alive, alive_at, is_edge, IsFloor}
 use Rattle.loc_spec_plane.specs.Covers.{cover_above, cover_lists, feature_count, is_over, list_before}
 use Rattle.loc_laws_order.proofs.ListLaws.{is_in-get}
-use Rattle.loc_laws_order.proofs.TableOrder.{numbers_within}
+use Rattle.loc_laws_order.proofs.TableOrder.{all_from, numbers_within}
 use Rattle.loc_laws_rays.proofs.Members.{feature_below}
 use Rattle.loc_edges.proofs.Counts.{length-sorted_set}
 use Rattle.loc_edges.proofs.SortedSet.{any-sorted_set, rising-sorted_set}
 use Rattle.loc_cover.specs.Legends.{AreLists, IsFew}
 use Rattle.loc_cover.specs.Numbered.{covers_of}
 use Rattle.loc_cover.proofs.Exchanging.{all_below}
-use Rattle.loc_cover.proofs.Lexicographic.{lists_by_before}
+use Rattle.loc_cover.proofs.Lexicographic.{lists_by_before, none_fails}
 use Rattle.loc_cover.proofs.Numbering.{above_rises}
 
 -- ---- the members of a list
--- what every member passes none fails
-none_fails : {X : Type 0} (q : X → Bool) (xs : List X) → list_all q xs ≡ true → list_any (λ x. not (q x)) xs ≡ false
-none_fails q [] h = refl
-none_fails q (x ∷ xs) h = let parts = and_parts (q x) (list_all q xs) h in cc (parts.0, none_fails q xs parts.1)
-
 -- the members of a sorted set pass what those of the list pass
 sorted_pass : (q : List ℕ → Bool) (xs : List (List ℕ)) → list_all q xs ≡ true → (k : ℕ) (d : List ℕ) → k < length (sorted_set list_before xs) → q (get_or (sorted_set list_before xs) k d) ≡ true
 sorted_pass q xs h k d fits = true_from_ne_false (q (get_or (sorted_set list_before xs) k d)) (λ fails. both_ways (list_any (λ x. not (q x)) (sorted_set list_before xs)) (any-sorted_set lists_by_before (λ x. not (q x)) xs ∙ none_fails q xs h) (list_any_at (λ x. not (q x)) (sorted_set list_before xs) k d fits (not_from_false (q (get_or (sorted_set list_before xs) k d)) fails)))
-
--- a member passes what every member passes
-all_at : (q : ℕ → Bool) (xs : List ℕ) → list_all q xs ≡ true → (k d : ℕ) → k < length xs → q (get_or xs k d) ≡ true
-all_at q xs h k d fits = true_from_ne_false (q (get_or xs k d)) (λ fails. both_ways (list_all q xs) (list_all_at q xs k d fits fails) h)
 
 all_kept : (q g : ℕ → Bool) (ns : List ℕ) → list_all q ns ≡ true → list_all q (filter g ns) ≡ true
 all_kept q g [] h = refl
@@ -55,7 +46,7 @@ module _ (t : Table) where
   -- their features are counted
   pub covers_named : (most : ℕ) → feature_count t ≤ most → All (All (λ f. f < most)) (cover_lists t)
   covers_named most le = λ k d fits i e inside. ltb-true (get_or (get_or (cover_lists t) k d) i e) most
-      (all_at (λ f. nat_lt f most) (get_or (cover_lists t) k d) (sorted_pass (list_all (λ f. nat_lt f most)) (covers_of t) (all_mapped (list_all (λ f. nat_lt f most)) (cover_above t) (edge_numbers t) (λ e. all_kept (λ f. nat_lt f most) (is_over t e) (numbers (feature_count t)) (all_below (feature_count t) most (numbers (feature_count t)) le (numbers_within (feature_count t))))) k d fits) i e inside)
+      (all_from (λ _ f. nat_lt f most) 0 e (get_or (cover_lists t) k d) i (sorted_pass (list_all (λ f. nat_lt f most)) (covers_of t) (all_mapped (list_all (λ f. nat_lt f most)) (cover_above t) (edge_numbers t) (λ e. all_kept (λ f. nat_lt f most) (is_over t e) (numbers (feature_count t)) (all_below (feature_count t) most (numbers (feature_count t)) le (numbers_within (feature_count t))))) k d fits) inside)
 
   -- and they are in order
   pub are_lists : IsFew t → AreLists (length t.ends) (cover_lists t)
@@ -81,11 +72,15 @@ module _ (t : Table) where
 pub named_by : (test : ℕ → Bool) (most : ℕ) (fs : List ℕ) → IsRisingListOf nat_lt test fs → ((f : ℕ) → test f ≡ true → f < most) → All (λ f. f < most) fs
 named_by test most fs are below = λ k d fits. below (get_or fs k d) (sym (are.exact (get_or fs k d)) ∙ is_in-get fs k (get_or fs k d) (slice_get-get_or fs k d fits))
 
--- rows of which each is so, and an empty row behind them
-pub each_row : (P : ℕ → List ℕ → Type 0) (rows : List (List ℕ)) (most : ℕ) → ((n : ℕ) (fs : List ℕ) → P n fs → All (λ f. f < most) fs) → ((n : ℕ) → n < length rows → P n (get_or rows n [])) → (n : ℕ) → All (λ f. f < most) (get_or rows n [])
-each_row P rows most named each n = elim (cases_lt n (length rows)) [
-  | inl fits ↦ named n (get_or rows n []) (each n fits)
-  | inr past ↦ subst (All (λ f. f < most)) (sym (get_or_past rows n [] past)) (λ k d fits. absurd (omega arith))
+-- an empty row has no feature at all
+pub none_named : (most : ℕ) → All (λ f. f < most) []
+none_named most k d fits = absurd (omega arith)
+
+-- what follows of each row, and is so of an empty row, is so of every row and behind them
+pub each_row : (P : ℕ → List ℕ → Type 0) (Q : List ℕ → Type 0) (rows : List (List ℕ)) → ((n : ℕ) (fs : List ℕ) → P n fs → Q fs) → Q [] → ((n : ℕ) → n < length rows → P n (get_or rows n [])) → (n : ℕ) → Q (get_or rows n [])
+each_row P Q rows follows none each n = elim (cases_lt n (length rows)) [
+  | inl fits ↦ follows n (get_or rows n []) (each n fits)
+  | inr past ↦ subst Q (sym (get_or_past rows n [] past)) none
 ]
 
 -- a floor is an edge

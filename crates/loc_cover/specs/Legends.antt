@@ -1,4 +1,4 @@
--- What a legend holds and says of a place: `LegendRows`, `covering` and `touching`; what every legend owes: `IsSound`; what it owes to a table: `FitsTable`, and `IsTrueLegend`; and when a table has none: `IsFew` and `IsRefused`.
+-- What a legend holds and says of a place: `LegendRows`, `covering` and `touching`; what every legend owes: `IsSound`; what it owes to a table: `FitsTable`, and `IsTrueLegend`; and when a table has none: `most_members`, `IsFew` and `IsRefused`.
 use Rattle.std.specs.Prelude.{◌≡◌, ℕ, ◌<◌, ◌≤◌, ◌^◌, nat_lt, List, [], length, get_or, filter, not, sum_by, All, Option, Some, None, IsTrue}
 use Rattle.loc_spec_plane.specs.Lists.{IsRisingListOf, is_in, is_rising}
 use Rattle.loc_spec_plane.specs.declared.Place.{Place}
@@ -43,12 +43,16 @@ touching rows (Area floor) = []
 abbrev pub AreNamed : LegendRows → List ℕ → Type 0
 AreNamed rows fs = All (λ f. f < length rows.ids) fs
 
+-- how many members the distinct cover lists may have together
+abbrev pub most_members : ℕ
+most_members = 16777216
+
 -- the lists rise, and so does each of them; there are no more of them than edges, and they have few members together
 pub record AreLists (edges : ℕ) (lists : List (List ℕ)) : Type 0 where
   pub rise : IsTrue (is_rising list_before lists)
   pub each_rises : (n : ℕ) → IsTrue (is_rising nat_lt (get_or lists n []))
   pub few : length lists ≤ edges
-  pub few_members : sum_by length lists ≤ 16777216
+  pub few_members : sum_by length lists ≤ most_members
 
 -- each number in the rows is that of another row or of an id, and the rows are few and in order
 pub record IsSound (rows : LegendRows) : Type 0 where
@@ -61,6 +65,8 @@ pub record IsSound (rows : LegendRows) : Type 0 where
   pub above_in_range : (e : ℕ) → e < length rows.above → get_or rows.above e 0 < length rows.lists
   pub corners_named : (c : ℕ) → AreNamed rows (get_or rows.on_corner c [])
   pub edges_named : (e : ℕ) → AreNamed rows (get_or rows.on_edge e [])
+  pub corners_rise : (c : ℕ) → IsTrue (is_rising nat_lt (get_or rows.on_corner c []))
+  pub edges_rise : (e : ℕ) → IsTrue (is_rising nat_lt (get_or rows.on_edge e []))
   pub lists_named : (n : ℕ) → AreNamed rows (get_or rows.lists n [])
 
 -- a legend is of a table: the features that touch its corners and edges are those of the marks; lists and floors may be those of no sweep
@@ -78,9 +84,9 @@ pub record IsTrueLegend (t : Table) (rows : LegendRows) : Type 0 where
 
 -- the distinct cover lists have at most so many members together
 abbrev pub IsFew : Table → Type 0
-IsFew t = cover_sum t ≤ 16777216
+IsFew t = cover_sum t ≤ most_members
 
 -- why a table has no legend; want of memory may come at any time
 abbrev pub IsRefused : Table → LegendFault → Type 0
-IsRefused t ManyCovers = 16777216 < cover_sum t
+IsRefused t ManyCovers = most_members < cover_sum t
 IsRefused t NoMemory = Unit {0}

@@ -1,14 +1,18 @@
--- The distinct lists that were found so far: `StoreRows`, `IsStore`, `IsGap`, `IsAt`, `GainsAtMost` and `IsPast`.
-use Rattle.std.specs.Prelude.{◌≡◌, ℕ, ◌<◌, ◌≤◌, nat_lt, List, [], ◌∷◌, ◌++◌, ◌⊎◌, length, get_or, map, sum_by, IsTrue}
-use Rattle.std.specs.List.{list_all}
+-- The distinct lists that were found so far: `StoreRows`, `IsStore`, `is_among`, `IsAt`, `GainsAtMost` and `IsPast`.
+use Rattle.std.specs.Prelude.{◌≡◌, ℕ, ◌<◌, ◌≤◌, nat_lt, Bool, List, [], ◌∷◌, ◌++◌, ◌⊎◌, length, get_or, map, sum_by, IsTrue}
+use Rattle.std.specs.List.{list_all, list_any}
+use Rattle.std.specs.Cmp.Lexicographic.{slice_cmp}
+use Rattle.std.specs.Ordering.{is_eq, nat_cmp}
 use Rattle.loc_spec_plane.specs.Lists.{is_in, is_rising, sorted_set}
 use Rattle.loc_spec_plane.specs.Covers.{list_before}
+use Rattle.loc_cover.specs.Legends.{most_members}
 use Rattle.loc_cover.specs.declared.fault.LegendFault.{LegendFault}
 use Rattle.loc_cover.specs.declared.fault.LegendFault.TheVariants.{ManyCovers, NoMemory}
 
--- lists by number, the numbers in the lexicographic order of their lists, and how many members the lists have together
+-- lists by number, the lists in lexicographic order, their numbers in that order, and how many members they have together
 pub record StoreRows : Type 0 where
   pub rows : List (List ℕ)
+  pub lists : List (List ℕ)
   pub order : List ℕ
   pub members : ℕ
 
@@ -23,17 +27,16 @@ lists_of s = lists_in s.rows s.order
 -- each list stands in one row, and the order names each row
 pub record IsStore (s : StoreRows) : Type 0 where
   pub rising : IsTrue (is_rising list_before (lists_of s))
+  pub named : s.lists ≡ lists_of s
   pub as_many : length s.order ≡ length s.rows
   pub within : IsTrue (list_all (λ n. nat_lt n (length s.rows)) s.order)
   pub placed : (n : ℕ) → n < length s.rows → IsTrue (is_in n s.order)
   pub counted : s.members ≡ sum_by length (lists_of s)
-  pub few : s.members ≤ 16777216
+  pub few : s.members ≤ most_members
 
--- the list belongs behind the first k of the lists
-pub record IsGap (lists : List (List ℕ)) (list : List ℕ) (k : ℕ) : Type 0 where
-  pub fits : k ≤ length lists
-  pub before : (j : ℕ) → j < k → j < length lists → IsTrue (list_before (get_or lists j []) list)
-  pub behind : (j : ℕ) → k ≤ j → j < length lists → IsTrue (list_before list (get_or lists j []))
+-- the list is one of the lists
+abbrev pub is_among : List ℕ → List (List ℕ) → Bool
+is_among list lists = list_any (λ other. is_eq (slice_cmp nat_cmp list other)) lists
 
 -- the list stands at place k of the lists
 pub record IsAt (lists : List (List ℕ)) (list : List ℕ) (k : ℕ) : Type 0 where
@@ -46,5 +49,5 @@ GainsAtMost list old new = (new ≡ old) ⊎ (new ≡ old ++ list ∷ [])
 
 -- these lists are too long together; want of memory may come at any time
 abbrev pub IsPast : List (List ℕ) → LegendFault → Type 0
-IsPast lists ManyCovers = 16777216 < sum_by length (sorted_set list_before lists)
+IsPast lists ManyCovers = most_members < sum_by length (sorted_set list_before lists)
 IsPast lists NoMemory = Unit {0}

@@ -10,6 +10,7 @@ ghost use Rattle.loc_cover.specs.Stores.{IsAt, IsStore};
 use crate::LegendFault;
 use crate::exchange::exchanged;
 use crate::store::Store;
+use bumpalo::Bump;
 use loc_edges::{EdgeTable, Rows};
 use std::alloc::{AllocError, Global};
 
@@ -64,7 +65,7 @@ fn path_down(
 // The list above an edge that may be missing: without an edge it is empty.
 fn list_under<'s>(
     table: &EdgeTable,
-    store: &'s Store,
+    store: &'s Store<'_>,
     numbers: &[Option<u32>],
     below: Option<u32>,
 ) -> &'s [u32]
@@ -83,7 +84,7 @@ fn list_under<'s>(
 fn list_above(
     alloc: Global,
     table: &EdgeTable,
-    store: &Store,
+    store: &Store<'_>,
     numbers: &[Option<u32>],
     below: Option<u32>,
     edge: u32,
@@ -104,7 +105,7 @@ fn list_above(
 fn number_edge(
     alloc: Global,
     table: &EdgeTable,
-    store: &mut Store,
+    store: &mut Store<'_>,
     numbers: &mut Vec<Option<u32>>,
     below: Option<u32>,
     edge: u32,
@@ -122,7 +123,7 @@ fn number_edge(
     ensures refused { IfErr result (IsRefused table.now) }
 {
     let list = list_above(alloc, table, store, numbers, below, edge)?;
-    let number = store.number_of(list)?;
+    let number = store.number_of(&list)?;
     numbers[edge as usize] = Some(number);
     Ok(())
 }
@@ -131,7 +132,7 @@ fn number_edge(
 fn number_down(
     alloc: Global,
     table: &EdgeTable,
-    store: &mut Store,
+    store: &mut Store<'_>,
     numbers: &mut Vec<Option<u32>>,
     below: &[Option<u32>],
     edge: u32,
@@ -155,11 +156,12 @@ fn number_down(
 }
 
 // Makes the lists above all edges.
-fn number_all(
+fn number_all<'a>(
     alloc: Global,
+    arena: &'a Bump,
     table: &EdgeTable,
     below: &[Option<u32>],
-) -> Result<(Store, Vec<Option<u32>>), LegendFault>
+) -> Result<(Store<'a>, Vec<Option<u32>>), LegendFault>
     requires even { IsEven table.now }
     requires below { AreBelow table.now below.now }
     ensures stands { IfOk result (λ made. IsStore made.0) }
@@ -168,7 +170,7 @@ fn number_all(
     ensures refused { IfErr result (IsRefused table.now) }
 {
     table.law();
-    let mut store = Store::new(alloc);
+    let mut store = Store::new(alloc, arena);
     let mut numbers = Vec::new(alloc);
     numbers.resize(table.edge_count() as usize, None)?;
     for edge in 0..table.edge_count() {
@@ -209,7 +211,8 @@ pub(crate) fn cover_rows(
     ensures few { IfOk result (λ _. IsFew table.now) }
     ensures refused { IfErr result (IsRefused table.now) }
 {
-    let (store, numbers) = number_all(alloc, table, below)?;
+    let arena = Bump::new(alloc);
+    let (store, numbers) = number_all(alloc, &arena, table, below)?;
     let lists = store.lists(alloc)?;
     let places = store.places(alloc)?;
     let above = above_of(alloc, &numbers, &places)?;

@@ -5,13 +5,13 @@ use Rattle.loc_course.specs.Outcomes.{exactly}
 use Rattle.loc_course.specs.Sentences.{IsPlain, SearchesNothing}
 use Rattle.loc_course.proofs.Plain.{plain_reads, plain_refuses, plain_writes}
 use Rattle.loc_maps.specs.Located.{counts_of}
-use Rattle.loc_maps.specs.MapCourses.{LayerFile, check_course, judged_course}
-use Rattle.loc_maps.proofs.Judged.{judged_all, layer_all}
+use Rattle.loc_maps.specs.MapCourses.{LayerFile, check_course, accepted_course}
+use Rattle.loc_maps.proofs.Judged.{accepted_all, layer_all}
 
 pub check_plain : (file : LayerFile) → IsPlain (check_course file)
-check_plain file = plain_reads _ _ (λ text. layer_all IsPlain plain_refuses file.form (layer_of file.form file.scale text) (λ l. judged_course file.scale l (writes (exactly (counts_of l))))
-    (λ l. judged_all IsPlain plain_refuses file.scale l (writes (exactly (counts_of l))) (plain_writes (exactly (counts_of l)))))
+check_plain file = plain_reads _ _ (λ text. layer_all IsPlain plain_refuses file.form (layer_of file.form file.scale text) (λ l. accepted_course file.scale l (writes (exactly (counts_of l))))
+    (λ l. accepted_all IsPlain plain_refuses file.scale l (writes (exactly (counts_of l))) (plain_writes (exactly (counts_of l)))))
 
 pub check_searches_nothing : (file : LayerFile) → SearchesNothing (check_course file)
-check_searches_nothing file text = layer_all SearchesNothing (λ passes. tt) file.form (layer_of file.form file.scale text) (λ l. judged_course file.scale l (writes (exactly (counts_of l))))
-    (λ l. judged_all SearchesNothing (λ passes. tt) file.scale l (writes (exactly (counts_of l))) tt)
+check_searches_nothing file text = layer_all SearchesNothing (λ passes. tt) file.form (layer_of file.form file.scale text) (λ l. accepted_course file.scale l (writes (exactly (counts_of l))))
+    (λ l. accepted_all SearchesNothing (λ passes. tt) file.scale l (writes (exactly (counts_of l))) tt)

@@ -9,5 +9,5 @@ mod plane;
 
 pub use checking::check;
 pub use laws::check_law;
-pub use maps::{judge, read_layer_file};
-pub use plane::Plane;
+pub use maps::read_layer_file;
+pub use plane::{Plane, judge};

@@ -1,4 +1,4 @@
-pub mod Outputs
 mod Examples
 pub mod Headlines
+pub mod LegendAnswers
 pub mod Rows

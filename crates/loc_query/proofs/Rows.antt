@@ -1,22 +1,31 @@
 -- The refusals of a query and its output, as rows: what the told files come to.
-use Rattle.std.proofs.Common.{◌≡◌, ◌<◌, ◌≤◌, List, length, Ok, Err, ◌∙◌, ap, arith, true, false, codes}
+use Rattle.std.proofs.Common.{◌≡◌, ◌<◌, ◌≤◌, List, [], ◌∷◌, ◌++◌, length, map, take, None, Ok, Err, refl, ◌∙◌, ap, arith, true, codes}
 use Rattle.std.specs.Prelude.{nat_lt}
+use Rattle.std.specs.List.{flat_map}
 use Rattle.std.proofs.lemmas.Bool.{cond-true, cond-false, false_from_ne_true}
 use Rattle.std.proofs.lemmas.Bool.Decides.{Decides-ltb}
 use Rattle.loc_io.specs.Meaning.{Told, holds}
+use Rattle.loc_spec_plane.specs.Covers.{cover_sum}
+use Rattle.loc_spec_plane.specs.declared.Index.{Index}
+use Rattle.loc_spec_text.specs.Answered.{Answered, answered, with_answer}
+use Rattle.loc_spec_text.specs.Bytes.{ended_lines, lines}
 use Rattle.loc_spec_text.specs.Points.{ended}
 use Rattle.loc_rings.specs.Values.{Feature}
 use Rattle.loc_csvform.specs.Layer.{LayerRead, layer_of}
 use Rattle.loc_csvform.specs.declared.faults.LayerFault.{LayerFault}
 use Rattle.loc_edges.specs.Conflicts.{has_conflict}
 use Rattle.loc_course.specs.Courses.{Text, Source, refuses}
-use Rattle.loc_course.specs.Outcomes.{Outcome, refusal, output, by_text, exactly, outcome}
+use Rattle.loc_course.specs.Outcomes.{Outcome, refusal, output, partly, by_text, by_lines, by_refusal, exactly, outcome}
 use Rattle.loc_course.specs.Stops.{source}
-use Rattle.loc_maps.specs.Conflicts.{names_conflict}
+use Rattle.loc_course.specs.Streams.{Answering, answered_long, out_of}
+use Rattle.loc_course.proofs.Streamed.{of_whole}
+use Rattle.loc_maps.specs.Conflicts.{Accepts, names_conflict}
 use Rattle.loc_maps.specs.LineTexts.{layer_fault_text}
-use Rattle.loc_maps.specs.Located.{edges_of}
-use Rattle.loc_maps.specs.MapCourses.{LayerFile, judged_course, layer_in, limit}
-use Rattle.loc_query.specs.Answered.{output_of}
+use Rattle.loc_maps.specs.Located.{edges_of, table_in}
+use Rattle.loc_maps.specs.MapCourses.{LayerFile, accepted_course, covers_course, layer_in, limit}
+use Rattle.loc_maps.specs.Maps.{has_many_covers}
+use Rattle.loc_maps.proofs.Judged.{on_apart, on_few_covers}
+use Rattle.loc_query.specs.Answered.{answer_line, output_of, output_within}
 use Rattle.loc_query.specs.QueryCourses.{points_course, query_course}
 
 long : (s : Source) (o : Text → Outcome) (told : Told) (text : Text) → told ≡ holds text → s.limit < length text → by_text s o told ≡ refusal (exactly s.too_long)
@@ -26,9 +35,21 @@ short : (s : Source) (o : Text → Outcome) (told : Told) (text : Text) → told
 short s o told text is few = ap (by_text s o) is
     ∙ cond-false (nat_lt s.limit (length text)) (refusal (exactly s.too_long)) (o text) (false_from_ne_true (nat_lt s.limit (length text)) (λ e. omega (arith, (Decides-ltb s.limit (length text)).0 e, few)))
 
-module _ (told : Text → Told) (file : LayerFile) (points layer : Text) (is : told file.name ≡ holds layer) where
+-- where no line is refused, each is answered
+abbrev all_of : (Text → Text) → List Text → Answered Text Text
+all_of f ls = record { answers = map f ls; refusal = None }
+
+all_answered : (f : Text → Text) (ls : List Text) → answered {R = Text} (λ line. Ok (f line)) ls ≡ all_of f ls
+all_answered f [] = refl
+all_answered f (line ∷ ls) = ap (with_answer (Ok (f line))) (all_answered f ls)
+
+joined : (f : Text → Text) (ls : List Text) → flat_map (λ line. line) (map f ls) ≡ flat_map f ls
+joined f [] = refl
+joined f (line ∷ ls) = ap (λ text. f line ++ text) (joined f ls)
+
+module _ (told : Text → Told) (index : Index) (file : LayerFile) (points layer : Text) (is : told file.name ≡ holds layer) where
   abbrev behind : LayerRead → Outcome
-  behind r = outcome told (layer_in file.form r (λ l. judged_course file.scale l (points_course file.scale points l)))
+  behind r = outcome told (layer_in file.form r (λ l. accepted_course file.scale l (points_course index file.scale points l)))
 
   abbrev by_layer : Text → Outcome
   by_layer text = behind (layer_of file.form file.scale text)
@@ -39,30 +60,45 @@ module _ (told : Text → Told) (file : LayerFile) (points layer : Text) (is : t
   abbrev of_points : Source
   of_points = source points limit (ended (codes "points: too long"))
 
-  abbrev by_points : List Feature → Text → Outcome
-  by_points features text = output (exactly (output_of file.scale features text))
+  abbrev answering : List Feature → Answering
+  answering features line = Ok (answer_line file.scale features line)
 
-  pub layer_long : limit < length layer → outcome told (query_course file points) ≡ refusal (exactly (ended (codes "layer: too long")))
+  pub layer_long : limit < length layer → outcome told (query_course index file points) ≡ refusal (exactly (ended (codes "layer: too long")))
   layer_long more = long of_layer by_layer (told file.name) layer is more
 
-  read : length layer ≤ limit → (r : LayerRead) → layer_of file.form file.scale layer ≡ r → outcome told (query_course file points) ≡ behind r
+  read : length layer ≤ limit → (r : LayerRead) → layer_of file.form file.scale layer ≡ r → outcome told (query_course index file points) ≡ behind r
   read few r reads = short of_layer by_layer (told file.name) layer is few ∙ ap behind reads
 
-  pub layer_line : (fault : LayerFault) → length layer ≤ limit → layer_of file.form file.scale layer ≡ Err fault → outcome told (query_course file points) ≡ refusal (exactly (ended (layer_fault_text file.form fault)))
+  pub layer_line : (fault : LayerFault) → length layer ≤ limit → layer_of file.form file.scale layer ≡ Err fault → outcome told (query_course index file points) ≡ refusal (exactly (ended (layer_fault_text file.form fault)))
   layer_line fault few reads = read few (Err fault) reads
 
-  pub conflict : (features : List Feature) → length layer ≤ limit → layer_of file.form file.scale layer ≡ Ok features → has_conflict (edges_of features) ≡ true
-      → outcome told (query_course file points) ≡ refusal (names_conflict file.scale (edges_of features))
-  conflict features few reads has = read few (Ok features) reads ∙ ap (outcome told) (cond-true (has_conflict (edges_of features)) (refuses (names_conflict file.scale (edges_of features))) (points_course file.scale points features) has)
+  module _ (features : List Feature) (few : length layer ≤ limit) (reads : layer_of file.form file.scale layer ≡ Ok features) where
+    pub conflict : has_conflict (edges_of features) ≡ true → outcome told (query_course index file points) ≡ refusal (names_conflict file.scale (edges_of features))
+    conflict has = read few (Ok features) reads
+        ∙ ap (outcome told) (cond-true (has_conflict (edges_of features)) (refuses (names_conflict file.scale (edges_of features))) (covers_course (table_in features) (points_course index file.scale points features)) has)
 
-  accepted : (features : List Feature) → length layer ≤ limit → layer_of file.form file.scale layer ≡ Ok features → has_conflict (edges_of features) ≡ false
-      → outcome told (query_course file points) ≡ outcome told (points_course file.scale points features)
-  accepted features few reads none = read few (Ok features) reads ∙ ap (outcome told) (cond-false (has_conflict (edges_of features)) (refuses (names_conflict file.scale (edges_of features))) (points_course file.scale points features) none)
+    pub covers : Accepts features → 16777216 < cover_sum (table_in features) → outcome told (query_course index file points) ≡ refusal (exactly (ended (codes "layer: covers past 16777216")))
+    covers apart many = read few (Ok features) reads
+        ∙ (ap (outcome told) (on_apart file.scale (edges_of features) (covers_course (table_in features) (points_course index file.scale points features)) apart)
+        ∙ ap (outcome told) (cond-true (has_many_covers (table_in features)) (refuses (exactly (ended (codes "layer: covers past 16777216")))) (points_course index file.scale points features) ((Decides-ltb 16777216 (cover_sum (table_in features))).1 many)))
 
-  pub points_long : (features : List Feature) (text : Text) → length layer ≤ limit → layer_of file.form file.scale layer ≡ Ok features → has_conflict (edges_of features) ≡ false → told points ≡ holds text → limit < length text
-      → outcome told (query_course file points) ≡ refusal (exactly (ended (codes "points: too long")))
-  points_long features text few reads none also more = accepted features few reads none ∙ long of_points (by_points features) (told points) text also more
+    accepted : Accepts features → cover_sum (table_in features) ≤ 16777216 → outcome told (query_course index file points) ≡ by_lines of_points (answering features) (told points)
+    accepted apart few_covers = read few (Ok features) reads
+        ∙ (ap (outcome told) (on_apart file.scale (edges_of features) (covers_course (table_in features) (points_course index file.scale points features)) apart)
+        ∙ ap (outcome told) (on_few_covers (table_in features) (points_course index file.scale points features) few_covers))
 
-  pub answered : (features : List Feature) (text : Text) → length layer ≤ limit → layer_of file.form file.scale layer ≡ Ok features → has_conflict (edges_of features) ≡ false → told points ≡ holds text → length text ≤ limit
-      → outcome told (query_course file points) ≡ output (exactly (output_of file.scale features text))
-  answered features text few reads none also less = accepted features few reads none ∙ short of_points (by_points features) (told points) text also less
+    module _ (apart : Accepts features) (few_covers : cover_sum (table_in features) ≤ 16777216) (text : Text) (also : told points ≡ holds text) where
+      pub points_long : limit < length text → outcome told (query_course index file points) ≡ partly (output_within limit file.scale features text) (ended (codes "points: too long"))
+      points_long more =
+          let first = ended_lines (take limit text) in
+          let is_long = cond-true (nat_lt limit (length text)) (answered_long of_points.too_long (answered (answering features) first)) (answered (answering features) (lines text)) ((Decides-ltb limit (length text)).1 more) in
+          accepted apart few_covers ∙ (ap (by_lines of_points (answering features)) also
+          ∙ (ap (λ (a : Answered Text Text). by_refusal (out_of a) a.refusal) (is_long ∙ ap (answered_long of_points.too_long) (all_answered (answer_line file.scale features) first))
+          ∙ ap (λ out. partly out of_points.too_long) (joined (answer_line file.scale features) first)))
+
+      pub answered_all : length text ≤ limit → outcome told (query_course index file points) ≡ output (exactly (output_of file.scale features text))
+      unfolding output_of
+      answered_all less =
+          accepted apart few_covers ∙ (ap (by_lines of_points (answering features)) also
+          ∙ (ap (λ (a : Answered Text Text). by_refusal (out_of a) a.refusal) (of_whole of_points (answering features) text less ∙ all_answered (answer_line file.scale features) (lines text))
+          ∙ ap (λ out. output (exactly out)) (joined (answer_line file.scale features) (lines text))))

@@ -3,6 +3,8 @@ use Rattle.std.specs.Prelude.{◌≡◌, ◌⊎◌, ℕ, ◌+◌, ◌*◌, ◌<�
 use Rattle.std.specs.Io.KnownBytes.{Appends}
 use Rattle.loc_io.specs.Streams.{Stream}
 use Rattle.loc_io.specs.Meaning.{holds}
+use Rattle.loc_spec_plane.specs.Covers.{cover_sum}
+use Rattle.loc_spec_plane.specs.declared.Index.{Index}
 use Rattle.loc_spec_text.specs.Bytes.{lines}
 use Rattle.loc_spec_text.specs.Points.{ended}
 use Rattle.loc_rings.specs.Values.{Feature}
@@ -14,23 +16,25 @@ use Rattle.loc_course.specs.Moments.{Moment}
 use Rattle.loc_course.specs.Sentences.{Steady, Wrote}
 use Rattle.loc_maps.specs.Conflicts.{Accepts, names_conflict}
 use Rattle.loc_maps.specs.LineTexts.{layer_fault_text}
-use Rattle.loc_maps.specs.Located.{edges_of, steps_of}
+use Rattle.loc_maps.specs.Located.{edges_of, table_in}
 use Rattle.loc_maps.specs.MapCourses.{LayerFile, limit}
-use Rattle.loc_query.specs.Answered.{output_of}
+use Rattle.loc_query.specs.Answered.{output_of, output_within}
+use Rattle.loc_query.specs.QueryCourses.{steps_by}
 
--- the text is within the limit and reads as a layer of these features, and no two of its edges conflict
+-- the text is within the limit and reads as a layer of these features, no two of its edges conflict, and its cover lists are few
 pub record IsAccepted (file : LayerFile) (layer : Text) (features : List Feature) : Type 0 where
   pub within : length layer ≤ limit
   pub reads : layer_of file.form file.scale layer ≡ Ok features
   pub apart : Accepts features
+  pub few_covers : cover_sum (table_in features) ≤ 16777216
 
 -- the steps of an answer at most, where the layer reads
-abbrev pub steps_in : LayerRead → ℕ
-steps_in (Ok features) = steps_of features
-steps_in (Err fault) = 0
+abbrev pub steps_in : Index → LayerRead → ℕ
+steps_in index (Ok features) = steps_by index (table_in features)
+steps_in index (Err fault) = 0
 
 -- The texts of the layer and of the points are those told of their files. An answer may want memory: the status is 5 then, and nothing is on out.
-pub record Headline (file : LayerFile) (points : Text) (old new : Moment) (n n' : Stream) (status : ℕ) : Type 0 where
+pub record Headline (index : Index) (file : LayerFile) (points : Text) (old new : Moment) (n n' : Stream) (status : ℕ) : Type 0 where
   -- With status 0 the layer is accepted, the points are within the limit, and out has grown by exactly the defined answers.
   pub done : (layer text : Text) → old.shelf.told file.name ≡ holds layer → old.shelf.told points ≡ holds text → status ≡ 0
       → (features : List Feature) × IsAccepted file layer features × (length text ≤ limit) × Appends old.out.written new.out.written (output_of file.scale features text)
@@ -48,10 +52,14 @@ pub record Headline (file : LayerFile) (points : Text) (old new : Moment) (n n' 
   pub conflict : (layer : Text) (features : List Feature) → old.shelf.told file.name ≡ holds layer → length layer ≤ limit → layer_of file.form file.scale layer ≡ Ok features
       → IsTrue (has_conflict (edges_of features)) → Steady old.shelf.read_faults new.shelf.read_faults
       → ((status ≡ 1) × (new.out.written ≡ old.out.written) × (line : Text) × IsTrue (names_conflict file.scale (edges_of features) line) × Wrote n n' line) ⊎ ((status ≡ 5) × (new.out.written ≡ old.out.written))
-  -- or the layer is accepted and the points are too long.
+  -- or its distinct cover lists have too many members together,
+  pub covers : (layer : Text) (features : List Feature) → old.shelf.told file.name ≡ holds layer → length layer ≤ limit → layer_of file.form file.scale layer ≡ Ok features
+      → Accepts features → 16777216 < cover_sum (table_in features) → Steady old.shelf.read_faults new.shelf.read_faults
+      → ((status ≡ 1) × (new.out.written ≡ old.out.written) × Wrote n n' (ended (codes "layer: covers past 16777216"))) ⊎ ((status ≡ 5) × (new.out.written ≡ old.out.written))
+  -- or the layer is accepted and the points are too long: then the lines that end within the limit are answered, unless a write failed.
   pub points_long : (layer text : Text) (features : List Feature) → old.shelf.told file.name ≡ holds layer → old.shelf.told points ≡ holds text
-      → IsAccepted file layer features → limit < length text → Steady old.shelf.read_faults new.shelf.read_faults
-      → ((status ≡ 1) × (new.out.written ≡ old.out.written) × Wrote n n' (ended (codes "points: too long"))) ⊎ ((status ≡ 5) × (new.out.written ≡ old.out.written))
-  -- At most one step was counted for each corner and each edge of the layer, for each line of the points.
+      → IsAccepted file layer features → limit < length text → Steady old.shelf.read_faults new.shelf.read_faults → Steady old.out.faults new.out.faults
+      → ((status ≡ 1) × Appends old.out.written new.out.written (output_within limit file.scale features text) × Wrote n n' (ended (codes "points: too long"))) ⊎ ((status ≡ 5) × (new.out.written ≡ old.out.written))
+  -- So many steps were counted at most for each line of the points.
   pub steps : (layer text : Text) → old.shelf.told file.name ≡ holds layer → old.shelf.told points ≡ holds text
-      → new.steps ≤ old.steps + length (lines text) * steps_in (layer_of file.form file.scale layer)
+      → new.steps ≤ old.steps + length (lines text) * steps_in index (layer_of file.form file.scale layer)

@@ -1,4 +1,3 @@
 pub mod Answered
-pub mod Fronts
 pub mod Headline
 pub mod QueryCourses

@@ -29,7 +29,7 @@ type Row = (
     &'static [u8],
 );
 
-const ROWS: [Row; 28] = [
+const ROWS: [Row; 29] = [
     (SQUARE, POINTS, "0", 0, ANSWERS, b""),
     (
         b"POLYGON((0 0,2 -2,4 0,2 2,0 0))",
@@ -226,10 +226,18 @@ const ROWS: [Row; 28] = [
         b"",
         b"layer line 1: ring 1 short\n",
     ),
+    (
+        b"POLYGON ((0 0, 40 0, 40 40, 0 40, 0 0), (10 10, 10 30, 30 30, 30 10, 10 10))\nPOLYGON ((10 10, 30 10, 30 30, 10 30, 10 10))\n",
+        b"20 20\n10 20\n",
+        "0",
+        0,
+        b"face in \"2\"\nborder 3 on \"1\" \"2\" in\n",
+        b"",
+    ),
 ];
 
 const USAGE: &[u8] =
-    b"usage: locate query LAYER POINTS --scale K [--form lines|csv]\n       locate check LAYER --scale K [--form lines|csv]\n";
+    b"usage: locate query LAYER POINTS --scale K [--form lines|csv] [--index scan|tree]\n       locate check LAYER --scale K [--form lines|csv]\n";
 
 // Words that are no command.
 const REFUSED: [[&str; 5]; 6] = [
@@ -315,7 +323,7 @@ const FAILING: [(&[u8], u64, u64, u64, u8, &[u8], &[u8]); 14] = [
     (SQUARE, 3, 0, 0, 3, b"", b"read failed\n"),
     (SQUARE, 4, 0, 0, 3, b"", b"read failed\n"),
     (SQUARE, 5, 0, 0, 3, b"", b"read failed\n"),
-    (SQUARE, 6, 0, 0, 3, b"", b"read failed\n"),
+    (SQUARE, 6, 0, 0, 3, ANSWERS, b"read failed\n"),
     (SQUARE, 7, 0, 0, 0, ANSWERS, b""),
     (SQUARE, 0, 1, 0, 4, b"", b"write failed\n"),
     (SQUARE, 0, 1, 1, 4, b"", b""),
@@ -401,12 +409,16 @@ fn outcome_of(
 fn worked_layers(rt: HostRuntime) -> Result<(), Fail> {
     let alloc = rt.alloc();
     for (layer, points, scale, status, out, notes) in ROWS {
-        let shelf = shelf_of(alloc, layer, points, 0)?;
-        let words = ["query", "layer", "points", "--scale", scale];
-        let outcome = outcome_of(alloc, &words, shelf, 0, 0)?;
-        assert_eq!(rt; outcome.status, status);
-        assert_eq!(rt; outcome.out.bytes(), out);
-        assert_eq!(rt; outcome.notes.bytes(), notes);
+        for index in ["scan", "tree"] {
+            let shelf = shelf_of(alloc, layer, points, 0)?;
+            let words = [
+                "query", "layer", "points", "--scale", scale, "--index", index,
+            ];
+            let outcome = outcome_of(alloc, &words, shelf, 0, 0)?;
+            assert_eq!(rt; outcome.status, status);
+            assert_eq!(rt; outcome.out.bytes(), out);
+            assert_eq!(rt; outcome.notes.bytes(), notes);
+        }
     }
     Ok(())
 }
@@ -471,6 +483,37 @@ fn commands(rt: HostRuntime) -> Result<(), Fail> {
         assert_eq!(rt; outcome.status, status);
         assert_eq!(rt; outcome.out.bytes(), out);
         assert_eq!(rt; outcome.notes.bytes(), notes);
+    }
+    Ok(())
+}
+
+// Squares one in another, each a line.
+fn nested(alloc: Global, count: u32) -> Result<String, Fail> {
+    let mut text = String::new(alloc);
+    for i in 0..count.min(10_000) {
+        let far = 4 * count.min(10_000) - i;
+        writeln!(
+            text,
+            "POLYGON (({i} {i}, {far} {i}, {far} {far}, {i} {far}, {i} {i}))"
+        )?;
+    }
+    Ok(text)
+}
+
+#[test]
+fn cover_lists(rt: HostRuntime) -> Result<(), Fail> {
+    let alloc = rt.alloc();
+    for (count, status, notes) in [(5792, 0, ""), (5793, 1, "layer: covers past 16777216\n")] {
+        let shelf = shelf_of(alloc, nested(alloc, count)?.as_bytes(), b"0 0\n", 0)?;
+        let outcome = outcome_of(
+            alloc,
+            &["query", "layer", "points", "--scale", "0"],
+            shelf,
+            0,
+            0,
+        )?;
+        assert_eq!(rt; outcome.status, status);
+        assert_eq!(rt; outcome.notes.bytes(), notes.as_bytes());
     }
     Ok(())
 }

@@ -10,7 +10,7 @@ use crate::versions::search_list;
 use loc_edges::{Ranks, Views};
 use loc_geom::{Point, Steps};
 use loc_place::{Deep, Locator, Place, Standing, search_corners};
-use loc_status::{InsertFault, Status, VecStatus};
+use loc_status::{Beside, InsertFault, Status, VecStatus};
 use std::alloc::{AllocError, Global};
 use std::marker::Model;
 use std::sync::ledger::Ledger;
@@ -60,20 +60,12 @@ impl VecIndex {
 impl Status for VecIndex {
     ghost meaning = { meaning_of };
 
-    fn insert(&mut self, ranks: &Ranks<'_>, edge: u32) -> Result<(), InsertFault> {
+    fn insert(&mut self, ranks: &Ranks<'_>, edge: u32) -> Result<Beside, InsertFault> {
         self.status.insert(ranks, edge)
     }
 
-    fn remove(&mut self, ranks: &Ranks<'_>, edge: u32) -> Result<(), AllocError> {
+    fn remove(&mut self, ranks: &Ranks<'_>, edge: u32) -> Result<Beside, AllocError> {
         self.status.remove(ranks, edge)
-    }
-
-    fn below(&self, ranks: &Ranks<'_>, edge: u32) -> Option<u32> {
-        self.status.below(ranks, edge)
-    }
-
-    fn above(&self, ranks: &Ranks<'_>, edge: u32) -> Option<u32> {
-        self.status.above(ranks, edge)
     }
 
     fn floor(&self, ranks: &Ranks<'_>, corner: u32) -> Option<u32> {

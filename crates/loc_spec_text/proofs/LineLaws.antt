@@ -1,5 +1,5 @@
 -- Laws of lines: of a text that is cut at an LF, and of a text that comes in pieces.
-use Rattle.std.proofs.Common.{◌≡◌, ◌≢◌, ℕ, List, [], ◌∷◌, ◌++◌, Bool, true, false, refl, sym, ◌∙◌, ap, ap₂}
+use Rattle.std.proofs.Common.{◌≡◌, ◌≢◌, ℕ, ◌≤◌, List, [], ◌∷◌, ◌++◌, length, Bool, true, false, refl, sym, ◌∙◌, ap, ap₂, arith}
 use Rattle.std.specs.Prelude.{◌==◌, if◌then◌else◌}
 use Rattle.std.specs.List.{onto_first, AllByRecursion}
 use Rattle.loc_spec_text.specs.Bytes.{lines, split_lines, onto_split, ended_lines, unfinished}
@@ -79,3 +79,18 @@ lines-append (x ∷ a) b = go (x == 10) (lines (a ++ 10 ∷ [])) refl (lines-app
     go true front e h = ap (λ ls. [] ∷ ls) h
     go false [] e h = absurd (nonempty a e)
     go false (l ∷ ls) e h = ap (onto_first x) h
+
+onto_first-more : (b : ℕ) (front all : List (List ℕ)) → length front ≤ length all → length (onto_first b front) ≤ length (onto_first b all)
+onto_first-more b [] [] more = omega arith
+onto_first-more b [] (line ∷ all) more = omega arith
+onto_first-more b (line ∷ front) [] more = absurd (omega (arith, more))
+onto_first-more b (line ∷ front) (other ∷ all) more = omega (arith, more)
+
+-- a front of a text has no more lines than the text
+pub lines-front : (text rest : List ℕ) → length (lines text) ≤ length (lines (text ++ rest))
+lines-front [] rest = omega arith
+lines-front (b ∷ text) rest = by (b == 10) (lines text) (lines (text ++ rest)) (lines-front text rest)
+  where
+    by : (t : Bool) (front all : List (List ℕ)) → length front ≤ length all → length (if t then [] ∷ front else onto_first b front) ≤ length (if t then [] ∷ all else onto_first b all)
+    by true front all more = omega (arith, more)
+    by false front all more = onto_first-more b front all more

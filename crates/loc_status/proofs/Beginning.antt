@@ -8,15 +8,13 @@ use Rattle.loc_spec_plane.specs.Places.{alive, lower, neighbours_rise, is_chain}
 use Rattle.loc_edges.specs.Placing.{deciding_end}
 use Rattle.loc_laws_order.proofs.Forms.{side_of, Touch, Cross, Conflict, LiesInside}
 use Rattle.loc_laws_order.proofs.Pair.{side_lo}
-use Rattle.loc_laws_order.proofs.Sides.{before_decides, before_irrefl, before-differ, above_decides, below_decides, above-not_below, on-not_above, on-not_below, low_is_on, high_is_on, same_point-true, same_point_refl, same_point_sym, same-from_neither, turn_swap}
+use Rattle.loc_laws_order.proofs.Sides.{before_decides, before_irrefl, before-differ, above_decides, below_decides, above-not_below, on-not_above, on-not_below, low_is_on, same_point-true, same_point_sym, same-from_neither, turn_swap}
 use Rattle.loc_laws_order.proofs.Tests.{all-get, chain-is, conflict-is, is_above_decides, is_below_decides, lower_decides, same_point_decides}
 use Rattle.loc_laws_order.proofs.ChainLaws.{chain_above}
 use Rattle.loc_laws_order.proofs.ChainLaws as ChainLaws
+use Rattle.loc_status.specs.Targets.{begins_above}
 
--- b begins above a, and below a, by the end that decides
-abbrev pub begins_above : Edge → Edge → Bool
-begins_above a b = is_above a (deciding_end a b)
-
+-- b begins below a, by the end that decides
 abbrev pub begins_below : Edge → Edge → Bool
 begins_below a b = is_below a (deciding_end a b)
 
@@ -30,10 +28,6 @@ common_end a b common = cond-true (same_point a.lo b.lo) b.hi b.lo common
 
 pub other_end : (a b : Edge) → same_point a.lo b.lo ≡ false → deciding_end a b ≡ b.lo
 other_end a b apart = cond-false (same_point a.lo b.lo) b.hi b.lo apart
-
--- an edge does not begin above itself
-pub not_above_itself : (e : Edge) → begins_above e e ≡ false
-not_above_itself e = subst (λ p. is_above e p ≡ false) (sym (common_end e e (same_point_refl e.lo))) (on-not_above e e.hi (high_is_on e))
 
 -- of two edges that begin at one point, a is lower where b's upper end is above it
 pub lower_common : (a b : Edge) → a.lo ≡ b.lo → lower a b ≡ is_above a b.hi
@@ -111,11 +105,7 @@ begin_lower es e chain i (suc j) d less at_i at_j =
           ChainLaws.lower_before es e ((before_decides e.lo e.hi).1 (facts.0 (suc j) e at_j).0) chain i j d near.0 (omega arith) at_i near.1 ((lower_decides near.0 e).1 (facts.1 j near.0 e near.1 at_j).1))
     ]
 
--- an edge b that begins there begins above each edge before it
-pub begins_above_earlier : (es : List Edge) (b : Edge) → is_chain b.lo es ≡ true → (i j : ℕ) (d : Edge) → i < j → slice_get es i ≡ Some d → slice_get es j ≡ Some b → begins_above d b ≡ true
-begins_above_earlier es b chain i j d less at_i at_j = sym (lower_is d b (chain_alive es b.lo chain i d at_i)) ∙ begin_lower es b chain i j d less at_i at_j
-
--- and below each edge behind it
+-- an edge b that begins there begins below each edge behind it
 pub begins_below_later : (es : List Edge) (b : Edge) → is_chain b.lo es ≡ true → (i j : ℕ) (a : Edge) → i < j → slice_get es i ≡ Some b → slice_get es j ≡ Some a → begins_below a b ≡ true
 begins_below_later es b chain i j a less at_i at_j = elim (cases_Bool (same_point a.lo b.lo)) [
   | inl common ↦ (let same : a.lo ≡ b.lo = same_point-true a.lo b.lo common in

@@ -1,10 +1,8 @@
 -- Where a search ends, and what stands there in the list.
-use Rattle.std.proofs.Common.{◌≡◌, ℕ, zero, suc, ◌+◌, ◌-◌, ◌<◌, ◌≤◌, Bool, true, false, List, [], ◌∷◌, ◌++◌, length, take, drop, get_or, refl, sym, ◌∙◌, ap, subst, inl, inr, arith, Option, Some, None, slice_get}
+use Rattle.std.proofs.Common.{◌≡◌, ℕ, zero, suc, ◌-◌, ◌<◌, ◌≤◌, Bool, true, false, List, [], ◌∷◌, ◌++◌, length, take, drop, get_or, refl, sym, ◌∙◌, ap, subst, inl, inr, arith, Option, Some, None, slice_get}
 use Rattle.std.specs.Prelude.{◌==◌}
-use Rattle.std.specs.List.{All}
 use Rattle.std.proofs.lemmas.Bool.{both_ways, cases_lt, cases_order, or_cases, eqb-true, true≢false}
-use Rattle.std.proofs.lemmas.List.{length-append, drop_all, get_or_append_left, get_or-append_right}
-use Rattle.std.proofs.lemmas.List.Elements.{All-cons, All-get_or}
+use Rattle.std.proofs.lemmas.List.{drop_all}
 use Rattle.std.proofs.lemmas.Option.{slice_get-get_or, slice_get_within, slice_get_past}
 use Rattle.loc_spec_plane.specs.Lists.{is_in}
 use Rattle.loc_laws_order.specs.Laws.{later_or, last_that}
@@ -26,14 +24,6 @@ ends_there passes es place stop fits parted end = elim (cases_order stop place) 
   ]
 ]
 
--- a list in parts, before a member and from it on
-pub parted_between : (passes : ℕ → Bool) (front back : List ℕ) (e : ℕ) → All (λ a. passes a ≡ true) front → passes e ≡ false → All (λ a. passes a ≡ false) back → IsParted passes (front ++ e ∷ back) (length front)
-parted_between passes front back e above here below = record {
-  before = λ i less fits. subst (λ a. passes a ≡ true) (sym (get_or_append_left front (e ∷ back) 0 i less)) (All-get_or (λ a. passes a ≡ true) front i 0 less above);
-  behind = λ i more fits. subst (λ a. passes a ≡ false) (sym (get_or-append_right front (e ∷ back) (length front) i 0 refl more))
-      (All-get_or (λ a. passes a ≡ false) (e ∷ back) (i - length front) 0 (let sum : length (front ++ e ∷ back) ≡ length front + length (e ∷ back) = length-append front (e ∷ back) in omega arith) (All-cons (λ a. passes a ≡ false) e back here below));
-}
-
 -- a member stands at a place
 pub member_place : (es : List ℕ) (e : ℕ) → is_in e es ≡ true → (j : ℕ) × (slice_get es j ≡ Some e)
 member_place [] e here = absurd (true≢false (sym here))
@@ -43,6 +33,10 @@ member_place (d ∷ es) e here = elim (or_cases (d == e) (is_in e es) here) [
 ]
 
 -- ---- what stands at a place and beside it
+pub at_seam : (front back : List ℕ) → slice_get (front ++ back) (length front) ≡ slice_get back 0
+at_seam [] back = refl
+at_seam (d ∷ front) back = at_seam front back
+
 pub split_at : (es : List ℕ) (j e : ℕ) → slice_get es j ≡ Some e → es ≡ take j es ++ e ∷ drop (suc j) es
 split_at [] j e at = absurd cc
 split_at (d ∷ es) zero e at = let same : d ≡ e = cc in ap (λ k. k ∷ es) same

@@ -1,10 +1,10 @@
 -- The places of edges in a list of edge numbers.
-use Rattle.std.proofs.Common.{◌≡◌, ℕ, suc, ◌+◌, ◌-◌, ◌<◌, ◌≤◌, Bool, true, false, ◌&&◌, List, [], ◌∷◌, ◌++◌, length, map, take, drop, get_or, refl, sym, ◌∙◌, ap, subst, ◌⊎◌, inl, inr, arith, Some, slice_get}
+use Rattle.std.proofs.Common.{◌≡◌, ℕ, suc, ◌+◌, ◌-◌, ◌<◌, ◌≤◌, Bool, true, false, ◌&&◌, List, [], ◌∷◌, length, map, take, drop, get_or, refl, sym, ◌∙◌, ap, subst, ◌⊎◌, inl, inr, arith, Some, slice_get}
 use Rattle.std.specs.Prelude.{◌==◌}
 use Rattle.std.specs.List.{All, list_all}
 use Rattle.std.proofs.lemmas.Bool.{and_from, and_parts, both_ways, cases_Bool, cases_eq, cases_lt, cond-true, cond-false, eq-eqb, false_from_ne_true, lt-ltb, not-true, ne_eqb, or_cases}
-use Rattle.std.proofs.lemmas.List.{get_or_past, get_or-take, get_or-drop, get_or_append_left, get_or-append-add, length-append, length-drop, length-map, length-take-le}
-use Rattle.std.proofs.lemmas.List.Elements.{All-from_get_or, All-get_or, All-append, All-cons, All-same, All-weaker}
+use Rattle.std.proofs.lemmas.List.{get_or_past, get_or-take, get_or-drop, length-drop, length-map, length-take-le}
+use Rattle.std.proofs.lemmas.List.Elements.{All-from_get_or, All-get_or}
 use Rattle.std.proofs.lemmas.Option.{slice_get-get_or, slice_get_within, get_or_from_slice_get}
 use Rattle.loc_spec_plane.specs.Points.{Point, Edge, before, up_to, same_point, is_above}
 use Rattle.loc_spec_plane.specs.Lists.{is_in}
@@ -19,12 +19,12 @@ use Rattle.loc_laws_order.proofs.Sides.{before_irrefl, before_decides, above-not
 use Rattle.loc_laws_order.proofs.Tests.{alive_up}
 use Rattle.loc_laws_order.proofs.TableOrder.{corner_before, corner_up_to, same_corner}
 use Rattle.loc_laws_order.proofs.ChainLaws.{chain_above}
-use Rattle.loc_status.specs.declared.search.Target.TheVariants.{Begin, End, Corner}
-use Rattle.loc_status.specs.Lists.{is_chain_at, IsInserted, IsSearchable, begins, placed, ends, GoesAbove, GoesBelow, IsPlaceFor}
-use Rattle.loc_status.specs.Targets.{is_passed, IsSearchEnd}
-use Rattle.loc_status.proofs.Beginning.{begins_above, begins_below, below-not_above, not_above_itself, chain_alive, other_end, begins_above_earlier, begins_below_later, above_passes_down, below_passes_up}
+use Rattle.loc_status.specs.declared.targets.Target.TheVariants.{Begin, End, Corner}
+use Rattle.loc_status.specs.Lists.{is_chain_at, GoesAbove, GoesBelow, IsPlaceFor}
+use Rattle.loc_status.specs.Targets.{begins_above, is_passed, IsSearchEnd}
+use Rattle.loc_status.proofs.Beginning.{begins_below, chain_alive, other_end, above_passes_down, below_passes_up}
 use Rattle.loc_status.proofs.Ending.{ends_lower, ends_not_lower, ends_above, ends_not_above}
-use Rattle.loc_status.proofs.Ends.{IsParted, ends_there, parted_between, member_place}
+use Rattle.loc_status.proofs.Ends.{IsParted, ends_there, member_place}
 
 -- a number that is no edge's is alive nowhere
 alive_in_range : (t : Table) (p : Point) (n : ℕ) → alive (edge t n) p ≡ true → n < length t.ends
@@ -58,65 +58,46 @@ lower_end_decides t ok a b fits_a fits_b other =
     let up_b = ok.goes_up b fits_b in
     other_end (edge t a) (edge t b) (same_corner t ok (lo_of t a) (lo_of t b) (omega arith) (omega arith) ∙ ne_eqb (lo_of t b) (lo_of t a) (λ same. other (sym same)))
 
-module _ (t : Table) (e : ℕ) (es : List ℕ) (chain : is_chain (edge t e).lo (map (edge t) es) ≡ true) where
-  -- in a chain there, the edges before it are those that it begins above
-  parted_by_begin : (j : ℕ) → slice_get es j ≡ Some e → IsParted (is_passed t (Begin e)) es j
-  parted_by_begin j at = record {
-    before = λ i less fits. begins_above_earlier (map (edge t) es) (edge t e) chain i j (edge t (get_or es i 0)) less (edge_at t es i fits) (get-map (edge t) es j e at);
-    behind = λ i more fits. elim (cases_eq j i) [
-      | inl same ↦ subst (λ k. begins_above (edge t k) (edge t e) ≡ false) (sym (get_or_from_slice_get es i e 0 (subst (λ k. slice_get es k ≡ Some e) same at))) (not_above_itself (edge t e))
-      | inr other ↦ below-not_above (edge t (get_or es i 0)) (deciding_end (edge t (get_or es i 0)) (edge t e)) (begins_below_later (map (edge t) es) (edge t e) chain j i (edge t (get_or es i 0)) (omega arith) (get-map (edge t) es j e at) (edge_at t es i fits))
-    ];
-  }
+module _ (t : Table) (e : ℕ) (es : List ℕ) (chain : is_chain (edge t e).lo (map (edge t) es) ≡ true) (up : before (edge t e).lo (edge t e).hi ≡ true) (place : ℕ) (end : IsSearchEnd (is_passed t (Begin e)) es place) where
+  above_at : (i : ℕ) → i < place → begins_above (edge t (get_or es i 0)) (edge t e) ≡ true
+  above_at i less =
+      let last : begins_above (edge t (get_or es (place - 1) 0)) (edge t e) ≡ true = end.passed (omega arith) in
+      let within : place ≤ length es = end.within in
+      elim (cases_eq i (place - 1)) [
+        | inl same ↦ subst (λ k. begins_above (edge t (get_or es k 0)) (edge t e) ≡ true) (sym same) last
+        | inr other ↦ above_passes_down (map (edge t) es) (edge t e) up chain i (place - 1) (edge t (get_or es i 0)) (edge t (get_or es (place - 1) 0)) (omega arith) (edge_at t es i (omega arith)) (edge_at t es (place - 1) (omega arith)) last
+      ]
 
-  module _ (up : before (edge t e).lo (edge t e).hi ≡ true) (place : ℕ) (end : IsSearchEnd (is_passed t (Begin e)) es place) where
-    above_at : (i : ℕ) → i < place → begins_above (edge t (get_or es i 0)) (edge t e) ≡ true
-    above_at i less =
-        let last : begins_above (edge t (get_or es (place - 1) 0)) (edge t e) ≡ true = end.passed (omega arith) in
-        let within : place ≤ length es = end.within in
-        elim (cases_eq i (place - 1)) [
-          | inl same ↦ subst (λ k. begins_above (edge t (get_or es k 0)) (edge t e) ≡ true) (sym same) last
-          | inr other ↦ above_passes_down (map (edge t) es) (edge t e) up chain i (place - 1) (edge t (get_or es i 0)) (edge t (get_or es (place - 1) 0)) (omega arith) (edge_at t es i (omega arith)) (edge_at t es (place - 1) (omega arith)) last
-        ]
+  -- a new edge goes above the edges before the end of its search
+  goes_above : GoesAbove t e (take place es)
+  goes_above =
+      let within : place ≤ length es = end.within in
+      All-from_get_or (λ a. IsPlacing (edge t a) (edge t e) Above) (take place es) 0 (λ i fits.
+      (let less : i < place = omega (arith, length-take-le place es within) in
+      let above = above_at i less in
+      subst (λ a. IsPlacing (edge t a) (edge t e) Above) (sym (get_or-take place es i 0 less)) (above-misses (edge t (get_or es i 0)) (edge t e) above, above)))
 
-    -- a new edge goes above the edges before the end of its search
-    goes_above : GoesAbove t e (take place es)
-    goes_above =
-        let within : place ≤ length es = end.within in
-        All-from_get_or (λ a. IsPlacing (edge t a) (edge t e) Above) (take place es) 0 (λ i fits.
-        (let less : i < place = omega (arith, length-take-le place es within) in
-        let above = above_at i less in
-        subst (λ a. IsPlacing (edge t a) (edge t e) Above) (sym (get_or-take place es i 0 less)) (above-misses (edge t (get_or es i 0)) (edge t e) above, above)))
+  below_at : begins_below (edge t (get_or es place 0)) (edge t e) ≡ true → (i : ℕ) → place ≤ i → i < length es → begins_below (edge t (get_or es i 0)) (edge t e) ≡ true
+  below_at below i more fits = elim (cases_eq i place) [
+    | inl same ↦ subst (λ k. begins_below (edge t (get_or es k 0)) (edge t e) ≡ true) (sym same) below
+    | inr other ↦ below_passes_up (map (edge t) es) (edge t e) up chain place i (edge t (get_or es place 0)) (edge t (get_or es i 0)) (omega arith) (edge_at t es place (omega arith)) (edge_at t es i fits) below
+  ]
 
-    below_at : begins_below (edge t (get_or es place 0)) (edge t e) ≡ true → (i : ℕ) → place ≤ i → i < length es → begins_below (edge t (get_or es i 0)) (edge t e) ≡ true
-    below_at below i more fits = elim (cases_eq i place) [
-      | inl same ↦ subst (λ k. begins_below (edge t (get_or es k 0)) (edge t e) ≡ true) (sym same) below
-      | inr other ↦ below_passes_up (map (edge t) es) (edge t e) up chain place i (edge t (get_or es place 0)) (edge t (get_or es i 0)) (omega arith) (edge_at t es place (omega arith)) (edge_at t es i fits) below
-    ]
+  -- and below the others, where it goes below the first of them
+  goes_below : (place < length es → begins_below (edge t (get_or es place 0)) (edge t e) ≡ true) → GoesBelow t e (drop place es)
+  goes_below below = All-from_get_or (λ a. IsPlacing (edge t a) (edge t e) Below) (drop place es) 0 (λ i fits.
+      (let less : place + i < length es = omega (arith, length-drop place es) in
+      let under = below_at (below (omega arith)) (place + i) (omega arith) less in
+      subst (λ a. IsPlacing (edge t a) (edge t e) Below) (sym (get_or-drop place es i 0)) (below-misses (edge t (get_or es (place + i) 0)) (edge t e) under, under)))
 
-    -- and below the others, where it goes below the first of them
-    goes_below : (place < length es → begins_below (edge t (get_or es place 0)) (edge t e) ≡ true) → GoesBelow t e (drop place es)
-    goes_below below = All-from_get_or (λ a. IsPlacing (edge t a) (edge t e) Below) (drop place es) 0 (λ i fits.
-        (let less : place + i < length es = omega (arith, length-drop place es) in
-        let under = below_at (below (omega arith)) (place + i) (omega arith) less in
-        subst (λ a. IsPlacing (edge t a) (edge t e) Below) (sym (get_or-drop place es i 0)) (below-misses (edge t (get_or es (place + i) 0)) (edge t e) under, under)))
-
-    -- so its place is there
-    pub is_place_for : (place < length es → begins_below (edge t (get_or es place 0)) (edge t e) ≡ true) → IsPlaceFor t e es place
-    is_place_for below = record { within = end.within; behind = goes_above; ahead = goes_below below }
+  -- so its place is there
+  pub is_place_for : (place < length es → begins_below (edge t (get_or es place 0)) (edge t e) ≡ true) → IsPlaceFor t e es place
+  is_place_for below = record { within = end.within; behind = goes_above; ahead = goes_below below }
 
 -- an edge that stands below or above another, and does not begin above it, begins below it
 pub below_by_placing : (a b : Edge) (placing : Placing) → IsPlacing a b placing → begins_above a b ≡ false → (placing ≡ Below) ⊎ (placing ≡ Above) → begins_below a b ≡ true
 below_by_placing a b placing is_placing off (inl same) = let below : IsPlacing a b Below = subst (λ p. IsPlacing a b p) same is_placing in below.1
 below_by_placing a b placing is_placing off (inr same) = let above : IsPlacing a b Above = subst (λ p. IsPlacing a b p) same is_placing in absurd (both_ways (begins_above a b) off above.1)
-
--- an edge in its place: the edges before it are those that it begins above
-parted_in_place : (t : Table) (e : ℕ) (rest es : List ℕ) (put : IsInserted t e rest es) → IsParted (is_passed t (Begin e)) es (length put.front)
-parted_in_place t e rest es put = subst (λ ds. IsParted (is_passed t (Begin e)) ds (length put.front)) (sym put.new_is)
-    (parted_between (is_passed t (Begin e)) put.front put.back e
-    (All-weaker (λ a. IsPlacing (edge t a) (edge t e) Above) (λ a. is_passed t (Begin e) a ≡ true) (λ a placing. placing.1) put.front put.behind)
-    (not_above_itself (edge t e))
-    (All-weaker (λ a. IsPlacing (edge t a) (edge t e) Below) (λ a. is_passed t (Begin e) a ≡ false) (λ a placing. below-not_above (edge t a) (deciding_end (edge t a) (edge t e)) placing.1) put.back put.ahead))
 
 -- ---- an edge by its upper end, in a chain at the corner before it
 all_from_get : {X : Type 0} (test : X → Bool) (xs : List X) → ((i : ℕ) (x : X) → slice_get xs i ≡ Some x → test x ≡ true) → list_all test xs ≡ true
@@ -189,35 +170,6 @@ module _ (t : Table) (ok : IsTable t) (e : ℕ) (fits : e < length t.ends) (es :
   found_by_end listed place end =
       let member = member_place es e listed in
       subst (λ k. slice_get es k ≡ Some e) (sym (ends_there (is_passed t (End e)) es member.0 place (slice_get_within es member.0 e member.1) (parted_by_end member.0 member.1) end)) member.1
-
--- ---- an edge that can be found
--- the numbers of its list are those of edges
-pub searchable_in_range : (t : Table) (e : ℕ) (es : List ℕ) → e < length t.ends → IsSearchable t e es → All (λ a. a < length t.ends) es
-searchable_in_range t e es fits (begins chain) = chain_in_range t (corner t (lo_of t e)) es chain
-searchable_in_range t e es fits (ends chain) = chain_in_range t (corner t (hi_of t e - 1)) es chain
-searchable_in_range t e es fits (placed rest chain put) =
-    let P : ℕ → Type 0 = λ a. a < length t.ends in
-    let all : All P (put.front ++ put.back) = All-same P (put.front ++ put.back) rest (sym put.old_is) (chain_in_range t (corner t (lo_of t e)) rest chain) in
-    let sum = length-append put.front put.back in
-    All-same P es (put.front ++ e ∷ put.back) put.new_is
-    (All-append P put.front (e ∷ put.back)
-    (All-from_get_or P put.front 0 (λ i less. subst P (get_or_append_left put.front put.back 0 i less) (All-get_or P (put.front ++ put.back) i 0 (omega arith) all)))
-    (All-cons P e put.back fits
-    (All-from_get_or P put.back 0 (λ i less. subst P (get_or-append-add put.front put.back i 0) (All-get_or P (put.front ++ put.back) (length put.front + i) 0 (omega arith) all)))))
-
--- where the search by its lower end does not meet it, the list is a chain at the corner before its upper end
-pub chain_before_end : (t : Table) (e : ℕ) (es : List ℕ) → is_in e es ≡ true → IsSearchable t e es → (place : ℕ) → IsSearchEnd (is_passed t (Begin e)) es place → (slice_get es place ≡ Some e → ⊥) → is_chain_at t (hi_of t e - 1) es ≡ true
-chain_before_end t e es listed (ends chain) place end missed = chain
-chain_before_end t e es listed (begins chain) place end missed =
-    let member = member_place es e listed in
-    absurd (missed (subst (λ k. slice_get es k ≡ Some e) (sym (ends_there (is_passed t (Begin e)) es member.0 place (slice_get_within es member.0 e member.1) (parted_by_begin t e es chain member.0 member.1) end)) member.1))
-chain_before_end t e es listed (placed rest chain put) place end missed =
-    let there : slice_get es (length put.front) ≡ Some e = subst (λ ds. slice_get ds (length put.front) ≡ Some e) (sym put.new_is) (slice_get-at put.front e put.back) in
-    absurd (missed (subst (λ k. slice_get es k ≡ Some e) (sym (ends_there (is_passed t (Begin e)) es (length put.front) place (slice_get_within es (length put.front) e there) (parted_in_place t e rest es put) end)) there))
-  where
-    slice_get-at : (front : List ℕ) (e : ℕ) (back : List ℕ) → slice_get (front ++ e ∷ back) (length front) ≡ Some e
-    slice_get-at [] e back = refl
-    slice_get-at (d ∷ front) e back = slice_get-at front e back
 
 -- ---- a corner
 -- in a chain at a corner, no edge from the end of its search on has it above

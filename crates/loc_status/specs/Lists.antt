@@ -1,10 +1,11 @@
--- What becomes of the list of a status: `IsInserted`, `IsRemoved`, and what its neighbours are.
-use Rattle.std.specs.Prelude.{◌≡◌, ℕ, ◌-◌, ◌≤◌, Bool, List, [], ◌∷◌, ◌++◌, length, map, take, drop, Option, None, Some, IsTrue}
+-- What becomes of the list of a status: `IsInserted` and `IsRemoved`; what stands beside an edge of it: `IsBeside`; and where an edge goes: `IsPlaceFor`.
+use Rattle.std.specs.Prelude.{◌≡◌, ℕ, ◌≤◌, Bool, List, [], ◌∷◌, ◌++◌, length, map, take, drop, Option, None, Some}
 use Rattle.std.specs.List.{All}
-use Rattle.loc_spec_plane.specs.Tables.{Table, corner, edge, lo_of, hi_of}
+use Rattle.loc_spec_plane.specs.Tables.{Table, corner, edge}
 use Rattle.loc_spec_plane.specs.Places.{is_chain}
 use Rattle.loc_edges.specs.declared.ranks.Placing.TheVariants.{Below, Above}
 use Rattle.loc_edges.specs.Placing.{IsPlacing}
+use Rattle.loc_status.specs.declared.status.Beside.{Beside}
 
 -- the list is a chain at corner c
 abbrev pub is_chain_at : Table → ℕ → List ℕ → Bool
@@ -44,11 +45,10 @@ abbrev pub IsNextAbove : ℕ → List ℕ → Option ℕ → Type 0
 IsNextAbove e es None = (front : List ℕ) × (es ≡ front ++ e ∷ [])
 IsNextAbove e es (Some a) = (front : List ℕ) × (back : List ℕ) × (es ≡ front ++ e ∷ a ∷ back)
 
--- where edge e can be found in the list by its sides: in a chain where it begins, in its place in a chain without it there, or in a chain at the corner before its end
-pub data IsSearchable (t : Table) (e : ℕ) (es : List ℕ) : Type 0 where
-  begins : IsTrue (is_chain_at t (lo_of t e) es) → IsSearchable t e es
-  placed : (rest : List ℕ) → IsTrue (is_chain_at t (lo_of t e) rest) → IsInserted t e rest es → IsSearchable t e es
-  ends : IsTrue (is_chain_at t (hi_of t e - 1) es) → IsSearchable t e es
+-- the edges before and behind e in the list
+pub record IsBeside (e : ℕ) (es : List ℕ) (found : Beside) : Type 0 where
+  pub below : IsNextBelow e es found.below
+  pub above : IsNextAbove e es found.above
 
 -- where edge e goes in the list: above the edges before the place, and below the others
 pub record IsPlaceFor (t : Table) (e : ℕ) (es : List ℕ) (place : ℕ) : Type 0 where

@@ -4,9 +4,11 @@
 mod places;
 mod search;
 mod status;
+mod targets;
 #[cfg(test)]
 mod tests;
 mod vec_status;
 
-pub use status::{InsertFault, Status};
+pub use status::{Beside, InsertFault, Status};
+pub use targets::Target;
 pub use vec_status::VecStatus;

@@ -1,13 +1,13 @@
 // The places of edges in the list of a status.
 
-ghost use Rattle.std.specs.Prelude.{◌≡◌, ◌+◌, ◌-◌, ◌<◌, IsTrue, not, Some, None, length, slice_get, IfOk, IfErr};
+ghost use Rattle.std.specs.Prelude.{ℕ, ◌≡◌, ◌+◌, ◌-◌, ◌<◌, IsTrue, not, Some, None, length, slice_get, IfOk, IfErr};
 ghost use Rattle.loc_spec_plane.specs.Lists.{is_in};
 ghost use Rattle.loc_spec_plane.specs.Tables.{lo_of, hi_of};
-ghost use Rattle.loc_status.specs.Lists.{is_chain_at, IsPlaceFor, IsSearchable};
+ghost use Rattle.loc_status.specs.Lists.{is_chain_at, IsBeside, IsPlaceFor};
 ghost use Rattle.loc_status.specs.Meaning.{IsCause};
 
-use crate::InsertFault;
-use crate::search::{Target, search};
+use crate::search::search;
+use crate::{Beside, InsertFault, Target};
 use loc_edges::{Placing, Ranks};
 
 // Where a new edge goes in a chain at its lower end, unless it hits an edge there.
@@ -31,7 +31,7 @@ pub(crate) fn place_for(list: &[u32], ranks: &Ranks<'_>, edge: u32) -> Result<us
 }
 
 // Where an edge stands in a chain at the corner before its upper end.
-pub(crate) fn place_by_end(list: &[u32], ranks: &Ranks<'_>, edge: u32) -> usize
+pub(crate) fn place_of(list: &[u32], ranks: &Ranks<'_>, edge: u32) -> usize
     requires in_range { edge < length ranks.now.ends }
     requires chain { IsTrue (is_chain_at ranks.now (hi_of ranks.now edge - 1) list.now) }
     requires listed { IsTrue (is_in edge list.now) }
@@ -41,22 +41,19 @@ pub(crate) fn place_by_end(list: &[u32], ranks: &Ranks<'_>, edge: u32) -> usize
     search(list, ranks, Target::End(edge))
 }
 
-// Where an edge stands in the list, by its lower end, or else by its upper one.
-pub(crate) fn place_of(list: &[u32], ranks: &Ranks<'_>, edge: u32) -> usize
-    requires in_range { edge < length ranks.now.ends }
-    requires listed { IsTrue (is_in edge list.now) }
-    requires searchable { IsSearchable ranks.now edge list.now }
-    ensures { slice_get list.now result ≡ Some edge }
+// The edges beside the one at a place.
+pub(crate) fn neighbours_at(list: &[u32], place: usize) -> Beside
+    requires { place < length list.now }
+    ensures { (edge : ℕ) → slice_get list.now place ≡ Some edge → IsBeside edge list.now result }
 {
-    let place = search(list, ranks, Target::Begin(edge));
-    if place < list.len() && list[place] == edge {
-        return place;
+    Beside {
+        below: before(list, place),
+        above: behind(list, place),
     }
-    place_by_end(list, ranks, edge)
 }
 
 // The edge behind a place, if there is one.
-pub(crate) fn behind(list: &[u32], place: usize) -> Option<u32>
+fn behind(list: &[u32], place: usize) -> Option<u32>
     requires { place < length list.now }
     ensures { result ≡ slice_get list.now (place + 1) }
 {

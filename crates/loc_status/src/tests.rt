@@ -2,14 +2,13 @@
 
 ghost use Rattle.std.specs.Prelude.{◌≡◌, ◌+◌, ◌<◌, ◌≤◌, ◌^◌, ◌&&◌, not, IsTrue, length, IfOk};
 ghost use Rattle.loc_rings.specs.Values.{IsRing};
-ghost use Rattle.loc_spec_plane.specs.Lists.{is_in};
 ghost use Rattle.loc_spec_plane.specs.Points.{conflict as conflict_of};
 ghost use Rattle.loc_spec_plane.specs.Tables.{corner as corner_of, edge as edge_of};
 ghost use Rattle.loc_spec_plane.specs.Places.{alive, lower_of};
-ghost use Rattle.loc_status.specs.Lists.{is_chain_at, IsSearchable};
+ghost use Rattle.loc_status.specs.Lists.{is_chain_at};
 
 use super::{InsertFault, Status, VecStatus};
-use loc_edges::{EdgeTable, Ranks};
+use loc_edges::EdgeTable;
 use loc_geom::{Meeting, Point, conflict, lower};
 use loc_rings::{Feature, Layer, Rings};
 use std::alloc::Global;
@@ -19,44 +18,49 @@ const SQUARE: [(i64, i64); 5] = [(0, 0), (4, 0), (4, 4), (0, 4), (0, 0)];
 
 const BESIDE: [(i64, i64); 5] = [(4, 0), (6, 0), (6, 2), (4, 2), (4, 0)];
 
-// The edge that a call names, or the two beside an edge.
-type Named = (Option<u32>, Option<u32>);
-
 #[derive(Clone, Copy)]
 enum Call {
     Insert(u32),
     Remove(u32),
-    Beside(u32),
     Floor(u32),
     Seal,
 }
 
-// Calls one after another, what each names, and the list that it leaves. The edges by their ends are 0: 0 0, 0 4; 1: 0 0, 4 0;
+// The edges below and above one that has come or gone, the edge that a new one hits, or a floor.
+#[derive(Clone, Copy, PartialEq, Eq, Debug, Drop)]
+enum Answer {
+    Beside(Option<u32>, Option<u32>),
+    Hits(u32),
+    Floor(Option<u32>),
+    Sealed,
+}
+
+// Calls one after another, what each answers, and the list that it leaves. The edges by their ends are 0: 0 0, 0 4; 1: 0 0, 4 0;
 // 2: 0 4, 4 4; 3: 4 0, 4 2; 4: 4 0, 4 4; 5: 4 0, 6 0; 6: 4 2, 6 2; 7: 6 0, 6 2.
-const ROWS: [(Call, Named, &[u32]); 23] = [
-    (Call::Seal, (None, None), &[]),
-    (Call::Insert(0), (None, None), &[0]),
-    (Call::Insert(1), (None, None), &[1, 0]),
-    (Call::Floor(0), (None, None), &[1, 0]),
-    (Call::Beside(0), (Some(1), None), &[1, 0]),
-    (Call::Beside(1), (None, Some(0)), &[1, 0]),
-    (Call::Remove(0), (None, None), &[1]),
-    (Call::Floor(1), (Some(1), None), &[1]),
-    (Call::Insert(2), (None, None), &[1, 2]),
-    (Call::Beside(1), (None, Some(2)), &[1, 2]),
-    (Call::Seal, (None, None), &[1, 2]),
-    (Call::Remove(1), (None, None), &[2]),
-    (Call::Insert(3), (None, None), &[3, 2]),
-    (Call::Insert(4), (Some(3), None), &[3, 2]),
-    (Call::Insert(5), (None, None), &[5, 3, 2]),
-    (Call::Beside(3), (Some(5), Some(2)), &[5, 3, 2]),
-    (Call::Remove(3), (None, None), &[5, 2]),
-    (Call::Floor(3), (Some(5), None), &[5, 2]),
-    (Call::Insert(6), (None, None), &[5, 6, 2]),
-    (Call::Beside(6), (Some(5), Some(2)), &[5, 6, 2]),
-    (Call::Remove(2), (None, None), &[5, 6]),
-    (Call::Floor(4), (Some(6), None), &[5, 6]),
-    (Call::Remove(5), (None, None), &[6]),
+const ROWS: [(Call, Answer, &[u32]); 19] = [
+    (Call::Seal, Answer::Sealed, &[]),
+    (Call::Insert(0), Answer::Beside(None, None), &[0]),
+    (Call::Insert(1), Answer::Beside(None, Some(0)), &[1, 0]),
+    (Call::Floor(0), Answer::Floor(None), &[1, 0]),
+    (Call::Remove(0), Answer::Beside(Some(1), None), &[1]),
+    (Call::Floor(1), Answer::Floor(Some(1)), &[1]),
+    (Call::Insert(2), Answer::Beside(Some(1), None), &[1, 2]),
+    (Call::Seal, Answer::Sealed, &[1, 2]),
+    (Call::Remove(1), Answer::Beside(None, Some(2)), &[2]),
+    (Call::Insert(3), Answer::Beside(None, Some(2)), &[3, 2]),
+    (Call::Insert(4), Answer::Hits(3), &[3, 2]),
+    (Call::Insert(5), Answer::Beside(None, Some(3)), &[5, 3, 2]),
+    (Call::Remove(3), Answer::Beside(Some(5), Some(2)), &[5, 2]),
+    (Call::Floor(3), Answer::Floor(Some(5)), &[5, 2]),
+    (
+        Call::Insert(6),
+        Answer::Beside(Some(5), Some(2)),
+        &[5, 6, 2],
+    ),
+    (Call::Remove(2), Answer::Beside(Some(6), None), &[5, 6]),
+    (Call::Floor(4), Answer::Floor(Some(6)), &[5, 6]),
+    (Call::Remove(5), Answer::Beside(None, Some(6)), &[6]),
+    (Call::Remove(6), Answer::Beside(None, None), &[]),
 ];
 
 // A closed ring by its coordinates.
@@ -132,8 +136,8 @@ fn is_chain(table: &EdgeTable, corner: u32, list: &[u32]) -> bool
     }
 }
 
-// The edge that a refusal names.
-fn insert(table: &EdgeTable, status: &mut VecStatus, edge: u32) -> Result<Option<u32>, Fail>
+// The edges beside a new edge, or the one that it hits.
+fn insert(table: &EdgeTable, status: &mut VecStatus, edge: u32) -> Result<Answer, Fail>
     requires in_range { edge < length table.now.ends }
     requires few { status.old.inserted < 2 ^ 26 }
     ensures inserted { status.new.inserted ≤ status.old.inserted + 1 }
@@ -145,13 +149,14 @@ fn insert(table: &EdgeTable, status: &mut VecStatus, edge: u32) -> Result<Option
         return Err(Fail::new("no place for the edge"));
     }
     match status.insert(&table.ranks(), edge) {
-        Ok(()) => Ok(None),
-        Err(InsertFault::Hits { edge }) => Ok(Some(edge)),
+        Ok(beside) => Ok(Answer::Beside(beside.below, beside.above)),
+        Err(InsertFault::Hits { edge }) => Ok(Answer::Hits(edge)),
         Err(InsertFault::NoMemory) => Err(Fail::new("out of memory")),
     }
 }
 
-fn remove(table: &EdgeTable, status: &mut VecStatus, edge: u32) -> Result<(), Fail>
+// The edges beside one that goes.
+fn remove(table: &EdgeTable, status: &mut VecStatus, edge: u32) -> Result<Answer, Fail>
     requires in_range { edge < length table.now.ends }
     requires few { status.old.removed < 2 ^ 26 }
     ensures inserted { status.new.inserted ≡ status.old.inserted }
@@ -162,34 +167,12 @@ fn remove(table: &EdgeTable, status: &mut VecStatus, edge: u32) -> Result<(), Fa
     if !is_chain(table, hi - 1, status.list()) || !status.list().contains(&edge) {
         return Err(Fail::new("no such edge"));
     }
-    status.remove(&table.ranks(), edge)?;
-    Ok(())
+    let beside = status.remove(&table.ranks(), edge)?;
+    Ok(Answer::Beside(beside.below, beside.above))
 }
 
-// Whether an edge is in the list, which is a chain at its lower end or before its upper end.
-fn is_searchable(table: &EdgeTable, list: &[u32], edge: u32) -> bool
-    ensures in_range { IsTrue result → edge < length table.now.ends }
-    ensures listed { IsTrue result → IsTrue (is_in edge list.now) }
-    ensures searchable { IsTrue result → IsSearchable table.now edge list.now }
-{
-    if edge >= table.edge_count() || !list.contains(&edge) {
-        return false;
-    }
-    let (lo, hi) = table.ends(edge);
-    is_chain(table, lo, list) || is_chain(table, hi - 1, list)
-}
-
-// The edges just below and just above an edge, by any status.
-fn beside<S: Status>(ranks: &Ranks<'_>, status: &S, edge: u32) -> Named
-    requires in_range { edge < length ranks.now.ends }
-    requires listed { IsTrue (is_in edge (S.meaning status.now).list) }
-    requires searchable { IsSearchable ranks.now edge (S.meaning status.now).list }
-{
-    (status.below(ranks, edge), status.above(ranks, edge))
-}
-
-// What a call names.
-fn perform(table: &EdgeTable, status: &mut VecStatus, call: Call) -> Result<Named, Fail>
+// What a call answers.
+fn perform(table: &EdgeTable, status: &mut VecStatus, call: Call) -> Result<Answer, Fail>
     requires few_inserted { status.old.inserted < 2 ^ 26 }
     requires few_removed { status.old.removed < 2 ^ 26 }
     requires few_sealed { status.old.sealed < 2 ^ 26 }
@@ -198,23 +181,15 @@ fn perform(table: &EdgeTable, status: &mut VecStatus, call: Call) -> Result<Name
     ensures sealed { status.new.sealed ≤ status.old.sealed + 1 }
 {
     match call {
-        Call::Insert(edge) if edge < table.edge_count() => {
-            Ok((insert(table, status, edge)?, None))
-        }
-        Call::Remove(edge) if edge < table.edge_count() => {
-            remove(table, status, edge)?;
-            Ok((None, None))
-        }
-        Call::Beside(edge) if is_searchable(table, status.list(), edge) => {
-            Ok(beside(&table.ranks(), status, edge))
-        }
+        Call::Insert(edge) if edge < table.edge_count() => insert(table, status, edge),
+        Call::Remove(edge) if edge < table.edge_count() => remove(table, status, edge),
         Call::Floor(corner)
             if corner < table.corner_count() && is_chain(table, corner, status.list()) => {
-            Ok((status.floor(&table.ranks(), corner), None))
+            Ok(Answer::Floor(status.floor(&table.ranks(), corner)))
         }
         Call::Seal => {
             status.seal()?;
-            Ok((None, None))
+            Ok(Answer::Sealed)
         }
         _ => Err(Fail::new("no such call")),
     }
@@ -225,8 +200,8 @@ fn status_by_hand(rt: HostRuntime) -> Result<(), Fail> {
     let layer = layer_of(rt.alloc(), &[&BESIDE, &SQUARE])?;
     let table = EdgeTable::make(rt.alloc(), &layer)?;
     let mut status = VecStatus::new(rt.alloc());
-    for (call, named, list) in ROWS {
-        assert_eq!(rt; perform(&table, &mut status, call)?, named);
+    for (call, answer, list) in ROWS {
+        assert_eq!(rt; perform(&table, &mut status, call)?, answer);
         assert_eq!(rt; status.list(), list);
     }
     Ok(())

@@ -3,9 +3,9 @@
 ghost use Rattle.std.specs.Prelude.{◌≡◌, None};
 ghost use Rattle.loc_status.specs.Meaning.{IsFresh};
 
-use crate::places::{before, behind, place_by_end, place_for, place_of};
-use crate::search::{Target, search};
-use crate::{InsertFault, Status};
+use crate::places::{before, neighbours_at, place_for, place_of};
+use crate::search::search;
+use crate::{Beside, InsertFault, Status, Target};
 use loc_edges::Ranks;
 use std::alloc::{AllocError, Global};
 use std::marker::Model;
@@ -57,7 +57,7 @@ impl VecStatus {
 impl Status for VecStatus {
     ghost meaning = { λ s. s };
 
-    fn insert(&mut self, ranks: &Ranks<'_>, edge: u32) -> Result<(), InsertFault> {
+    fn insert(&mut self, ranks: &Ranks<'_>, edge: u32) -> Result<Beside, InsertFault> {
         let place = place_for(&self.list, ranks, edge)?;
         if self.list.insert(place, edge).is_err() {
             return Err(InsertFault::NoMemory);
@@ -65,23 +65,16 @@ impl Status for VecStatus {
         self.inserted += 1;
         self.past_greatest = self.past_greatest.max(u64::from(edge) + 1);
         self.is_changed = true;
-        Ok(())
+        Ok(neighbours_at(&self.list, place))
     }
 
-    fn remove(&mut self, ranks: &Ranks<'_>, edge: u32) -> Result<(), AllocError> {
-        let place = place_by_end(&self.list, ranks, edge);
+    fn remove(&mut self, ranks: &Ranks<'_>, edge: u32) -> Result<Beside, AllocError> {
+        let place = place_of(&self.list, ranks, edge);
+        let beside = neighbours_at(&self.list, place);
         self.list.remove(place);
         self.removed += 1;
         self.is_changed = true;
-        Ok(())
-    }
-
-    fn below(&self, ranks: &Ranks<'_>, edge: u32) -> Option<u32> {
-        before(&self.list, place_of(&self.list, ranks, edge))
-    }
-
-    fn above(&self, ranks: &Ranks<'_>, edge: u32) -> Option<u32> {
-        behind(&self.list, place_of(&self.list, ranks, edge))
+        Ok(beside)
     }
 
     fn floor(&self, ranks: &Ranks<'_>, corner: u32) -> Option<u32> {

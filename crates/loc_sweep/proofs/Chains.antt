@@ -3,8 +3,8 @@ use Rattle.std.proofs.Common.{◌≡◌, ℕ, zero, suc, ◌+◌, ◌<◌, Bool,
 use Rattle.std.specs.Prelude.{◌==◌}
 use Rattle.std.specs.List.{All, list_all, last_or}
 use Rattle.std.proofs.lemmas.Bool.{and_parts, and_from, or_parts, or_left, or_right, both_ways, cases_Bool, cases_eq, cond-true, cond-false, eq-eqb, ne_eqb, eqb-true, not-true, not_from_false, false_from_ne_true, true_from_ne_false}
-use Rattle.std.proofs.lemmas.List.{append_assoc, length-append, map-append}
-use Rattle.std.proofs.lemmas.List.Elements.{All-get_or, All-same}
+use Rattle.std.proofs.lemmas.List.{append_assoc, get_or_append_left, get_or-append-add, length-append, map-append}
+use Rattle.std.proofs.lemmas.List.Elements.{All-append, All-cons, All-from_get_or, All-get_or, All-same}
 use Rattle.std.proofs.Math.Seq.{get_or-append_seam}
 use Rattle.std.proofs.lemmas.Option.{slice_get_within, get_or_from_slice_get}
 use Rattle.std.proofs.lemmas.List.Folds.{list_all-append, list_any-append}
@@ -17,16 +17,17 @@ use Rattle.loc_laws_order.proofs.Tests.{same_edge_decides, same_point_decides}
 use Rattle.loc_laws_order.proofs.TableOrder.{edge_up}
 use Rattle.loc_laws_order.proofs.ListLaws.{get-map}
 use Rattle.loc_laws_order.proofs.ChainLaws.{chain_differ, chain_lower}
-use Rattle.loc_status.specs.Lists.{is_chain_at, GoesAbove, GoesBelow, placed, IsInserted, IsRemoved, IsNextBelow, IsNextAbove}
+use Rattle.loc_status.specs.declared.status.Beside.{Beside}
+use Rattle.loc_status.specs.Lists.{is_chain_at, GoesAbove, GoesBelow, IsBeside, IsInserted, IsRemoved, IsNextBelow, IsNextAbove}
 use Rattle.loc_edges.specs.declared.ranks.Placing.TheVariants.{Below, Above}
 use Rattle.loc_edges.specs.Placing.{IsPlacing}
-use Rattle.loc_status.proofs.Ends.{member_place}
+use Rattle.loc_status.proofs.Ends.{at_seam, member_place}
 use Rattle.loc_status.proofs.Beginning.{common_end, other_end, lower_common, lower_is, below_to_above, chain_alive}
-use Rattle.loc_status.proofs.Standing.{chain_in_range, searchable_in_range}
+use Rattle.loc_status.proofs.Standing.{chain_in_range}
 use Rattle.loc_sweep.specs.Line.{AreApart, IsInRange}
 
 -- ---- a list in two parts
-in_between : (e : ℕ) (front back : List ℕ) → is_in e (front ++ e ∷ back) ≡ true
+pub in_between : (e : ℕ) (front back : List ℕ) → is_in e (front ++ e ∷ back) ≡ true
 in_between e [] back = or_left (e == e) (is_in e back) (eq-eqb e e refl)
 in_between e (d ∷ front) back = or_right (d == e) (is_in e (front ++ e ∷ back)) (in_between e front back)
 
@@ -34,10 +35,6 @@ at_front : (front rest : List ℕ) (i d : ℕ) → slice_get front i ≡ Some d 
 at_front [] rest i d at = absurd cc
 at_front (a ∷ front) rest zero d at = at
 at_front (a ∷ front) rest (suc i) d at = at_front front rest i d at
-
-at_seam : (front rest : List ℕ) → slice_get (front ++ rest) (length front) ≡ slice_get rest 0
-at_seam [] rest = refl
-at_seam (d ∷ front) rest = at_seam front rest
 
 further : (front back : List ℕ) (e i : ℕ) → slice_get (front ++ e ∷ back) (suc (length front + i)) ≡ slice_get back i
 further [] back e i = let none : suc (length {A = ℕ} [] + i) ≡ suc i = omega arith in ap (λ k. slice_get (e ∷ back) k) none
@@ -193,17 +190,17 @@ module _ (t : Table) where
           apart
 
 -- a chain without one of its edges is a chain, where the two that come to stand side by side do not conflict
-pub removed : (t : Table) (c e : ℕ) (es new : List ℕ) (below above : Option ℕ) → is_chain_at t c es ≡ true → IsNextBelow e es below → IsNextAbove e es above → IsRemoved e es new → AreApart t below above → (is_chain_at t c new ≡ true) × ((n : ℕ) → is_in n new ≡ (is_in n es && not (n == e)))
-removed t c e es new below above chain next_below next_above gone apart =
+pub removed : (t : Table) (c e : ℕ) (es new : List ℕ) (beside : Beside) → is_chain_at t c es ≡ true → IsBeside e es beside → IsRemoved e es new → AreApart t beside.below beside.above → (is_chain_at t c new ≡ true) × ((n : ℕ) → is_in n new ≡ (is_in n es && not (n == e)))
+removed t c e es new beside chain stands gone apart =
     let front = gone.front in
     let back = gone.back in
     let whole : is_chain_at t c (front ++ e ∷ back) ≡ true = subst (λ ds. is_chain_at t c ds ≡ true) gone.old_is chain in
     let once = stands_once t (corner t c) front back e whole in
-    let last = below_is e es front back gone.old_is once.0 once.1 below next_below in
-    let first = above_is e es front back gone.old_is once.0 once.1 above next_above in
+    let last = below_is e es front back gone.old_is once.0 once.1 beside.below stands.below in
+    let first = above_is e es front back gone.old_is once.0 once.1 beside.above stands.above in
     let parts = chain_parts t (corner t c) front (e ∷ back) whole in
     let behind_it = chain_parts t (corner t c) (e ∷ []) back parts.1 in
-    let seam : stands_before t (last_or None front) (slice_get back 0) ≡ true = subst (λ o. stands_before t o (slice_get back 0) ≡ true) (sym last) (subst (λ o. stands_before t below o ≡ true) (sym first) (over_it t (corner t c) front back e whole below above last first apart)) in (
+    let seam : stands_before t (last_or None front) (slice_get back 0) ≡ true = subst (λ o. stands_before t o (slice_get back 0) ≡ true) (sym last) (subst (λ o. stands_before t beside.below o ≡ true) (sym first) (over_it t (corner t c) front back e whole beside.below beside.above last first apart)) in (
       subst (λ ds. is_chain_at t c ds ≡ true) (sym gone.new_is) (chain_joined t (corner t c) front back parts.0 behind_it.1 seam),
       λ n. ap (λ ds. is_in n ds) gone.new_is ∙ (members_without front back e n once.0 once.1 ∙ ap (λ ds. is_in n ds && not (n == e)) (sym gone.old_is)),
     )
@@ -252,16 +249,25 @@ module _ (t : Table) (ok : IsTable t) (e : ℕ) (fits : e < length t.ends) (fron
       let from_e : is_chain (edge t e).lo (map (edge t) (e ∷ back)) ≡ true = chain_joined t (edge t e).lo (e ∷ []) back alone parts.1 (subst (λ o. stands_before t (Some e) o ≡ true) (sym first) (seam_above above first ahead apart_above)) in
       chain_joined t (edge t e).lo front (e ∷ back) parts.0 from_e (subst (λ o. stands_before t o (Some e) ≡ true) (sym last) (seam_below below last behind apart_below))
 
+-- a new edge is in no part of the list
+nowhere : (t : Table) (e : ℕ) (es new : List ℕ) → is_in e es ≡ false → (come : IsInserted t e es new) → (is_in e come.front ≡ false) × (is_in e come.back ≡ false)
+nowhere t e es new off come = or_parts (is_in e come.front) (is_in e come.back) (sym (list_any-append (λ m. m == e) come.front come.back) ∙ (ap (λ ds. is_in e ds) (sym come.old_is) ∙ off))
+
+-- the edge just above it is the first behind it
+pub first_behind : (t : Table) (e : ℕ) (es new : List ℕ) → is_in e es ≡ false → (come : IsInserted t e es new) → (above : Option ℕ) → IsNextAbove e new above → slice_get come.back 0 ≡ above
+first_behind t e es new off come above next = let off_both = nowhere t e es new off come in above_is e new come.front come.back come.new_is off_both.0 off_both.1 above next
+
 -- a chain at the lower end of a new edge is one with it in its place, where it does not conflict with those that it stands between
-pub inserted : (t : Table) (e : ℕ) (es new : List ℕ) (below above : Option ℕ) → IsTable t → e < length t.ends → is_chain_at t (lo_of t e) es ≡ true → is_in e es ≡ false → IsInserted t e es new → IsNextBelow e new below → IsNextAbove e new above → AreApart t below (Some e) → AreApart t (Some e) above → (is_chain_at t (lo_of t e) new ≡ true) × ((n : ℕ) → is_in n new ≡ (is_in n es || (n == e)))
-inserted t e es new below above ok fits chain off come next_below next_above apart_below apart_above =
+pub inserted : (t : Table) (e : ℕ) (es new : List ℕ) (beside : Beside) → IsTable t → e < length t.ends → is_chain_at t (lo_of t e) es ≡ true → is_in e es ≡ false → IsInserted t e es new → IsBeside e new beside → AreApart t beside.below (Some e) → AreApart t (Some e) beside.above
+    → (is_chain_at t (lo_of t e) new ≡ true) × ((n : ℕ) → is_in n new ≡ (is_in n es || (n == e)))
+inserted t e es new beside ok fits chain off come stands apart_below apart_above =
     let front = come.front in
     let back = come.back in
     let whole : is_chain_at t (lo_of t e) (front ++ back) ≡ true = subst (λ ds. is_chain_at t (lo_of t e) ds ≡ true) come.old_is chain in
-    let nowhere = or_parts (is_in e front) (is_in e back) (sym (list_any-append (λ m. m == e) front back) ∙ (ap (λ ds. is_in e ds) (sym come.old_is) ∙ off)) in
-    let last = below_is e new front back come.new_is nowhere.0 nowhere.1 below next_below in
-    let first = above_is e new front back come.new_is nowhere.0 nowhere.1 above next_above in (
-      subst (λ ds. is_chain_at t (lo_of t e) ds ≡ true) (sym come.new_is) (chain_with t ok e fits front back whole below above last first come.behind come.ahead apart_below apart_above),
+    let off_both = nowhere t e es new off come in
+    let last = below_is e new front back come.new_is off_both.0 off_both.1 beside.below stands.below in
+    let first = first_behind t e es new off come beside.above stands.above in (
+      subst (λ ds. is_chain_at t (lo_of t e) ds ≡ true) (sym come.new_is) (chain_with t ok e fits front back whole beside.below beside.above last first come.behind come.ahead apart_below apart_above),
       λ n. ap (λ ds. is_in n ds) come.new_is ∙ (members_with front back e n ∙ ap (λ ds. is_in n ds || (n == e)) (sym come.old_is)),
     )
 
@@ -280,16 +286,28 @@ module _ (t : Table) (e : ℕ) (es : List ℕ) (all : All (λ a. a < length t.en
   above_in_range (Some a) next = member_in_range (next.0 ++ e ∷ []) next.1 a (next.2 ∙ sym (append_assoc next.0 (e ∷ []) (a ∷ next.1)))
 
 -- the neighbours of an edge of a chain are edges of the table
-pub removed_neighbours : (t : Table) (c e : ℕ) (es : List ℕ) (below above : Option ℕ) → is_chain_at t c es ≡ true → IsNextBelow e es below → IsNextAbove e es above → IsInRange t below × IsInRange t above
-removed_neighbours t c e es below above chain next_below next_above =
+pub removed_neighbours : (t : Table) (c e : ℕ) (es : List ℕ) (beside : Beside) → is_chain_at t c es ≡ true → IsBeside e es beside → IsInRange t beside.below × IsInRange t beside.above
+removed_neighbours t c e es beside chain stands =
     let all = chain_in_range t (corner t c) es chain in
-    (below_in_range t e es all below next_below, above_in_range t e es all above next_above)
+    (below_in_range t e es all beside.below stands.below, above_in_range t e es all beside.above stands.above)
 
 -- and so are those of an edge that has come into a chain
-pub inserted_neighbours : (t : Table) (e : ℕ) (es new : List ℕ) (below above : Option ℕ) → e < length t.ends → is_chain_at t (lo_of t e) es ≡ true → IsInserted t e es new → IsNextBelow e new below → IsNextAbove e new above → IsInRange t below × IsInRange t above
-inserted_neighbours t e es new below above fits chain come next_below next_above =
-    let all = searchable_in_range t e new fits (placed es chain come) in
-    (below_in_range t e new all below next_below, above_in_range t e new all above next_above)
+pub inserted_neighbours : (t : Table) (e : ℕ) (es new : List ℕ) (beside : Beside) → e < length t.ends → is_chain_at t (lo_of t e) es ≡ true → IsInserted t e es new → IsBeside e new beside → IsInRange t beside.below × IsInRange t beside.above
+inserted_neighbours t e es new beside fits chain come stands = (below_in_range t e new all beside.below stands.below, above_in_range t e new all beside.above stands.above)
+  where
+    P : ℕ → Type 0
+    P a = a < length t.ends
+
+    old : All P (come.front ++ come.back)
+    old = All-same P (come.front ++ come.back) es (sym come.old_is) (chain_in_range t (corner t (lo_of t e)) es chain)
+
+    all : All P new
+    all = let sum = length-append come.front come.back in
+        All-same P new (come.front ++ e ∷ come.back) come.new_is
+        (All-append P come.front (e ∷ come.back)
+        (All-from_get_or P come.front 0 (λ i less. subst P (get_or_append_left come.front come.back 0 i less) (All-get_or P (come.front ++ come.back) i 0 (omega arith) old)))
+        (All-cons P e come.back fits
+        (All-from_get_or P come.back 0 (λ i less. subst P (get_or-append-add come.front come.back i 0) (All-get_or P (come.front ++ come.back) (length come.front + i) 0 (omega arith) old)))))
 
 -- ---- how many there are
 -- an edge that goes makes the list shorter by one
@@ -299,7 +317,3 @@ removed_length e es new gone = omega (arith, ap (λ ds. length ds) gone.old_is, 
 -- and one that comes makes it longer by one
 pub inserted_length : (t : Table) (e : ℕ) (es new : List ℕ) → IsInserted t e es new → length new ≡ length es + 1
 inserted_length t e es new come = omega (arith, ap (λ ds. length ds) come.new_is, length-append come.front (e ∷ come.back), ap (λ ds. length ds) come.old_is, length-append come.front come.back)
-
--- an edge that has come is in the list
-pub listed_new : (t : Table) (e : ℕ) (es new : List ℕ) → IsInserted t e es new → is_in e new ≡ true
-listed_new t e es new come = subst (λ ds. is_in e ds ≡ true) (sym come.new_is) (in_between e come.front come.back)

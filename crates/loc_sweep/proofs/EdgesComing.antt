@@ -11,7 +11,7 @@ use Rattle.loc_spec_plane.specs.Places.{alive_at, is_edge}
 use Rattle.loc_laws_order.proofs.TableOrder.{edge_up, different, rises}
 use Rattle.loc_edges.specs.Ending.{IsBeginning}
 use Rattle.loc_edges.proofs.Hits.{hits-touch}
-use Rattle.loc_status.specs.Lists.{is_chain_at, IsInserted, IsSearchable, placed}
+use Rattle.loc_status.specs.Lists.{is_chain_at}
 use Rattle.loc_status.specs.Meaning.{StatusMeaning, KeepsSealed, Inserts, IsCause}
 use Rattle.loc_status.specs.declared.status.InsertFault.{InsertFault}
 use Rattle.loc_status.specs.declared.status.InsertFault.TheVariants.{Hits}
@@ -35,10 +35,6 @@ hit_touches r t same ok e fits es chain is_new fault hit is cause =
       hits-touch (edge t hit) (edge t e) (edge_up t ok hit in_range) (edge_up t ok e fits)
           (different t ok hit e in_range fits (λ it. both_ways (is_in e es) (not-true (is_in e es) is_new) (subst (λ k. is_in k es ≡ true) it hits.0))) hits.1,
     )
-
--- a new edge can be found in its place
-pub findable : (r t : Table) → r ≡ t → (e : ℕ) (old new : List ℕ) → is_chain_at t (lo_of t e) old ≡ true → IsInserted r e old new → IsSearchable r e new
-findable r t same e old new chain put = placed old (subst (λ t. is_chain_at t (lo_of t e) old ≡ true) (sym same) chain) put
 
 -- ---- one edge after another
 -- the edges that go past corner c, and those from the first on and before number k
@@ -130,7 +126,7 @@ module _ (t : Table) (ok : IsTable t) (c first past : ℕ) (beginning : IsBeginn
 
   -- ---- all of them
   -- where some edge begins there, the first is the number of those begun before
-  pub first_is : (k : ℕ) → IsBegun t c k → first < past → first ≡ k
+  first_is : (k : ℕ) → IsBegun t c k → first < past → first ≡ k
   first_is k begun some =
       let here = begins_here first (omega arith) some in
       elim (cases_order first k) [
@@ -147,7 +143,7 @@ module _ (t : Table) (ok : IsTable t) (c first past : ℕ) (beginning : IsBeginn
       ]
 
   -- those begun behind the corner
-  pub begun_more : (k : ℕ) → IsBegun t c k → IsBegun t (c + 1) (k + (past - first))
+  begun_more : (k : ℕ) → IsBegun t c k → IsBegun t (c + 1) (k + (past - first))
   begun_more k begun = record {
     within = elim (cases_lt first past) [
       | inl some ↦ (let at = first_is k begun some in omega (arith, beginning.within))

@@ -1,19 +1,15 @@
 -- The edge just below an edge is the one before it in the list at its lower end.
-use Rattle.std.proofs.Common.{◌≡◌, ℕ, Bool, true, ◌&&◌, List, [], ◌∷◌, ◌++◌, ◌⊎◌, refl, sym, ◌∙◌, subst, inl, inr}
+use Rattle.std.proofs.Common.{◌≡◌, ℕ, Bool, true, ◌&&◌, List, [], ◌∷◌, ◌++◌, ◌⊎◌, sym, ◌∙◌, subst, inl, inr}
 use Rattle.std.specs.Prelude.{Option, Some, None, ◌==◌}
 use Rattle.std.specs.List.{list_all}
-use Rattle.std.proofs.lemmas.Bool.{and_parts, and_from, or_left, or_right, or_cases, eq-eqb, eqb-true, not_from_false, false_from_ne_true}
+use Rattle.std.proofs.lemmas.Bool.{and_parts, and_from, or_cases, eqb-true, not_from_false, false_from_ne_true}
 use Rattle.loc_spec_plane.specs.Lists.{is_in, is_rising}
 use Rattle.loc_spec_plane.specs.Tables.{Table, edge}
 use Rattle.loc_spec_plane.specs.Places.{alive_at, lower_of, IsListAt, IsJustBelow}
 use Rattle.loc_laws_order.proofs.Sides.{lower-asym}
 use Rattle.loc_laws_order.proofs.Unique.{all-at}
 use Rattle.loc_status.specs.Lists.{IsNextBelow}
-
--- a member at a place
-is_in-middle : (front : List ℕ) (d : ℕ) (rest : List ℕ) → is_in d (front ++ d ∷ rest) ≡ true
-is_in-middle [] d rest = or_left (d == d) (is_in d rest) (eq-eqb d d refl)
-is_in-middle (n ∷ front) d rest = or_right (n == d) (is_in d (front ++ d ∷ rest)) (is_in-middle front d rest)
+use Rattle.loc_sweep.proofs.Chains.{in_between}
 
 module _ (comes_before : ℕ → ℕ → Bool) where
   -- the part of a rising list from a place on
@@ -27,7 +23,7 @@ module _ (comes_before : ℕ → ℕ → Bool) where
   before-or_from (m ∷ front) d rest rising n here =
       let parts = and_parts (list_all (comes_before m) (front ++ d ∷ rest)) (is_rising comes_before (front ++ d ∷ rest)) rising in
       elim (or_cases (m == n) (is_in n (front ++ d ∷ rest)) here) [
-        | inl same ↦ inl (subst (λ k. comes_before k d ≡ true) (eqb-true m n same) (all-at (comes_before m) (front ++ d ∷ rest) d parts.0 (is_in-middle front d rest)))
+        | inl same ↦ inl (subst (λ k. comes_before k d ≡ true) (eqb-true m n same) (all-at (comes_before m) (front ++ d ∷ rest) d parts.0 (in_between d front rest)))
         | inr later ↦ before-or_from front d rest parts.1 n later
       ]
 
@@ -49,7 +45,7 @@ just_below t e es is_list (Some b) next =
     let rising : is_rising (lower_of t) (front ++ b ∷ e ∷ back) ≡ true = subst (λ ds. is_rising (lower_of t) ds ≡ true) next.2 is_list.rising in
     let rest = and_parts (list_all (lower_of t b) (e ∷ back)) (is_rising (lower_of t) (e ∷ back)) (rising_rest (lower_of t) front (b ∷ e ∷ back) rising) in
     let near : lower_of t b e ≡ true = (and_parts (lower_of t b e) (list_all (lower_of t b) back) rest.0).0 in
-    let listed : is_in b es ≡ true = subst (λ ds. is_in b ds ≡ true) (sym next.2) (is_in-middle front b (e ∷ back)) in (
+    let listed : is_in b es ≡ true = subst (λ ds. is_in b ds ≡ true) (sym next.2) (in_between b front (e ∷ back)) in (
       and_from (alive_at t (edge t e).lo b) (lower_of t b e) (sym (is_list.exact b) ∙ listed) near,
       λ d passes other. (let parts = and_parts (alive_at t (edge t e).lo d) (lower_of t d e) passes in
           elim (before-or_from (lower_of t) front b (e ∷ back) rising d (subst (λ ds. is_in d ds ≡ true) next.2 (is_list.exact d ∙ parts.0))) [

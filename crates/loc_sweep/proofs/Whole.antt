@@ -2,7 +2,7 @@
 use Rattle.std.proofs.Common.{◌≡◌, ℕ, ◌+◌, ◌-◌, ◌<◌, ◌≤◌, false, not, ◌&&◌, List, [], ◌∷◌, ◌++◌, length, get_or, option_map, refl, sym, ◌∙◌, ap, subst, inl, inr, arith}
 use Rattle.std.specs.Prelude.{Option, Some, None, IfSome, ◌==◌, nat_lt}
 use Rattle.std.proofs.lemmas.Bool.{cases_eq, cases_lt, and_left, and_right, or_left, true≢false, not_from_true, eq-eqb, lt-ltb, le-ltb}
-use Rattle.std.proofs.lemmas.List.{length-append, length_push, get_or_push, get_or_append_left, get_or-append_right}
+use Rattle.std.proofs.lemmas.List.{length_push, get_or_push, get_or_append_left}
 use Rattle.std.proofs.lemmas.Option.{IfSome_then}
 use Rattle.loc_spec_plane.specs.Lists.{is_in}
 use Rattle.loc_spec_plane.specs.Points.{before, is_above}
@@ -14,7 +14,7 @@ use Rattle.loc_laws_order.proofs.ListLaws.{list_from_chain}
 use Rattle.loc_laws_order.proofs.SweepLaw.{sweep_law}
 use Rattle.loc_status.specs.Lists.{IsNextBelow}
 use Rattle.loc_status.specs.Meaning.{StatusMeaning, IsFresh, Seals}
-use Rattle.loc_sweep.specs.Course.{IsBefore, IsNoted, HasSealed}
+use Rattle.loc_sweep.specs.Course.{AreNextBelow, IsBefore, IsNoted, HasSealed}
 use Rattle.loc_sweep.specs.Line.{IsChainOf, IsBegun, reaches}
 use Rattle.loc_edges.specs.Floors.{AreFloors}
 use Rattle.loc_status.specs.Versions.{AreVersions}
@@ -64,17 +64,17 @@ sealed_more old new lists seals count told = record {
 
 -- ---- what was noted, corner by corner
 -- before the first corner nothing was noted
-pub noted_none : (t : Table) → IsNoted t 0 0 [] [] []
-noted_none t = record {
+pub noted_none : (t : Table) (of_edge : List (Option ℕ)) → length of_edge ≡ length t.ends → IsNoted t 0 [] [] of_edge
+noted_none t of_edge as_many = record {
   as_many_lists = refl;
   lists_are = λ i less. absurd (omega (arith, less));
   as_many_corners = refl;
   corners_are = λ i less. absurd (omega (arith, less));
-  as_many_edges = refl;
-  edges_are = λ e less. absurd (omega (arith, less));
+  as_many_edges = as_many;
+  edges_are = λ e fits less. absurd (omega (arith, less));
 }
 
-module _ (t : Table) (c k k' : ℕ) (lists : List (List ℕ)) (of_corner of_edge more : List (Option ℕ)) (list : List ℕ) (floor : Option ℕ) (noted : IsNoted t c k lists of_corner of_edge) where
+module _ (t : Table) (c : ℕ) (lists : List (List ℕ)) (of_corner of_edge of_edge' : List (Option ℕ)) (list : List ℕ) (noted : IsNoted t c lists of_corner of_edge) where
   -- the lists before, and the new one
   old_list : (i : ℕ) → i < c → get_or (lists ++ list ∷ []) i [] ≡ get_or lists i []
   old_list i less = get_or_append_left lists (list ∷ []) [] i (omega (arith, noted.as_many_lists))
@@ -83,8 +83,8 @@ module _ (t : Table) (c k k' : ℕ) (lists : List (List ℕ)) (of_corner of_edge
   new_list = get_or_push lists list [] c noted.as_many_lists
 
   -- the list and the floor of one more corner, and the edges just below those that begin there
-  pub noted_more : IsBegun t c k → IsBegun t (c + 1) k' → IsChainOf t c (alive_at t (corner t c)) list → floor ≡ last_that (λ e. is_above (edge t e) (corner t c)) list → length more ≡ k' - k → k ≤ k' → ((i : ℕ) → i < length more → IsNextBelow (k + i) list (get_or more i None)) → IsNoted t (c + 1) k' (lists ++ list ∷ []) (of_corner ++ floor ∷ []) (of_edge ++ more)
-  noted_more begun_old begun_new chain floor_is as_many grows below = record {
+  pub noted_more : (floor : Option ℕ) → IsChainOf t c (alive_at t (corner t c)) list → floor ≡ last_that (λ e. is_above (edge t e) (corner t c)) list → AreNextBelow t c list of_edge of_edge' → IsNoted t (c + 1) (lists ++ list ∷ []) (of_corner ++ floor ∷ []) of_edge'
+  noted_more floor chain floor_is below = record {
     as_many_lists = length_push lists list ∙ ap (λ n. n + 1) noted.as_many_lists;
     lists_are = λ i less. elim (cases_eq i c) [
       | inl same ↦ subst (λ j. IsChainOf t j (alive_at t (corner t j)) (get_or (lists ++ list ∷ []) j [])) (sym same) (subst (λ es. IsChainOf t c (alive_at t (corner t c)) es) (sym new_list) chain)
@@ -96,32 +96,14 @@ module _ (t : Table) (c k k' : ℕ) (lists : List (List ℕ)) (of_corner of_edge
           (get_or_push of_corner floor None c noted.as_many_corners ∙ (floor_is ∙ ap (λ es. last_that (λ e. is_above (edge t e) (corner t c)) es) (sym new_list)))
       | inr other ↦ get_or_append_left of_corner (floor ∷ []) None i (omega (arith, noted.as_many_corners)) ∙ (noted.corners_are i (omega arith) ∙ ap (λ es. last_that (λ e. is_above (edge t e) (corner t i)) es) (sym (old_list i (omega arith))))
     ];
-    as_many_edges = (let sum = length-append of_edge more in omega (arith, noted.as_many_edges));
-    edges_are = λ e less. elim (cases_lt e k) [
-      | inl old ↦ at_old e old
-      | inr new ↦ at_new e new less
+    as_many_edges = below.as_many ∙ noted.as_many_edges;
+    edges_are = λ e fits less. elim (cases_lt (lo_of t e) c) [
+      | inl earlier ↦ subst (λ es. IsNextBelow e es (get_or of_edge' e None)) (sym (old_list (lo_of t e) earlier))
+          (subst (λ o. IsNextBelow e (get_or lists (lo_of t e) []) o) (sym (below.others e (λ same. omega arith))) (noted.edges_are e fits earlier))
+      | inr later ↦ (let here : lo_of t e ≡ c = omega arith in
+          subst (λ es. IsNextBelow e es (get_or of_edge' e None)) (sym (ap (λ j. get_or (lists ++ list ∷ []) j []) here ∙ new_list)) (below.are e fits here))
     ];
   }
-    where
-      -- an edge that began before stands in the list of an earlier corner
-      at_old : (e : ℕ) → e < k → IsNextBelow e (get_or (lists ++ list ∷ []) (lo_of t e) []) (get_or (of_edge ++ more) e None)
-      at_old e old =
-          let earlier : lo_of t e < c = (begun_old.exact e (omega (arith, begun_old.within))).1 old in
-          subst (λ es. IsNextBelow e es (get_or (of_edge ++ more) e None)) (sym (old_list (lo_of t e) earlier))
-          (subst (λ o. IsNextBelow e (get_or lists (lo_of t e) []) o) (sym (get_or_append_left of_edge more None e (omega (arith, noted.as_many_edges)))) (noted.edges_are e old))
-
-      -- one that begins at this corner stands in its list
-      at_new : (e : ℕ) → k ≤ e → e < k' → IsNextBelow e (get_or (lists ++ list ∷ []) (lo_of t e) []) (get_or (of_edge ++ more) e None)
-      at_new e new less =
-          let fits : e < length t.ends = omega (arith, begun_new.within) in
-          let here : lo_of t e ≡ c = elim (cases_lt (lo_of t e) c) [
-            | inl earlier ↦ absurd (let began = (begun_old.exact e fits).0 earlier in omega arith)
-            | inr later ↦ (let began = (begun_new.exact e fits).1 less in omega arith)
-          ] in
-          let place : k + (e - k) ≡ e = omega arith in
-          subst (λ es. IsNextBelow e es (get_or (of_edge ++ more) e None)) (sym (ap (λ j. get_or (lists ++ list ∷ []) j []) here ∙ new_list))
-          (subst (λ o. IsNextBelow e list o) (sym (get_or-append_right of_edge more k e None noted.as_many_edges new))
-          (subst (λ j. IsNextBelow j list (get_or more (e - k) None)) place (below (e - k) (omega arith))))
 
 -- ---- the end, where this was noted of all corners
 -- all edges begin before the last corner, since each ends at a later one than it begins at
@@ -146,7 +128,7 @@ module _ (t : Table) (ok : IsTable t) where
         (and_right (nat_lt (lo_of t n) (length t.corners)) (not (nat_lt (hi_of t n) (length t.corners))) (not_from_true (nat_lt (hi_of t n) (length t.corners)) (lt-ltb (hi_of t n) (length t.corners) up.1))))
   ]
 
-  module _ (k : ℕ) (lists : List (List ℕ)) (of_corner of_edge : List (Option ℕ)) (noted : IsNoted t (length t.corners) k lists of_corner of_edge) where
+  module _ (lists : List (List ℕ)) (of_corner of_edge : List (Option ℕ)) (noted : IsNoted t (length t.corners) lists of_corner of_edge) where
     -- no two edges conflict
     pub no_conflict : NoConflict t
     no_conflict = sweep_law t ok (λ i. get_or lists i []) (record {
@@ -162,15 +144,15 @@ module _ (t : Table) (ok : IsTable t) where
     }
 
     -- the floors are those of the corners, and the edges just below are those of all edges
-    pub are_floors : IsBegun t (length t.corners) k → AreFloors t (record { of_corner = of_corner; of_edge = of_edge })
-    are_floors begun =
-        let all : k ≡ length t.ends = all_begun t ok k begun in
-        record {
-          as_many_corners = noted.as_many_corners;
-          as_many_edges = noted.as_many_edges ∙ all;
-          of_corner = λ c fits. subst (λ o. IsFloor t (corner t c) o) (sym (noted.corners_are c fits)) (floor_of_list t (corner t c) (get_or lists c []) (versions.are c fits));
-          of_edge = λ e fits. (let up = ok.goes_up e fits in just_below t e (get_or lists (lo_of t e) []) (versions.are (lo_of t e) (omega arith)) (get_or of_edge e None) (noted.edges_are e (omega arith)));
-        }
+    pub are_floors : AreFloors t (record { of_corner = of_corner; of_edge = of_edge })
+    are_floors = record {
+      as_many_corners = noted.as_many_corners;
+      as_many_edges = noted.as_many_edges;
+      of_corner = λ c fits. subst (λ o. IsFloor t (corner t c) o) (sym (noted.corners_are c fits)) (floor_of_list t (corner t c) (get_or lists c []) (versions.are c fits));
+      of_edge = λ e fits. (let up = ok.goes_up e fits in
+          let within : lo_of t e < length t.corners = omega (arith, up.0, up.1) in
+          just_below t e (get_or lists (lo_of t e) []) (versions.are (lo_of t e) within) (get_or of_edge e None) (noted.edges_are e fits within));
+    }
 
     -- the lists sealed are the versions, and each edge was inserted and removed
     pub is_swept : (m : StatusMeaning) → IsBefore t (length t.corners) m → HasSealed m lists → IsSwept t m

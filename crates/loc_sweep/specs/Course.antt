@@ -1,9 +1,8 @@
 -- How far a sweep has come: what its status means between two corners, and what it has noted.
-use Rattle.std.specs.Prelude.{◌≡◌, ℕ, ◌+◌, ◌-◌, ◌<◌, ◌≤◌, false, List, [], ◌++◌, length, get_or, Option, None, IfSome}
+use Rattle.std.specs.Prelude.{◌≡◌, ◌≢◌, ℕ, ◌+◌, ◌-◌, ◌<◌, ◌≤◌, false, List, [], length, get_or, Option, None, IfSome}
 use Rattle.loc_spec_plane.specs.Points.{is_above}
 use Rattle.loc_spec_plane.specs.Tables.{Table, corner, edge, lo_of}
 use Rattle.loc_spec_plane.specs.Places.{alive_at}
-use Rattle.loc_edges.specs.Ending.{IsBeginning}
 use Rattle.loc_laws_order.specs.Laws.{last_that}
 use Rattle.loc_status.specs.Lists.{IsNextBelow}
 use Rattle.loc_status.specs.Meaning.{StatusMeaning, KeepsSealed}
@@ -33,24 +32,20 @@ pub record Comes (t : Table) (c : ℕ) (old new : StatusMeaning) : Type 0 where
   pub removed : new.removed ≡ old.removed
   pub in_range : new.past_greatest ≤ length t.ends
 
--- the edges just below those that begin at corner c, in order, have come behind the others noted
+-- the edges just below those that begin at corner c are noted, and what was noted of others is as it was
 pub record AreNextBelow (t : Table) (c : ℕ) (list : List ℕ) (old new : List (Option ℕ)) : Type 0 where
-  pub first : ℕ
-  pub past : ℕ
-  pub beginning : IsBeginning t c first past
-  pub more : List (Option ℕ)
-  pub new_is : new ≡ old ++ more
-  pub as_many : length more ≡ past - first
-  pub are : (i : ℕ) → i < length more → IsNextBelow (first + i) list (get_or more i None)
+  pub as_many : length new ≡ length old
+  pub are : (e : ℕ) → e < length t.ends → lo_of t e ≡ c → IsNextBelow e list (get_or new e None)
+  pub others : (e : ℕ) → lo_of t e ≢ c → get_or new e None ≡ get_or old e None
 
 -- what was noted up to corner c, where the lists of the corners so far are these: the floor of each corner, and the edge just below each edge begun
-pub record IsNoted (t : Table) (c k : ℕ) (lists : List (List ℕ)) (of_corner of_edge : List (Option ℕ)) : Type 0 where
+pub record IsNoted (t : Table) (c : ℕ) (lists : List (List ℕ)) (of_corner of_edge : List (Option ℕ)) : Type 0 where
   pub as_many_lists : length lists ≡ c
   pub lists_are : (i : ℕ) → i < c → IsChainOf t i (alive_at t (corner t i)) (get_or lists i [])
   pub as_many_corners : length of_corner ≡ c
   pub corners_are : (i : ℕ) → i < c → get_or of_corner i None ≡ last_that (λ e. is_above (edge t e) (corner t i)) (get_or lists i [])
-  pub as_many_edges : length of_edge ≡ k
-  pub edges_are : (e : ℕ) → e < k → IsNextBelow e (get_or lists (lo_of t e) []) (get_or of_edge e None)
+  pub as_many_edges : length of_edge ≡ length t.ends
+  pub edges_are : (e : ℕ) → e < length t.ends → lo_of t e < c → IsNextBelow e (get_or lists (lo_of t e) []) (get_or of_edge e None)
 
 -- the status tells these lists as sealed, where it tells any, and nothing was done since
 pub record HasSealed (m : StatusMeaning) (lists : List (List ℕ)) : Type 0 where

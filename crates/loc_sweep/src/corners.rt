@@ -9,7 +9,7 @@ ghost use Rattle.loc_sweep.specs.Swept.{IsSwept, IsShown};
 use crate::SweepFault;
 use crate::coming::come_all;
 use crate::leaving::leave_all;
-use crate::notes::{note_below, note_floor};
+use crate::notes::note_floor;
 use loc_edges::{EdgeTable, Floors};
 use loc_status::Status;
 use std::alloc::Global;
@@ -30,12 +30,11 @@ pub fn sweep<S: Status>(
 {
     table.law();
     let mut of_corner = Vec::with_capacity(alloc, table.corner_count() as usize)?;
-    let mut of_edge = Vec::with_capacity(alloc, table.edge_count() as usize)?;
+    let mut of_edge = vec![in alloc; None; table.edge_count() as usize]?;
     for corner in 0..table.corner_count() {
         leave_all(table, &mut status, corner)?;
-        come_all(table, &mut status, corner)?;
+        come_all(table, &mut status, corner, &mut of_edge)?;
         note_floor(table, &status, corner, &mut of_corner)?;
-        note_below(table, &status, corner, &mut of_edge)?;
         status.seal()?;
     }
     Ok((status, Floors::of(of_corner, of_edge)))

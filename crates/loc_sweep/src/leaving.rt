@@ -25,11 +25,8 @@ fn leave<S: Status>(table: &EdgeTable, status: &mut S, edge: u32) -> Result<(), 
     ensures others { OnOk result (IsWithout edge (S.meaning status.old).list (S.meaning status.new).list) }
     ensures shown { IfErr result (IsShown table.now) }
 {
-    let ranks = table.ranks();
-    let below = status.below(&ranks, edge);
-    let above = status.above(&ranks, edge);
-    status.remove(&ranks, edge)?;
-    test_both(table, below, above)
+    let beside = status.remove(&table.ranks(), edge)?;
+    test_both(table, beside.below, beside.above)
 }
 
 // Takes out the edges that end at a corner.

@@ -1,13 +1,11 @@
 // What lies just below.
 
-ghost use Rattle.std.specs.Prelude.{◌≡◌, ◌<◌, ◌++◌, ◌∷◌, [], length, IsTrue, OnOk};
+ghost use Rattle.std.specs.Prelude.{ℕ, ◌≡◌, ◌≢◌, ◌<◌, ◌++◌, ◌∷◌, [], length, get_or, Some, None, IsTrue, OnOk};
 ghost use Rattle.loc_spec_plane.specs.Points.{is_above};
-ghost use Rattle.loc_spec_plane.specs.Tables.{corner as corner_of, edge as edge_of};
-ghost use Rattle.loc_spec_plane.specs.Places.{alive_at};
+ghost use Rattle.loc_spec_plane.specs.Tables.{corner as corner_of, edge as edge_of, lo_of};
 ghost use Rattle.loc_laws_order.specs.Laws.{last_that};
 ghost use Rattle.loc_status.specs.Lists.{is_chain_at};
-ghost use Rattle.loc_sweep.specs.Course.{AreNextBelow};
-ghost use Rattle.loc_sweep.specs.Line.{IsChainOf};
+ghost use Rattle.loc_sweep.specs.Line.{IsInRange};
 
 use loc_edges::EdgeTable;
 use loc_status::Status;
@@ -28,22 +26,23 @@ pub(crate) fn note_floor<S: Status>(
     Ok(())
 }
 
-// Notes the edges just below those that begin at a corner.
-pub(crate) fn note_below<S: Status>(
+// Notes a new edge as the one just below the edge above it, where that begins at the same corner.
+pub(crate) fn note_above(
     table: &EdgeTable,
-    status: &S,
     corner: u32,
+    edge: u32,
+    above: Option<u32>,
     of_edge: &mut Vec<Option<u32>>,
-) -> Result<(), AllocError>
-    requires in_range { corner < length table.now.corners }
-    requires line { IsChainOf table.now corner (alive_at table.now (corner_of table.now corner)) (S.meaning status.now).list }
-    ensures { OnOk result (AreNextBelow table.now corner (S.meaning status.now).list of_edge.old.items of_edge.new.items) }
+)
+    requires in_range { IsInRange table.now above }
+    requires as_many { length of_edge.old.items ≡ length table.now.ends }
+    ensures as_many { length of_edge.new.items ≡ length of_edge.old.items }
+    ensures above { (a : ℕ) → above ≡ Some a → lo_of table.now a ≡ corner → get_or of_edge.new.items a None ≡ Some edge }
+    ensures others { (e : ℕ) → above ≢ Some e → get_or of_edge.new.items e None ≡ get_or of_edge.old.items e None }
+    ensures elsewhere { (e : ℕ) → lo_of table.now e ≢ corner → get_or of_edge.new.items e None ≡ get_or of_edge.old.items e None }
 {
-    table.law();
-    let ranks = table.ranks();
-    let (first, past) = table.beginning(corner);
-    for edge in first..past {
-        of_edge.push(status.below(&ranks, edge))?;
+    let Some(above) = above else { return };
+    if table.ends(above).0 == corner {
+        of_edge[above as usize] = Some(edge);
     }
-    Ok(())
 }

@@ -1,27 +1,37 @@
 -- What holds of a run, by the course of its words.
 use Rattle.std.proofs.Common.{◌≡◌, ◌≢◌, ◌⊎◌, ℕ, ◌≤◌, ap, Option, Some, None, refl, sym, ◌∙◌, subst, inl, inr, arith}
-use Rattle.std.specs.Prelude.{IfSome, option_map}
+use Rattle.std.specs.Prelude.{IfSome, codes, option_map}
 use Rattle.loc_io.specs.Meaning.{KeepsFiles}
 use Rattle.loc_io.specs.Streams.{Stream}
 use Rattle.loc_words.specs.Words.{Asked, query, check}
-use Rattle.loc_course.specs.Courses.{Course, no_memory}
+use Rattle.loc_spec_text.specs.Points.{ended}
+use Rattle.loc_course.specs.Courses.{Text, Course, no_memory}
 use Rattle.loc_course.specs.Following.{lacks}
 use Rattle.loc_course.specs.Moments.{Moment}
-use Rattle.loc_course.specs.Sentences.{InTimes, IsPlain, NoCountRose, Notes, ReadsFail, Sentences, Wrote, note_of}
+use Rattle.loc_course.specs.Sentences.{InTimes, MakesNone, MayRefuseBehind, NoCountRose, Notes, ReadsFail, Sentences, Wrote, note_of}
+use Rattle.loc_course.proofs.Plain.{none_behind}
 use Rattle.loc_course.proofs.Statuses.{ended_so, in_range, never_two}
 use Rattle.loc_maps.specs.MapCourses.{layer_file}
 use Rattle.loc_maps.proofs.Checked.{check_plain}
-use Rattle.loc_query.proofs.Headlines.{query_plain}
+use Rattle.loc_query.proofs.Headlines.{query_makes_none, query_refuses_behind}
 use Rattle.loc_top.specs.Run.{OutFails, OutOf, Ran, RefusesWords, course_by}
 
--- every command writes at once, and makes no file
-plain : (a : Asked) → IsPlain (course_by a)
-plain (query asked) = query_plain (layer_file asked.layer asked.form asked.scale) asked.points
-plain (check asked) = check_plain (layer_file asked.layer asked.form asked.scale)
+-- no command makes a file, and by one line alone it refuses a file whose lines it answers
+pub record IsAnswering (c : Course) : Type 0 where
+  pub makes_none : MakesNone c
+  pub line : (line : Text) → MayRefuseBehind c line → line ≡ ended (codes "points: too long")
 
-plain_of : (o : Option Asked) (c : Course) → option_map course_by o ≡ Some c → IsPlain c
-plain_of None c is = absurd (cc is)
-plain_of (Some a) c is = let same : course_by a ≡ c = cc is in subst IsPlain same (plain a)
+answering : (a : Asked) → IsAnswering (course_by a)
+answering (query asked) =
+    let file = layer_file asked.layer asked.form asked.scale in
+    record { makes_none = query_makes_none asked.index file asked.points; line = query_refuses_behind asked.index file asked.points }
+answering (check asked) =
+    let plain = check_plain (layer_file asked.layer asked.form asked.scale) in
+    record { makes_none = plain.makes_none; line = λ line by. absurd (none_behind (course_by (check asked)) line plain.at_once by) }
+
+answering_of : (o : Option Asked) (c : Course) → option_map course_by o ≡ Some c → IsAnswering c
+answering_of None c is = absurd (cc is)
+answering_of (Some a) c is = let same : course_by a ≡ c = cc is in subst IsAnswering same (answering a)
 
 -- memory was wanting for the words
 pub lacks_words : (o : Option Course) (old : Moment) (n n' : Stream) (status : ℕ) → status ≡ 5 → Wrote n n' (note_of no_memory) → Ran o old old n n' status
@@ -78,21 +88,26 @@ module _ (old new : Moment) (n n' : Stream) (status : ℕ) where
 
   module _ (a : Option Asked) (ran : Ran (option_map course_by a) old new n n' status) where
     kept : (o : Option Course) → option_map course_by a ≡ o → Ran o old new n n' status
-        → KeepsFiles old.shelf new.shelf × (new.shelf.write_faults ≡ old.shelf.write_faults) × (status ≢ 0 → status ≢ 4 → new.out.written ≡ old.out.written) × OutFails old new status
+        → KeepsFiles old.shelf new.shelf × (new.shelf.write_faults ≡ old.shelf.write_faults) × OutOf o old new n n' status × OutFails old new status
     kept None is r =
         let same : new.out.faults ≡ old.out.faults = ap (λ (x : Moment). x.out.faults) r.same in
         let two_or_five : (status ≡ 2) ⊎ (status ≡ 5) = elim r.noted [ inl words ↦ inl words.0 | inr memory ↦ inr memory.0 ] in (
           λ name. ap (λ (x : Moment). x.shelf.told name) r.same,
           ap (λ (x : Moment). x.shelf.write_faults) r.same,
-          λ _ _. ap (λ (x : Moment). x.out.written) r.same,
+          record { grows = tt; kept = λ _. ap (λ (x : Moment). x.out.written) r.same; refused = λ one. absurd (other 1 two_or_five (λ e. omega (arith, e)) (λ e. omega (arith, e)) one); at_once = tt },
           λ below. (λ four. absurd (other 4 two_or_five (λ e. omega (arith, e)) (λ e. omega (arith, e)) four), λ rose. absurd (omega (arith, rose, same))),
         )
     kept (Some c) is r =
         let s = ended_so r in
-        let p = plain_of a c is in (
+        let p = answering_of a c is in (
           s.files.all p.makes_none,
           s.files.steady p.makes_none,
-          s.out.kept p.at_once,
+          record {
+            grows = s.out.grows;
+            kept = λ either. elim either [ inl two ↦ absurd (never_two r.end (sym r.status_is ∙ two)) | inr five ↦ s.out.memory five ];
+            refused = λ one. elim (s.out.refused one) [ inl same ↦ inl same | inr by ↦ inr (subst (λ (l : Text). Wrote n n' l) (p.line by.0 by.1) by.2) ];
+            at_once = s.out.kept;
+          },
           λ below. (λ four. elim (s.writes_fail.only four) [ inl rose ↦ omega (arith, rose, below) | inr by ↦ absurd (p.makes_none by.0 by.1) ], λ rose. s.writes_fail.rose (inl rose)),
         )
 
@@ -102,8 +117,8 @@ module _ (old new : Moment) (n n' : Stream) (status : ℕ) where
     pub no_file_made : new.shelf.write_faults ≡ old.shelf.write_faults
     no_file_made = (kept (option_map course_by a) refl ran).1
 
-    pub out_of : OutOf (option_map course_by a) old new status
-    out_of = record { grows = of_course _ (option_map course_by a) ran (λ c s. s.out.grows); kept = (kept (option_map course_by a) refl ran).2 }
+    pub out_of : OutOf (option_map course_by a) old new n n' status
+    out_of = (kept (option_map course_by a) refl ran).2
 
     pub writes_fail : OutFails old new status
     writes_fail = (kept (option_map course_by a) refl ran).3

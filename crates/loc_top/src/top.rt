@@ -40,6 +40,7 @@ fn run_course<F: Shelf, O: Sink, N: Sink, L: Ledger>(
                 asked.points,
                 asked.form,
                 Scale::new(asked.scale),
+                asked.index,
                 shelf,
                 out,
                 steps,
@@ -69,7 +70,7 @@ pub fn run<F: Shelf, O: Sink, N: Sink, L: Ledger>(
     steps: &mut Steps<L>,
 ) -> u8
     ensures headline { (asked : AskedQuery) → command_of (map string_bytes words.now) ≡ Some (query asked)
-        → Headline (layer_file asked.layer asked.form asked.scale) asked.points (moment (F.meaning shelf.old) (O.meaning out.old) steps.old) (moment (F.meaning shelf.new) (O.meaning out.new) steps.new) (N.meaning notes.old) (N.meaning notes.new) result }
+        → Headline asked.index (layer_file asked.layer asked.form asked.scale) asked.points (moment (F.meaning shelf.old) (O.meaning out.old) steps.old) (moment (F.meaning shelf.new) (O.meaning out.new) steps.new) (N.meaning notes.old) (N.meaning notes.new) result }
     ensures ran { Ran (course_of (map string_bytes words.now)) (moment (F.meaning shelf.old) (O.meaning out.old) steps.old) (moment (F.meaning shelf.new) (O.meaning out.new) steps.new) (N.meaning notes.old) (N.meaning notes.new) result }
     ensures done { IfSome (course_of (map string_bytes words.now)) (λ (c : Course). Done c (moment (F.meaning shelf.old) (O.meaning out.old) steps.old) (moment (F.meaning shelf.new) (O.meaning out.new) steps.new) result) }
     ensures succeeds { IfSome (course_of (map string_bytes words.now)) (λ (c : Course). Succeeds c (moment (F.meaning shelf.old) (O.meaning out.old) steps.old) (moment (F.meaning shelf.new) (O.meaning out.new) steps.new) result) }
@@ -81,7 +82,7 @@ pub fn run<F: Shelf, O: Sink, N: Sink, L: Ledger>(
     ensures reads_fail { ReadsFail (moment (F.meaning shelf.old) (O.meaning out.old) steps.old) (moment (F.meaning shelf.new) (O.meaning out.new) steps.new) result }
     ensures writes_fail { OutFails (moment (F.meaning shelf.old) (O.meaning out.old) steps.old) (moment (F.meaning shelf.new) (O.meaning out.new) steps.new) result }
     ensures no_count_rose { NoCountRose (moment (F.meaning shelf.old) (O.meaning out.old) steps.old) (moment (F.meaning shelf.new) (O.meaning out.new) steps.new) result }
-    ensures out { OutOf (course_of (map string_bytes words.now)) (moment (F.meaning shelf.old) (O.meaning out.old) steps.old) (moment (F.meaning shelf.new) (O.meaning out.new) steps.new) result }
+    ensures out { OutOf (course_of (map string_bytes words.now)) (moment (F.meaning shelf.old) (O.meaning out.old) steps.old) (moment (F.meaning shelf.new) (O.meaning out.new) steps.new) (N.meaning notes.old) (N.meaning notes.new) result }
     ensures notes { Notes (N.meaning notes.old) (N.meaning notes.new) result }
     ensures names { IfSome (course_of (map string_bytes words.now)) (λ (c : Course). Names c (moment (F.meaning shelf.old) (O.meaning out.old) steps.old) (moment (F.meaning shelf.new) (O.meaning out.new) steps.new) result) }
     ensures files { KeepsFiles (F.meaning shelf.old) (F.meaning shelf.new) }

@@ -20,21 +20,19 @@ use Rattle.loc_laws_order.proofs.ListLaws.{get-map}
 use Rattle.loc_laws_order.proofs.Tests.{same_edge_decides}
 use Rattle.loc_status.proofs.Ends.{member_place}
 use Rattle.loc_status.proofs.Standing.{chain_in_range}
+use Rattle.loc_status.specs.declared.status.Beside.{Beside}
+use Rattle.loc_status.specs.Lists.{IsBeside}
 use Rattle.loc_status.specs.Meaning as status
 use Rattle.loc_treeidx.specs.Gaps.{IsPlaceFor, IsNode}
 use Rattle.loc_treeidx.specs.Meaning.{meaning_of}
+use Rattle.loc_treeidx.proofs.Beside.{beside_seam}
 use Rattle.loc_treeidx.proofs.Standing.{is_in_member}
 
--- an insertion at the place of an edge
-pub inserts_edge : (t : Table) (e : ℕ) (old new : VersionsMeaning) (path : List (Link × Turn)) → IsPlaceFor t e old path → Inserts path e old new → status.Inserts t e (meaning_of old) (meaning_of new)
-inserts_edge t e old new path place inserts = record {
-  list = record { front = place.front; back = place.back; old_is = sym place.whole; new_is = inserts.list place.front place.back place.leads; behind = place.behind; ahead = place.ahead };
-  kept = record { sealed_lists = ap (λ lists. Some lists) inserts.sealed_lists; sealed = ap length inserts.roots };
-  inserted = inserts.inserted;
-  removed = inserts.removed;
-  past_greatest = inserts.past_greatest;
-  is_changed = inserts.is_changed;
-}
+-- what stands beside the place of an edge stands beside it then
+pub stands_beside : (t : Table) (e : ℕ) (old new : VersionsMeaning) (path : List (Link × Turn)) (beside : Beside) → IsPlaceFor t e old path beside → Inserts path e old new → IsBeside e new.list beside
+stands_beside t e old new path beside place inserts =
+    let end = place.end in
+    subst (λ es. IsBeside e es beside) (sym (inserts.list end.front end.back end.leads)) (beside_seam end.front end.back e beside end.below end.above)
 
 -- a removal of the node of an edge
 pub removes_edge : (e : ℕ) (old new : VersionsMeaning) (path : List (Link × Turn)) (at : Link) → IsNode e old path at → Removes path at old new → status.Removes e (meaning_of old) (meaning_of new)

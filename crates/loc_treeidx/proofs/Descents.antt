@@ -1,5 +1,5 @@
 -- The walk down the present tree to the place of a target, step by step.
-use Rattle.std.proofs.Common.{◌≡◌, ℕ, ◌+◌, ◌-◌, ◌^◌, ◌<◌, ◌≤◌, Bool, true, false, List, [], ◌∷◌, ◌++◌, length, get_or, refl, sym, ap, ◌∙◌, subst, arith, Option, Some, None, append_assoc, slice_get}
+use Rattle.std.proofs.Common.{◌≡◌, ℕ, ◌+◌, ◌-◌, ◌<◌, Bool, true, false, List, [], ◌∷◌, ◌++◌, length, get_or, refl, sym, ap, ◌∙◌, subst, arith, Option, Some, None, append_assoc, slice_get}
 use Rattle.std.specs.Prelude.{IfSome}
 use Rattle.std.specs.List.{All}
 use Rattle.std.proofs.lemmas.List.{length-append, get_or_append_left, get_or-append-add}
@@ -20,22 +20,18 @@ use Rattle.loc_rb.proofs.OneChange.{frame_of, live-rows, pushed}
 use Rattle.loc_rb.proofs.ReadCalls.{child-is}
 use Rattle.loc_rb.proofs.Descent.{no-tree, sided, sided-fits, before-left, after-left, before-right, after-right}
 use Rattle.loc_rb.proofs.Walks.{walk-node, walk-row, walk-short}
-use Rattle.loc_persist.specs.Meaning.{VersionsMeaning, present_nodes}
+use Rattle.loc_persist.specs.Meaning.{VersionsMeaning, IsMeaning, present_nodes}
 use Rattle.loc_persist.proofs.Trees.{present-row, present-child, present-item}
 use Rattle.loc_status.specs.Targets.{IsSearchEnd}
+use Rattle.loc_status.proofs.Ends.{at_seam}
 use Rattle.loc_treeidx.specs.Gaps.{IsLast, IsDescent, IsEnd}
-
--- the item behind a front
-pub at-front : (front : List ℕ) (x : ℕ) (back : List ℕ) → slice_get (front ++ x ∷ back) (length front) ≡ Some x
-at-front [] x back = refl
-at-front (y ∷ front) x back = at-front front x back
 
 -- the last item of a list
 pub last-snoc : (front : List ℕ) (x : ℕ) → IsLast (front ++ x ∷ []) (Some x)
 last-snoc front x =
     let n = length-append front (x ∷ []) in
     let at : length front ≡ length (front ++ x ∷ []) - 1 = omega (arith, n) in
-    record { none = λ empty. absurd (omega (arith, n, empty)); some = λ more. sym (ap (λ k. slice_get (front ++ x ∷ []) k) (sym at) ∙ at-front front x []) }
+    record { none = λ empty. absurd (omega (arith, n, empty)); some = λ more. sym (ap (λ k. slice_get (front ++ x ∷ []) k) (sym at) ∙ at_seam front (x ∷ [])) }
 
 -- the item that is read at a node is that of its tree
 item-is : (n : Nodes) (at : Link) (left : Tree) (x : ℕ) (colour : Colour) (right : Tree) (item : ℕ) → Fits (live n) (node at left x colour right) → ((y : Row) → n.rows at ≡ Some y → item ≡ y.item) → item ≡ x
@@ -59,24 +55,21 @@ reached n path at content item walk read =
 -- what holds of all items holds of it
 pub reached_all : (P : ℕ → Type 0) (n : Nodes) (path : List (Link × Turn)) (at : Link) (content : List ℕ) (item : ℕ) → Reached n path at item content → All P content → P item
 reached_all P n path at content item r all =
-    let there : slice_get content (length r.front) ≡ Some item = subst (λ xs. slice_get xs (length r.front) ≡ Some item) r.whole (at-front r.front item r.back) in
+    let there : slice_get content (length r.front) ≡ Some item = subst (λ xs. slice_get xs (length r.front) ≡ Some item) r.whole (at_seam r.front (item ∷ r.back)) in
     subst P (get_or_from_slice_get content (length r.front) item 0 there) (All-get_or P content (length r.front) 0 (slice_get_within content (length r.front) item there) all)
 
-module _ (passes : ℕ → Bool) (n : Nodes) (content : List ℕ) where
-  -- at the root
-  pub descent-start : Holds n content → IsDescent passes n content [] n.root None None
-  descent-start h = record {
-    walk = record { frames = []; tree = h.tree; spot = record { path = refl; fits = h.fits; apart = h.apart; root = h.root }; here = sym h.root; balanced = h.balanced; whole = h.list };
-    below = record { none = λ empty. refl; some = λ more. absurd (omega (arith, more)) };
-    above = refl;
-    passed = tt;
-    reached = tt;
-  }
+-- at the root
+pub descent-start : (n : Nodes) (content : List ℕ) → Holds n content → IsDescent n content [] n.root None None
+descent-start n content h = record {
+  walk = record { frames = []; tree = h.tree; spot = record { path = refl; fits = h.fits; apart = h.apart; root = h.root }; here = sym h.root; balanced = h.balanced; whole = h.list };
+  below = record { none = λ empty. refl; some = λ more. absurd (omega (arith, more)) };
+  above = refl;
+}
 
--- one node further down, to the right of an item that passes
-pub descent-right : (passes : ℕ → Bool) (n : Nodes) (content : List ℕ) (path longer : List (Link × Turn)) (at : Link) (next : Option Link) (below above : Option ℕ) (item : ℕ) → IsDescent passes n content path (Some at) below above
-    → ((y : Row) → n.rows at ≡ Some y → item ≡ y.item) → ((y : Row) → n.rows at ≡ Some y → next ≡ child_of Right y) → longer ≡ path ++ (at, Right) ∷ [] → passes item ≡ true → IsDescent passes n content longer next (Some item) above
-descent-right passes n content path longer at next below above item d read child entry pass =
+-- one node further down, to the right of an item
+pub descent-right : (n : Nodes) (content : List ℕ) (path longer : List (Link × Turn)) (at : Link) (next : Option Link) (below above : Option ℕ) (item : ℕ) → IsDescent n content path (Some at) below above
+    → ((y : Row) → n.rows at ≡ Some y → item ≡ y.item) → ((y : Row) → n.rows at ≡ Some y → next ≡ child_of Right y) → longer ≡ path ++ (at, Right) ∷ [] → IsDescent n content longer next (Some item) above
+descent-right n content path longer at next below above item d read child entry =
     let w = d.walk in
     let s = sided Right at w.tree w.here in
     let fr = frame_of (at, Right) s.item s.colour s.far in
@@ -95,14 +88,12 @@ descent-right passes n content path longer at next below above item d read child
       };
       below = subst (λ xs. IsLast xs (Some item)) front (subst (λ x. IsLast ((before w.frames ++ items s.far) ++ x ∷ []) (Some item)) same (last-snoc (before w.frames ++ items s.far) item));
       above = d.above ∙ ap (λ xs. slice_get xs 0) (sym (after-right w.frames at s.item s.colour s.far));
-      passed = pass;
-      reached = d.reached;
     }
 
--- one node further down, to the left of an item that does not pass
-pub descent-left : (passes : ℕ → Bool) (n : Nodes) (content : List ℕ) (path longer : List (Link × Turn)) (at : Link) (next : Option Link) (below above : Option ℕ) (item : ℕ) → IsDescent passes n content path (Some at) below above
-    → ((y : Row) → n.rows at ≡ Some y → item ≡ y.item) → ((y : Row) → n.rows at ≡ Some y → next ≡ child_of Left y) → longer ≡ path ++ (at, Left) ∷ [] → passes item ≡ false → IsDescent passes n content longer next below (Some item)
-descent-left passes n content path longer at next below above item d read child entry fail =
+-- one node further down, to the left of an item
+pub descent-left : (n : Nodes) (content : List ℕ) (path longer : List (Link × Turn)) (at : Link) (next : Option Link) (below above : Option ℕ) (item : ℕ) → IsDescent n content path (Some at) below above
+    → ((y : Row) → n.rows at ≡ Some y → item ≡ y.item) → ((y : Row) → n.rows at ≡ Some y → next ≡ child_of Left y) → longer ≡ path ++ (at, Left) ∷ [] → IsDescent n content longer next below (Some item)
+descent-left n content path longer at next below above item d read child entry =
     let w = d.walk in
     let s = sided Left at w.tree w.here in
     let fr = frame_of (at, Left) s.item s.colour s.far in
@@ -120,22 +111,20 @@ descent-left passes n content path longer at next below above item d read child 
       };
       below = subst (λ xs. IsLast xs below) (sym (before-left w.frames at s.item s.colour s.far)) d.below;
       above = ap Some same ∙ ap (λ xs. slice_get xs 0) (sym (after-left w.frames at s.item s.colour s.far));
-      passed = d.passed;
-      reached = fail;
     }
 
 -- what a walk over versions knows of the node that it has reached
-module _ (passes : ℕ → Bool) (m : VersionsMeaning) (path : List (Link × Turn)) (next : Option Link) (at : Link) (lower upper : Option ℕ) (d : IsDescent passes (present_nodes m) m.list path next lower upper) (is : next ≡ Some at) where
-  here : IsDescent passes (present_nodes m) m.list path (Some at) lower upper
-  here = subst (λ o. IsDescent passes (present_nodes m) m.list path o lower upper) is d
+module _ (m : VersionsMeaning) (path : List (Link × Turn)) (next : Option Link) (at : Link) (lower upper : Option ℕ) (d : IsDescent (present_nodes m) m.list path next lower upper) (is : next ≡ Some at) where
+  here : IsDescent (present_nodes m) m.list path (Some at) lower upper
+  here = subst (λ o. IsDescent (present_nodes m) m.list path o lower upper) is d
 
-  -- it has a row, and the path to it is short
+  -- it has a row
   pub here_row : has m.rows at ≡ true
   here_row = present-row m at (walk-row (present_nodes m) path at m.list here.walk)
 
-  -- in a list of at most 2 ^ 21 items the path is short
-  pub here_short : length m.list ≤ 2 ^ 21 → length path < 42
-  here_short small = walk-short (present_nodes m) path at m.list here.walk small
+  -- the path is short
+  pub here_short : IsMeaning m → length path < 42
+  here_short facts = walk-short (present_nodes m) path at m.list here.walk facts.small
 
   module _ (item : ℕ) (read : item ≡ (pool.row m.rows at).item) where
     -- its place in the list
@@ -146,13 +135,13 @@ module _ (passes : ℕ → Bool) (m : VersionsMeaning) (path : List (Link × Tur
     pub here_all : (P : ℕ → Type 0) → All P m.list → P item
     here_all P all = reached_all P (present_nodes m) path at m.list item here_item all
 
-    -- one node further down, to the right of an item that passes
-    pub here_right : (longer : List (Link × Turn)) (child : Option Link) → child ≡ pool.child_at (length m.roots) Right (pool.row m.rows at) → longer ≡ path ++ (at, Right) ∷ [] → passes item ≡ true → IsDescent passes (present_nodes m) m.list longer child (Some item) upper
-    here_right longer child below entry pass = descent-right passes (present_nodes m) m.list path longer at child lower upper item here (present-item m at item read) (present-child m at Right child below) entry pass
+    -- one node further down, to the right of it
+    pub here_right : (longer : List (Link × Turn)) (child : Option Link) → child ≡ pool.child_at (length m.roots) Right (pool.row m.rows at) → longer ≡ path ++ (at, Right) ∷ [] → IsDescent (present_nodes m) m.list longer child (Some item) upper
+    here_right longer child below entry = descent-right (present_nodes m) m.list path longer at child lower upper item here (present-item m at item read) (present-child m at Right child below) entry
 
-    -- to the left of an item that does not pass
-    pub here_left : (longer : List (Link × Turn)) (child : Option Link) → child ≡ pool.child_at (length m.roots) Left (pool.row m.rows at) → longer ≡ path ++ (at, Left) ∷ [] → passes item ≡ false → IsDescent passes (present_nodes m) m.list longer child lower (Some item)
-    here_left longer child below entry fail = descent-left passes (present_nodes m) m.list path longer at child lower upper item here (present-item m at item read) (present-child m at Left child below) entry fail
+    -- to the left of it
+    pub here_left : (longer : List (Link × Turn)) (child : Option Link) → child ≡ pool.child_at (length m.roots) Left (pool.row m.rows at) → longer ≡ path ++ (at, Left) ∷ [] → IsDescent (present_nodes m) m.list longer child lower (Some item)
+    here_left longer child below entry = descent-left (present_nodes m) m.list path longer at child lower upper item here (present-item m at item read) (present-child m at Left child below) entry
 
 -- a path with one more entry is nearer to its greatest length
 pub nearer : (path longer : List (Link × Turn)) (entry : Link × Turn) → longer ≡ path ++ entry ∷ [] → length path < 42 → 44 - length longer < 44 - length path
@@ -170,7 +159,7 @@ first-fails passes front back first is_first fail more =
     subst (λ k. passes (get_or (front ++ back) k 0) ≡ false) here (subst (λ x. passes x ≡ false) (sym (get_or-append-add front back 0 0)) (subst (λ o. IfSome o (λ item. passes item ≡ false)) (is_first ∙ slice_get-get_or back 0 0 more) fail))
 
 -- a search by the test ends between the two
-pub search_end : (passes : ℕ → Bool) (front back content : List ℕ) (last first : Option ℕ) → front ++ back ≡ content → IsLast front last → first ≡ slice_get back 0 → IfSome last (λ item. passes item ≡ true) → IfSome first (λ item. passes item ≡ false) → IsSearchEnd passes content (length front)
+search_end : (passes : ℕ → Bool) (front back content : List ℕ) (last first : Option ℕ) → front ++ back ≡ content → IsLast front last → first ≡ slice_get back 0 → IfSome last (λ item. passes item ≡ true) → IfSome first (λ item. passes item ≡ false) → IsSearchEnd passes content (length front)
 search_end passes front back content last first whole is_last is_first pass fail =
     let n = length-append front back in
     subst (λ xs. IsSearchEnd passes xs (length front)) whole (record {
@@ -180,19 +169,17 @@ search_end passes front back content last first whole is_last is_first pass fail
     })
 
 -- the end of the walk
-pub descent-end : (passes : ℕ → Bool) (n : Nodes) (content : List ℕ) (path : List (Link × Turn)) (lower upper : Option ℕ) → IsDescent passes n content path None lower upper → IsEnd passes n content path lower upper
-descent-end passes n content path lower upper d =
+pub descent-end : (n : Nodes) (content : List ℕ) (path : List (Link × Turn)) (lower upper : Option ℕ) → IsDescent n content path None lower upper → IsEnd n content path lower upper
+descent-end n content path lower upper d =
     let w = d.walk in
     let e = no-tree w.tree w.here in
-    let whole : before w.frames ++ after w.frames ≡ content = sym (items-plug w.frames leaf) ∙ ap (λ t. items (plug w.frames t)) (sym e) ∙ w.whole in
     record {
       front = before w.frames;
       back = after w.frames;
       leads = record { frames = w.frames; spot = subst (λ (t : Tree). Spot n path w.frames t) e w.spot; balanced = subst (λ (t : Tree). IsRedBlack (plug w.frames t)) e w.balanced; low = refl; high = refl };
-      whole = whole;
+      whole = sym (items-plug w.frames leaf) ∙ ap (λ t. items (plug w.frames t)) (sym e) ∙ w.whole;
       below = d.below;
       above = d.above;
-      end = search_end passes (before w.frames) (after w.frames) content lower upper whole d.below d.above d.passed d.reached;
     }
 
 -- what stands at the end of a front
@@ -203,20 +190,15 @@ last_there front back last is_last more =
     let inside : length front - 1 < length (front ++ back) = omega (arith, n, less) in
     is_last.some more ∙ (slice_get-get_or front (length front - 1) 0 less ∙ (ap Some (sym (get_or_append_left front back 0 (length front - 1) less)) ∙ sym (slice_get-get_or (front ++ back) (length front - 1) 0 inside)))
 
--- and behind it
-pub first_behind : (front back : List ℕ) → slice_get (front ++ back) (length front) ≡ slice_get back 0
-first_behind [] back = refl
-first_behind (x ∷ front) back = first_behind front back
-
-module _ (passes : ℕ → Bool) (n : Nodes) (content : List ℕ) (path : List (Link × Turn)) (lower upper : Option ℕ) (e : IsEnd passes n content path lower upper) where
+module _ (n : Nodes) (content : List ℕ) (path : List (Link × Turn)) (lower upper : Option ℕ) (e : IsEnd n content path lower upper) where
   -- the items beside the gap, by their places in the list
   pub above_there : upper ≡ slice_get content (length e.front)
-  above_there = e.above ∙ (sym (first_behind e.front e.back) ∙ ap (λ xs. slice_get xs (length e.front)) e.whole)
+  above_there = e.above ∙ (sym (at_seam e.front e.back) ∙ ap (λ xs. slice_get xs (length e.front)) e.whole)
 
   -- the item just below stands before the end of the front
   pub below_there : 0 < length e.front → lower ≡ slice_get content (length e.front - 1)
   below_there more = last_there e.front e.back lower e.below more ∙ ap (λ xs. slice_get xs (length e.front - 1)) e.whole
 
-  -- or there is none
-  pub none_below : length e.front ≡ 0 → lower ≡ None
-  none_below = e.below.none
+  -- a search by a test that parts the two ends there
+  pub search_there : (passes : ℕ → Bool) → IfSome lower (λ item. passes item ≡ true) → IfSome upper (λ item. passes item ≡ false) → IsSearchEnd passes content (length e.front)
+  search_there passes pass fail = search_end passes e.front e.back content lower upper e.whole e.below e.above pass fail

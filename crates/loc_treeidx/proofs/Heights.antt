@@ -1,5 +1,5 @@
 -- How far it is down from a node of the present tree: what falls on a walk that keeps no path.
-use Rattle.std.proofs.Common.{◌≡◌, ℕ, zero, suc, ◌+◌, ◌^◌, ◌<◌, ◌≤◌, Bool, List, length, refl, ap, ◌∙◌, sym, arith, Option, Some, None, max}
+use Rattle.std.proofs.Common.{◌≡◌, ℕ, zero, suc, ◌+◌, ◌<◌, ◌≤◌, List, length, refl, ap, ◌∙◌, sym, arith, Option, Some, None, max}
 use Rattle.loc_pool.specs.declared.Link.{Link}
 use Rattle.loc_pool.specs.declared.Turn.{Turn}
 use Rattle.loc_pool.specs.Rows as pool
@@ -9,7 +9,7 @@ use Rattle.loc_rb.specs.Balance.{depth}
 use Rattle.loc_rb.proofs.Trees.{fits-end}
 use Rattle.loc_rb.proofs.Descent.{at-most-42, depth-plug}
 use Rattle.loc_rb.proofs.Walks.{child-tree}
-use Rattle.loc_persist.specs.Meaning.{VersionsMeaning, present_nodes}
+use Rattle.loc_persist.specs.Meaning.{VersionsMeaning, IsMeaning, present_nodes}
 use Rattle.loc_persist.proofs.Trees.{present-child}
 use Rattle.loc_treeidx.specs.Gaps.{IsDescent}
 
@@ -36,13 +36,14 @@ height-is n (node l a x c b) (suc deep) fits within =
     ap (λ o. tall o (height deep n)) fits.0 ∙ (λ i. max (left i) (right i) + 1)
 
 -- on a walk over versions it falls from a node to its child
-pub here_lower : (passes : ℕ → Bool) (m : VersionsMeaning) (path : List (Link × Turn)) (next : Option Link) (at : Link) (below above : Option ℕ) → IsDescent passes (present_nodes m) m.list path next below above → next ≡ Some at → length m.list ≤ 2 ^ 21
+pub here_lower : (m : VersionsMeaning) (path : List (Link × Turn)) (next : Option Link) (at : Link) (below above : Option ℕ) → IsDescent (present_nodes m) m.list path next below above → next ≡ Some at → IsMeaning m
     → (turn : Turn) (child : Option Link) → child ≡ pool.child_at (length m.roots) turn (pool.row m.rows at) → height 42 (present_nodes m) child < height 42 (present_nodes m) next
-here_lower passes m path next at below above d is small turn child read =
+here_lower m path next at below above d is facts turn child read =
     let n = present_nodes m in
     let w = d.walk in
     let fits = fits-end (live n) w.frames w.tree w.spot.fits in
     let whole = ap length w.whole in
+    let small = facts.small in
     let shallow = at-most-42 (plug w.frames w.tree) w.balanced (omega (arith, whole, small)) in
     let under = depth-plug w.frames w.tree in
     let within : depth w.tree ≤ 42 = omega (arith, shallow, under) in

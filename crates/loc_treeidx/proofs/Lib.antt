@@ -4,5 +4,5 @@ pub mod Descents
 pub mod Halving
 pub mod Heights
 pub mod Searching
-pub mod Seeking
 pub mod Standing
+pub mod Ways

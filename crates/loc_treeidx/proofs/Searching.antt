@@ -23,8 +23,9 @@ use Rattle.loc_spec_plane.specs.Places.{alive, is_edge, IsCornerless, IsListAt, 
 use Rattle.loc_place.specs.Planar.{IsPlanar}
 use Rattle.loc_place.proofs.Cornerless.{lies_on_is}
 use Rattle.loc_place.proofs.Listed.{listed_alive, in_area}
+use Rattle.loc_status.proofs.Ends.{at_seam}
 use Rattle.loc_treeidx.specs.Gaps.{IsLast}
-use Rattle.loc_treeidx.proofs.Descents.{at-front, last-snoc, last-passes, last_there}
+use Rattle.loc_treeidx.proofs.Descents.{last-snoc, last-passes, last_there}
 
 -- a node of a tree that stands in a version, with the trees of its children
 pub record NodeThere (version : ℕ) (rows : Map Row) (tree : Tree) (at : Link) : Type 0 where
@@ -151,7 +152,7 @@ module _ (t : Table) (p : Point) (m : VersionsMeaning) (version : ℕ) (list : L
         pub search-edge : IsListAt t p list → (item < length t.ends) × (alive (edge t item) p ≡ true)
         search-edge is_list =
             let place = length (s.front ++ items reached.left) in
-            let there : slice_get list place ≡ Some item = subst (λ es. slice_get es place ≡ Some item) around (at-front (s.front ++ items reached.left) item (items reached.right ++ s.back)) in
+            let there : slice_get list place ≡ Some item = subst (λ es. slice_get es place ≡ Some item) around (at_seam (s.front ++ items reached.left) (item ∷ (items reached.right ++ s.back))) in
             subst (λ e. (e < length t.ends) × (alive (edge t e) p ≡ true)) (get_or_from_slice_get list place item 0 there) (listed_alive t p list is_list place (slice_get_within list place item there))
 
         -- where p is on its line, p lies on it

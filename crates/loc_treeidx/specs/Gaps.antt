@@ -1,5 +1,5 @@
--- Where a walk down the present tree has come, and where it ends: `IsDescent`, `IsGap`, `IsBeside`, `IsPlaceFor` and `IsNode`.
-use Rattle.std.specs.Prelude.{◌≡◌, ℕ, ◌-◌, ◌<◌, Bool, true, false, List, ◌∷◌, ◌++◌, length, Option, None, IfSome, slice_get}
+-- Where a walk down the present tree has come, and where it ends: `IsDescent`, `HangsBetween`, `IsWay`, `IsEnd`, `IsPlaceFor` and `IsNode`.
+use Rattle.std.specs.Prelude.{◌≡◌, ◌≢◌, ℕ, ◌-◌, ◌<◌, Bool, true, false, List, ◌∷◌, ◌++◌, length, Option, None, Some, IfSome, slice_get}
 use Rattle.loc_pool.specs.declared.Link.{Link}
 use Rattle.loc_pool.specs.declared.Turn.{Turn}
 use Rattle.loc_rb.specs.Trees.{before, after}
@@ -7,50 +7,46 @@ use Rattle.loc_rb.specs.Nodes.{Nodes}
 use Rattle.loc_rb.specs.Places.{LeadsToGap, LeadsTo, Walk}
 use Rattle.loc_persist.specs.Meaning.{VersionsMeaning, present_nodes}
 use Rattle.loc_spec_plane.specs.Tables.{Table}
+use Rattle.loc_status.specs.declared.status.Beside.{Beside}
 use Rattle.loc_status.specs.Lists.{GoesAbove, GoesBelow}
-use Rattle.loc_status.specs.Targets.{IsSearchEnd}
-use Rattle.loc_treeidx.specs.declared.walk.Gap.{Gap}
-use Rattle.loc_treeidx.specs.declared.walk.Beside.{Beside}
+use Rattle.loc_treeidx.specs.declared.walk.Way.{Way}
 
 -- the last member of a list, or none
 pub record IsLast (list : List ℕ) (last : Option ℕ) : Type 0 where
   pub none : length list ≡ 0 → last ≡ None
   pub some : 0 < length list → last ≡ slice_get list (length list - 1)
 
--- a walk down the tree that has these items, with the items just below and just above what hangs at its end; the first passes the test, the second does not
-pub record IsDescent (passes : ℕ → Bool) (nodes : Nodes) (content : List ℕ) (path : List (Link × Turn)) (next : Option Link) (lower upper : Option ℕ) : Type 0 where
+-- a walk down the tree that has these items, with the items just below and just above what hangs at its end
+pub record IsDescent (nodes : Nodes) (content : List ℕ) (path : List (Link × Turn)) (next : Option Link) (lower upper : Option ℕ) : Type 0 where
   pub walk : Walk nodes path next content
   pub below : IsLast (before walk.frames) lower
   pub above : upper ≡ slice_get (after walk.frames) 0
-  pub passed : IfSome lower (λ item. passes item ≡ true)
-  pub reached : IfSome upper (λ item. passes item ≡ false)
 
--- the path leads to a missing child, which parts the list where a search by the test ends, between these items
-pub record IsEnd (passes : ℕ → Bool) (nodes : Nodes) (content : List ℕ) (path : List (Link × Turn)) (lower upper : Option ℕ) : Type 0 where
+-- what hangs at the end of some path in the present tree stands between these items
+abbrev pub HangsBetween : VersionsMeaning → Option Link → Option ℕ → Option ℕ → Type 0
+HangsBetween m next lower upper = (path : List (Link × Turn)) × IsDescent (present_nodes m) m.list path next lower upper
+
+-- a way down the present tree between items that pass the test and items that do not; it did not turn left at the item where it is told to stop
+pub record IsWay (passes : ℕ → Bool) (stop : Option ℕ) (m : VersionsMeaning) (way : Way) : Type 0 where
+  pub descent : IsDescent (present_nodes m) m.list way.path.items way.next way.beside.below way.beside.above
+  pub passed : IfSome way.beside.below (λ item. passes item ≡ true)
+  pub reached : IfSome way.beside.above (λ item. passes item ≡ false)
+  pub apart : (item : ℕ) → stop ≡ Some item → way.beside.above ≢ Some item
+
+-- the path leads to a missing child, which parts the list between these items
+pub record IsEnd (nodes : Nodes) (content : List ℕ) (path : List (Link × Turn)) (lower upper : Option ℕ) : Type 0 where
   pub front : List ℕ
   pub back : List ℕ
   pub leads : LeadsToGap nodes path front back
   pub whole : front ++ back ≡ content
   pub below : IsLast front lower
   pub above : upper ≡ slice_get back 0
-  pub end : IsSearchEnd passes content (length front)
-
--- the same in the present tree
-abbrev pub IsGap : (ℕ → Bool) → VersionsMeaning → Gap → Type 0
-IsGap passes m gap = IsEnd passes (present_nodes m) m.list gap.path.items gap.below gap.above
-
--- these items stand beside the missing child where some path ends
-abbrev pub IsBeside : (ℕ → Bool) → VersionsMeaning → Beside → Type 0
-IsBeside passes m found = (path : List (Link × Turn)) × IsEnd passes (present_nodes m) m.list path found.below found.above
 
 -- the path leads to a missing child of the present tree, between the edges that edge e is above and those that it is below
-pub record IsPlaceFor (t : Table) (e : ℕ) (m : VersionsMeaning) (path : List (Link × Turn)) : Type 0 where
-  pub front : List ℕ
-  pub back : List ℕ
-  pub leads : LeadsToGap (present_nodes m) path front back
-  pub whole : front ++ back ≡ m.list
-  pub behind : GoesAbove t e front
-  pub ahead : GoesBelow t e back
+pub record IsPlaceFor (t : Table) (e : ℕ) (m : VersionsMeaning) (path : List (Link × Turn)) (beside : Beside) : Type 0 where
+  pub end : IsEnd (present_nodes m) m.list path beside.below beside.above
+  pub behind : GoesAbove t e end.front
+  pub ahead : GoesBelow t e end.back
 
 -- the path leads to the node of an edge
 pub record IsNode (edge : ℕ) (m : VersionsMeaning) (path : List (Link × Turn)) (at : Link) : Type 0 where

@@ -2,4 +2,3 @@ pub mod Gaps
 pub mod Meaning
 pub mod Standing
 pub mod Steps
-pub mod Targets

@@ -6,7 +6,6 @@ pub mod laws;
 mod neighbours;
 mod node;
 mod places;
-mod targets;
 #[cfg(test)]
 mod tests;
 mod tree_index;

@@ -1,53 +1,50 @@
-// The neighbours of an edge in the present tree, by its lower end, or else by its upper one.
+// The neighbours of an edge of the present tree, from what hangs at its node and what the walk to it passed.
 
-ghost use Rattle.std.specs.Prelude.{◌≡◌, ◌<◌, ◌^◌, IsTrue, length, Some};
-ghost use Rattle.loc_spec_plane.specs.Lists.{is_in};
-ghost use Rattle.loc_status.specs.Lists.{IsNextBelow, IsNextAbove, IsSearchable};
+ghost use Rattle.std.specs.Prelude.{Some};
+ghost use Rattle.loc_status.specs.Lists.{IsNextBelow, IsNextAbove};
+ghost use Rattle.loc_treeidx.specs.Gaps.{HangsBetween};
 
-use crate::targets::Target;
-use crate::walk::walk_beside;
-use loc_edges::Ranks;
 use loc_persist::Versions;
+use loc_pool::{Link, Turn};
 
-// Whether the edge was found.
-fn is_found(found: Option<u32>, edge: u32) -> bool
-    ensures yes { IsTrue result → found ≡ Some edge }
-    ensures no { found ≡ Some edge → IsTrue result }
-{
-    match found {
-        None => false,
-        Some(here) => here == edge,
-    }
-}
-
-// The edge just below an edge of the list, or none where it is the lowest.
-pub(crate) fn next_below(versions: &Versions, ranks: &Ranks<'_>, edge: u32) -> Option<u32>
-    requires in_range { edge < length ranks.now.ends }
-    requires listed { IsTrue (is_in edge versions.now.list) }
-    requires searchable { IsSearchable ranks.now edge versions.now.list }
+// The edge just below an edge: the last of its left tree, or else the last one before that.
+pub(crate) fn next_below(
+    versions: &Versions,
+    edge: u32,
+    left: Option<Link>,
+    before: Option<u32>,
+) -> Option<u32>
+    requires { HangsBetween versions.now left before (Some edge) }
     ensures { IsNextBelow edge versions.now.list result }
 {
-    ranks.law();
-    let begin = walk_beside(versions, ranks, Target::Begin(edge));
-    if is_found(begin.above, edge) {
-        return begin.below;
+    // tells that the present tree is red-black
+    let _sealed = versions.sealed();
+    let mut below = before;
+    let mut next = left;
+    'down: while let Some(at) = next {
+        below = Some(versions.item(at));
+        next = versions.newest_child(at, Turn::Right);
     }
-    let end = walk_beside(versions, ranks, Target::End(edge));
-    end.below
+    below
 }
 
-// The edge just above an edge of the list, or none where it is the highest.
-pub(crate) fn next_above(versions: &Versions, ranks: &Ranks<'_>, edge: u32) -> Option<u32>
-    requires in_range { edge < length ranks.now.ends }
-    requires listed { IsTrue (is_in edge versions.now.list) }
-    requires searchable { IsSearchable ranks.now edge versions.now.list }
+// The edge just above an edge: the first of its right tree, or else the first one behind that.
+pub(crate) fn next_above(
+    versions: &Versions,
+    edge: u32,
+    right: Option<Link>,
+    behind: Option<u32>,
+) -> Option<u32>
+    requires { HangsBetween versions.now right (Some edge) behind }
     ensures { IsNextAbove edge versions.now.list result }
 {
-    ranks.law();
-    let begin = walk_beside(versions, ranks, Target::PastBegin(edge));
-    if is_found(begin.below, edge) {
-        return begin.above;
+    // tells that the present tree is red-black
+    let _sealed = versions.sealed();
+    let mut above = behind;
+    let mut next = right;
+    'down: while let Some(at) = next {
+        above = Some(versions.item(at));
+        next = versions.newest_child(at, Turn::Left);
     }
-    let end = walk_beside(versions, ranks, Target::PastEnd(edge));
-    end.above
+    above
 }

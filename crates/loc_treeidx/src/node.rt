@@ -1,38 +1,33 @@
 // The node of an edge in the present tree.
 
-ghost use Rattle.std.specs.Prelude.{◌-◌, ◌<◌, ◌^◌, IsTrue, length};
+ghost use Rattle.std.specs.Prelude.{◌-◌, ◌<◌, IsTrue, length};
 ghost use Rattle.loc_spec_plane.specs.Lists.{is_in};
 ghost use Rattle.loc_spec_plane.specs.Tables.{hi_of};
-ghost use Rattle.loc_status.specs.Lists.{is_chain_at};
+ghost use Rattle.loc_status.specs.Lists.{is_chain_at, IsBeside};
 ghost use Rattle.loc_treeidx.specs.Gaps.{IsNode};
 
-use crate::targets::{Target, turn_to};
-use crate::walk::push;
+use crate::neighbours::{next_above, next_below};
+use crate::walk::walk_to;
 use loc_edges::Ranks;
 use loc_persist::Versions;
-use loc_pool::Link;
+use loc_pool::{Link, Turn};
 use loc_rb::Path;
+use loc_status::{Beside, Target};
 
-// The way down to the node of an edge, in a chain at the corner before its upper end.
-pub(crate) fn node_of(versions: &Versions, ranks: &Ranks<'_>, edge: u32) -> (Path, Link)
+// The way down to the node of an edge, in a chain at the corner before its upper end, and the edges beside it.
+pub(crate) fn node_of(versions: &Versions, ranks: &Ranks<'_>, edge: u32) -> (Path, Link, Beside)
     requires in_range { edge < length ranks.now.ends }
     requires chain { IsTrue (is_chain_at ranks.now (hi_of ranks.now edge - 1) versions.now.list) }
     requires listed { IsTrue (is_in edge versions.now.list) }
-    ensures { IsNode edge versions.now result.0.items result.1 }
+    ensures node { IsNode edge versions.now result.0.items result.1 }
+    ensures beside { IsBeside edge versions.now.list result.2 }
 {
     ranks.law();
-    // tells that the present tree is red-black
-    let _sealed = versions.sealed();
-    let mut path = Path::new();
-    let mut next = versions.newest_root();
-    'down: while let Some(at) = next {
-        let here = versions.item(at);
-        if here == edge {
-            return (path, at);
-        }
-        let turn = turn_to(ranks, Target::End(edge), here);
-        next = versions.newest_child(at, turn);
-        push(&mut path, at, turn);
-    }
-    unreachable!()
+    let way = walk_to(versions, ranks, Target::End(edge), Some(edge));
+    let Some(at) = way.next else { unreachable!() };
+    let left = versions.newest_child(at, Turn::Left);
+    let below = next_below(versions, edge, left, way.beside.below);
+    let right = versions.newest_child(at, Turn::Right);
+    let above = next_above(versions, edge, right, way.beside.above);
+    (way.path, at, Beside { below, above })
 }

@@ -1,16 +1,17 @@
-//! Layers swept by hand: the floors are those of a status without a tree, and the places of points are found.
+//! Layers swept by hand: the floors and the faults are those of a status without a tree, and the places of points are found.
 
 ghost use Rattle.std.specs.Prelude.{◌≡◌, ◌<◌, IfOk};
 ghost use Rattle.loc_rings.specs.Values.{IsRing};
+ghost use Rattle.loc_status.specs.Meaning.{IsFresh};
 
 use crate::TreeIndex;
 use crate::laws::swept_stands;
 use loc_edges::EdgeTable;
-use loc_geom::{Point, Steps};
+use loc_geom::{Meeting, Point, Steps};
 use loc_place::{Locator, Place};
 use loc_rings::{Feature, Layer, Rings};
-use loc_status::VecStatus;
-use loc_sweep::sweep;
+use loc_status::{Status, VecStatus};
+use loc_sweep::{SweepFault, sweep};
 use std::alloc::Global;
 use std::marker::Brand;
 use std::process::Abort;
@@ -22,6 +23,19 @@ type Points = &'static [(i64, i64)];
 const SQUARE: Points = &[(0, 0), (40, 0), (40, 40), (0, 40), (0, 0)];
 
 const HOLE: Points = &[(10, 10), (10, 30), (30, 30), (30, 10), (10, 10)];
+
+const INNER: Points = &[(10, 10), (20, 10), (20, 20), (10, 20), (10, 10)];
+
+const BOW_TIE: Points = &[(0, 0), (40, 40), (40, 0), (0, 40), (0, 0)];
+
+const BESIDE: Points = &[(40, 0), (60, 0), (60, 20), (40, 20), (40, 0)];
+
+// Two triangles that cross, and one that lies between their edges where these begin.
+const RISING: Points = &[(0, 0), (40, 40), (20, 0), (0, 0)];
+
+const FALLING: Points = &[(0, 40), (40, 0), (20, 40), (0, 40)];
+
+const BETWEEN: Points = &[(-5, 19), (5, 20), (-5, 21), (-5, 19)];
 
 // Bars one over another, with gaps between them.
 const FIRST_BAR: Points = &[(0, 0), (40, 0), (40, 5), (0, 5), (0, 0)];
@@ -37,7 +51,7 @@ const FIFTH_BAR: Points = &[(0, 40), (40, 40), (40, 45), (0, 45), (0, 40)];
 const SIXTH_BAR: Points = &[(0, 50), (40, 50), (40, 55), (0, 55), (0, 50)];
 
 // Layers of features of one ring, the places of points in them, and how many nodes their sweep makes.
-const ROWS: [(&[Points], &[(i64, i64, Place)], u32); 4] = [
+const ROWS: [(&[Points], &[(i64, i64, Place)], u32); 5] = [
     (&[], &[(0, 0, Place::Area(None))], 0),
     (&[SQUARE], &[(20, 20, Place::Area(Some(1)))], 4),
     (
@@ -55,6 +69,17 @@ const ROWS: [(&[Points], &[(i64, i64, Place)], u32); 4] = [
             (-1, 0, Place::Area(None)),
             (40, 41, Place::Area(None)),
             (10, 10, Place::Corner(2)),
+        ],
+        16,
+    ),
+    (
+        &[SQUARE, INNER],
+        &[
+            (15, 15, Place::Area(Some(4))),
+            (30, 30, Place::Area(Some(1))),
+            (15, 30, Place::Area(Some(5))),
+            (20, 15, Place::Border(6)),
+            (20, 20, Place::Corner(5)),
         ],
         16,
     ),
@@ -78,6 +103,34 @@ const ROWS: [(&[Points], &[(i64, i64, Place)], u32); 4] = [
             (40, 55, Place::Corner(23)),
         ],
         54,
+    ),
+];
+
+// Layers of features of one ring, and the two edges of which a sweep shows that they conflict.
+const FAULTS: [(&[Points], SweepFault); 3] = [
+    (
+        &[BOW_TIE],
+        SweepFault::Conflict {
+            a: 1,
+            b: 2,
+            meeting: Meeting::Cross,
+        },
+    ),
+    (
+        &[BESIDE, SQUARE],
+        SweepFault::Conflict {
+            a: 3,
+            b: 4,
+            meeting: Meeting::Touch,
+        },
+    ),
+    (
+        &[RISING, FALLING, BETWEEN],
+        SweepFault::Conflict {
+            a: 4,
+            b: 6,
+            meeting: Meeting::Cross,
+        },
     ),
 ];
 
@@ -156,6 +209,29 @@ fn places_by_hand(rt: HostRuntime) -> Result<(), Fail> {
         assert_eq!(rt; index.versions().nodes(), nodes);
         swept_stands(&table, &index);
         expect::<TreeIndex, Brand>(&rt, &index, &table, wanted, Blank::new(1));
+    }
+    Ok(())
+}
+
+// What a sweep shows.
+fn shown<S: Status>(alloc: Global, table: &EdgeTable, status: S) -> Option<SweepFault>
+    requires fresh { IsFresh (S.meaning status) }
+{
+    match sweep(alloc, table, status) {
+        Ok(_) => None,
+        Err(fault) => Some(fault),
+    }
+}
+
+#[test]
+fn faults_by_hand(rt: HostRuntime) -> Result<(), Fail> {
+    for (rows, fault) in FAULTS {
+        let layer = layer_of(rt.alloc(), rows)?;
+        let table = EdgeTable::make(rt.alloc(), &layer)?;
+        let tree = TreeIndex::new(rt.alloc());
+        assert_eq!(rt; shown(rt.alloc(), &table, tree), Some(fault));
+        let list = VecStatus::new(rt.alloc());
+        assert_eq!(rt; shown(rt.alloc(), &table, list), Some(fault));
     }
     Ok(())
 }

@@ -10,17 +10,15 @@ ghost use Rattle.loc_treeidx.specs.Meaning.{meaning_of};
 ghost use Rattle.loc_treeidx.specs.Standing.{AreVersionsOf};
 ghost use Rattle.loc_treeidx.specs.Steps.{alive_count, search_bound, most_steps};
 
-use crate::neighbours::{next_above, next_below};
 use crate::node::node_of;
 use crate::places::place_for;
-use crate::targets::Target;
 use crate::version::search_behind;
-use crate::walk::walk_beside;
+use crate::walk::walk_to;
 use loc_edges::{Ranks, Views};
 use loc_geom::{Point, Steps};
 use loc_persist::Versions;
 use loc_place::{Deep, Locator, Place, Standing, search_corners};
-use loc_status::{InsertFault, Status};
+use loc_status::{Beside, InsertFault, Status, Target};
 use std::alloc::{AllocError, Global};
 use std::marker::Model;
 use std::sync::ledger::Ledger;
@@ -62,31 +60,25 @@ impl TreeIndex {
 impl Status for TreeIndex {
     ghost meaning = { meaning_of };
 
-    fn insert(&mut self, ranks: &Ranks<'_>, edge: u32) -> Result<(), InsertFault> {
+    fn insert(&mut self, ranks: &Ranks<'_>, edge: u32) -> Result<Beside, InsertFault> {
         ranks.law();
-        let path = place_for(&self.versions, ranks, edge)?;
-        match self.versions.insert_at(path, edge) {
+        let way = place_for(&self.versions, ranks, edge)?;
+        let beside = way.beside;
+        match self.versions.insert_at(way.path, edge) {
             Err(AllocError) => Err(InsertFault::NoMemory),
-            Ok(()) => Ok(()),
+            Ok(()) => Ok(beside),
         }
     }
 
-    fn remove(&mut self, ranks: &Ranks<'_>, edge: u32) -> Result<(), AllocError> {
-        let (path, at) = node_of(&self.versions, ranks, edge);
+    fn remove(&mut self, ranks: &Ranks<'_>, edge: u32) -> Result<Beside, AllocError> {
+        let (path, at, beside) = node_of(&self.versions, ranks, edge);
         self.versions.remove_at(path, at)?;
-        Ok(())
-    }
-
-    fn below(&self, ranks: &Ranks<'_>, edge: u32) -> Option<u32> {
-        next_below(&self.versions, ranks, edge)
-    }
-
-    fn above(&self, ranks: &Ranks<'_>, edge: u32) -> Option<u32> {
-        next_above(&self.versions, ranks, edge)
+        Ok(beside)
     }
 
     fn floor(&self, ranks: &Ranks<'_>, corner: u32) -> Option<u32> {
-        walk_beside(&self.versions, ranks, Target::Corner(corner)).below
+        let way = walk_to(&self.versions, ranks, Target::Corner(corner), None);
+        way.beside.below
     }
 
     fn seal(&mut self) -> Result<(), AllocError> {

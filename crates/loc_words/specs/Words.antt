@@ -1,10 +1,12 @@
 -- The command that a list of words is: the rows of the commands, what each makes of the words that are given for its row, and
 -- `command_of` for the whole list.
-use Rattle.std.specs.Prelude.{ℕ, ◌≤◌, ◌^◌, ◌&&◌, List, [], ◌∷◌, length, codes, map, nat_lt, nat_le, if◌then◌else◌, Option, Some, None, option_map, option_and_then}
+use Rattle.std.specs.Prelude.{ℕ, ◌≤◌, ◌^◌, ◌&&◌, List, [], ◌∷◌, ◌++◌, length, codes, map, nat_lt, nat_le, if◌then◌else◌, Option, Some, None, option_map, option_and_then}
 use Rattle.std.specs.Char.{is_ascii_digit}
 use Rattle.std.specs.List.{list_all}
 use Rattle.std.specs.Str.{bytes_eq}
 use Rattle.std.specs.Str.Parse.{digits_value}
+use Rattle.loc_spec_plane.specs.declared.Index.{Index}
+use Rattle.loc_spec_plane.specs.declared.Index.TheVariants.{Scan, Tree}
 use Rattle.loc_spec_text.specs.declared.Form.{Form}
 use Rattle.loc_spec_text.specs.declared.Form.TheVariants.{Lines, Csv}
 use Rattle.loc_words.specs.Rows.{Text, CommandRow, OptionRow, Entry, given_of, value_in}
@@ -20,6 +22,7 @@ pub record AskedQuery : Type 0 where
   pub points : Text
   pub scale : ℕ
   pub form : Form
+  pub index : Index
 
 -- what a check says
 pub record AskedCheck : Type 0 where
@@ -34,7 +37,7 @@ pub data Asked : Type 0 where
 
 -- what a command says
 abbrev pub asked_by : Command → Asked
-asked_by (Query q) = query (record { layer = q.layer.now; points = q.points.now; scale = q.scale; form = q.form })
+asked_by (Query q) = query (record { layer = q.layer.now; points = q.points.now; scale = q.scale; form = q.form; index = q.index })
 asked_by (Check c) = check (record { layer = c.layer.now; scale = c.scale; form = c.form })
 
 -- the scale of a command is one that coordinates can have
@@ -72,13 +75,26 @@ form_or_lines (Some word) = form_word word
 abbrev pub scale_and_form : Option Text → Option Text → Option (ℕ × Form)
 scale_and_form scale form = option_and_then (λ number. option_map (λ kind. (number, kind)) (form_or_lines form)) (option_and_then scale_word scale)
 
+-- an index by its name
+abbrev pub index_word : Text → Option Index
+index_word word = if bytes_eq word (codes "scan") then Some Scan else if bytes_eq word (codes "tree") then Some Tree else None
+
+-- the index by its word, tree where it is left out
+abbrev pub index_or_tree : Option Text → Option Index
+index_or_tree None = Some Tree
+index_or_tree (Some word) = index_word word
+
 -- the options of a command on a layer
 abbrev pub layer_options : List OptionRow
 layer_options = record { name = codes "scale"; kind = Required } ∷ record { name = codes "form"; kind = Optional } ∷ []
 
+-- the options of a query
+abbrev pub query_options : List OptionRow
+query_options = layer_options ++ record { name = codes "index"; kind = Optional } ∷ []
+
 -- query LAYER POINTS
 abbrev pub query_row : CommandRow
-query_row = record { name = codes "query"; places = codes "layer" ∷ codes "points" ∷ []; options = layer_options }
+query_row = record { name = codes "query"; places = codes "layer" ∷ codes "points" ∷ []; options = query_options }
 
 -- check LAYER
 abbrev pub check_row : CommandRow
@@ -86,8 +102,8 @@ check_row = record { name = codes "check"; places = codes "layer" ∷ []; option
 
 -- the query of what was given
 abbrev pub query_from : List Entry → Option Asked
-query_from given = option_and_then (λ layer. option_and_then (λ points. option_map (λ values. query (record { layer = layer; points = points; scale = values.0; form = values.1 }))
-    (scale_and_form (value_in given (codes "scale")) (value_in given (codes "form")))) (value_in given (codes "points"))) (value_in given (codes "layer"))
+query_from given = option_and_then (λ layer. option_and_then (λ points. option_and_then (λ values. option_map (λ index. query (record { layer = layer; points = points; scale = values.0; form = values.1; index = index }))
+    (index_or_tree (value_in given (codes "index")))) (scale_and_form (value_in given (codes "scale")) (value_in given (codes "form")))) (value_in given (codes "points"))) (value_in given (codes "layer"))
 
 -- the check of what was given
 abbrev pub check_from : List Entry → Option Asked

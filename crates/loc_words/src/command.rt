@@ -5,8 +5,8 @@ ghost use Rattle.loc_words.specs.Words as spec;
 
 use crate::parser::{Given, read_row};
 use crate::row::{CommandRow, OptionKind, OptionRow};
-use crate::values::read_scale_and_form;
-use crate::{Form, WordsFault};
+use crate::values::{read_index, read_scale_and_form};
+use crate::{Form, Index, WordsFault};
 use std::alloc::{AllocError, Global};
 
 /// A command with its values.
@@ -25,6 +25,7 @@ pub struct Query<'a> {
     pub points: &'a str,
     pub scale: u8,
     pub form: Form,
+    pub index: Index,
 }
 
 /// What a check says.
@@ -35,28 +36,31 @@ pub struct Check<'a> {
     pub form: Form,
 }
 
-// The options of a command on a layer.
-const LAYER_OPTIONS: [OptionRow<'static>; 2] = [
-    OptionRow {
-        name: "scale",
-        kind: OptionKind::Required,
-    },
-    OptionRow {
-        name: "form",
-        kind: OptionKind::Optional,
-    },
-];
+const SCALE: OptionRow<'static> = OptionRow {
+    name: "scale",
+    kind: OptionKind::Required,
+};
+
+const FORM: OptionRow<'static> = OptionRow {
+    name: "form",
+    kind: OptionKind::Optional,
+};
+
+const INDEX: OptionRow<'static> = OptionRow {
+    name: "index",
+    kind: OptionKind::Optional,
+};
 
 const QUERY: CommandRow<'static> = CommandRow {
     name: "query",
     places: &["layer", "points"],
-    options: &LAYER_OPTIONS,
+    options: &[SCALE, FORM, INDEX],
 };
 
 const CHECK: CommandRow<'static> = CommandRow {
     name: "check",
     places: &["layer"],
-    options: &LAYER_OPTIONS,
+    options: &[SCALE, FORM],
 };
 
 fn query_from<'a>(given: Option<Given<'a>>) -> Option<Command<'a>>
@@ -67,11 +71,13 @@ fn query_from<'a>(given: Option<Given<'a>>) -> Option<Command<'a>>
     let layer = given.value("layer")?;
     let points = given.value("points")?;
     let (scale, form) = read_scale_and_form(given.value("scale"), given.value("form"))?;
+    let index = read_index(given.value("index"))?;
     Some(Command::Query(Query {
         layer,
         points,
         scale,
         form,
+        index,
     }))
 }
 

@@ -16,6 +16,7 @@ mod words;
 
 pub use command::{Check, Command, Query, command_of};
 pub use fault::WordsFault;
+pub use loc_spec_plane::Index;
 pub use loc_spec_text::Form;
 pub use parser::clap_takes_commands;
 pub use row::OptionKind;

@@ -1,11 +1,11 @@
 //! What no clause says: that words are read with ample memory, at lists of words from outside.
-use crate::{Command, Form, WordsFault, command_of, usage_text};
+use crate::{Command, Form, Index, WordsFault, command_of, usage_text};
 use std::alloc::{AllocError, Global};
 use std::test::Fail;
 
 // Lines of words, with a space between each two, and where they are a command, the number of its
 // places, its scale and its form.
-const ROWS: [(&str, Option<(u8, u8, Form)>); 44] = [
+const ROWS: [(&str, Option<(u8, u8, Form)>); 50] = [
     ("query a b --scale=0", Some((2, 0, Form::Lines))),
     ("query a b --scale 0", Some((2, 0, Form::Lines))),
     ("query a b --form csv --scale 15", Some((2, 15, Form::Csv))),
@@ -53,9 +53,23 @@ const ROWS: [(&str, Option<(u8, u8, Form)>); 44] = [
     ("query a b --scale +1", None),
     ("query a b --scale 000000000000000000007", None),
     ("query a b --scale 18446744073709551616", None),
+    ("query a b --scale 0 --index trap", None),
+    ("query a b --scale 0 --index", None),
+    ("query a b --scale 0 --index=", None),
+    ("query a b --scale 0 --index --form csv", None),
+    ("query a b --scale 0 --index scan --index scan", None),
+    ("check a --scale 0 --index scan", None),
     ("query a b --scale 0 --help", None),
     ("query a b --scale 0 -h", None),
     ("--version", None),
+];
+
+// Lines of words that are a query, and its index.
+const INDEX_ROWS: [(&str, Index); 4] = [
+    ("query a b --scale 0", Index::Tree),
+    ("query a b --scale 0 --index tree", Index::Tree),
+    ("query a b --index scan --scale 0", Index::Scan),
+    ("query a b --scale 0 --index=scan", Index::Scan),
 ];
 
 // The places, the scale and the form of a command on "a", and "b".
@@ -86,6 +100,20 @@ fn lists_of_words(rt: HostRuntime) -> Result<(), Fail> {
             Ok(command) => assert!(rt; values.is_some() && values_of(command) == *values, "{line}"),
             Err(fault) => assert!(rt; values.is_none() && fault == WordsFault::Refused, "{line}"),
         }
+    }
+    Ok(())
+}
+
+#[test]
+fn indexes_of_queries(rt: HostRuntime) -> Result<(), Fail> {
+    let alloc = rt.alloc();
+    for (line, index) in &INDEX_ROWS {
+        let words = words_of(alloc, line)?;
+        let is_so = match command_of(alloc, words.as_slice()) {
+            Ok(Command::Query(query)) => query.index == *index,
+            _ => false,
+        };
+        assert!(rt; is_so, "{line}");
     }
     Ok(())
 }

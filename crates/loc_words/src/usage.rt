@@ -6,5 +6,5 @@ ghost use Rattle.loc_words.specs.Usage as spec;
 pub fn usage_text() -> &'static str
     ensures { result.now ≡ spec.usage_text }
 {
-    "usage: locate query LAYER POINTS --scale K [--form lines|csv]\n       locate check LAYER --scale K [--form lines|csv]\n"
+    "usage: locate query LAYER POINTS --scale K [--form lines|csv] [--index scan|tree]\n       locate check LAYER --scale K [--form lines|csv]\n"
 }

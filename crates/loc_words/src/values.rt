@@ -2,9 +2,9 @@
 ghost use Rattle.std.specs.Prelude.{◌≡◌, ◌≤◌, IfSome, option_map};
 ghost use Rattle.std.specs.Char.{is_ascii_digit};
 ghost use Rattle.std.specs.List.{list_all};
-ghost use Rattle.loc_words.specs.Words.{form_word, number_word, scale_word, scale_and_form};
+ghost use Rattle.loc_words.specs.Words.{form_word, index_or_tree, index_word, number_word, scale_word, scale_and_form};
 
-use crate::Form;
+use crate::{Form, Index};
 
 const MOST_DIGITS: usize = 20;
 
@@ -63,4 +63,25 @@ pub(crate) fn read_scale_and_form(scale: Option<&str>, form: Option<&str>) -> Op
         None => Form::Lines,
     };
     Some((scale, form))
+}
+
+// The index of this name.
+fn index_of(word: &str) -> Option<Index>
+    ensures { result ≡ index_word word.now }
+{
+    match word {
+        "scan" => Some(Index::Scan),
+        "tree" => Some(Index::Tree),
+        _ => None,
+    }
+}
+
+/// The index, tree where it is left out, of its word.
+pub(crate) fn read_index(index: Option<&str>) -> Option<Index>
+    ensures { result ≡ index_or_tree (option_map (λ s. s.now) index.entry) }
+{
+    match index {
+        Some(word) => index_of(word),
+        None => Some(Index::Tree),
+    }
 }

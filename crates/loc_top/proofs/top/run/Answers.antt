@@ -11,8 +11,8 @@ use Rattle.loc_top.proofs.top.run.Goals as goal
 pub returns-clause-headline : goal.returns-clause-headline
 returns-clause-headline g c asked is =
     let file = layer_file asked.layer asked.form asked.scale in
-    let course = query_course file asked.points in
-    headline file asked.points _ _ _ _ _ (sentences_of _ _ _ _ c.run_course.result _ c.run_course.ensures.ran course (ap (option_map course_by) is))
+    let course = query_course asked.index file asked.points in
+    headline asked.index file asked.points _ _ _ _ _ (sentences_of _ _ _ _ c.run_course.result _ c.run_course.ensures.ran course (ap (option_map course_by) is))
 
 pub returns-clause-done : goal.returns-clause-done
 returns-clause-done g c = of_course _ _ _ _ c.run_course.result _ _ c.run_course.ensures.ran (λ course s. s.done)

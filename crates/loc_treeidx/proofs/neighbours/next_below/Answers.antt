@@ -1,29 +1,31 @@
-use Rattle.std.proofs.lemmas.Bool.{both_ways}
+use Rattle.std.proofs.Common.{◌++◌, [], ◌∷◌, refl, subst, Option, Some}
+use Rattle.loc_pool.specs.declared.Link.{Link}
+use Rattle.loc_pool.specs.declared.Turn.TheVariants.{Right}
 use Rattle.loc_persist.specs.Meaning.{present_nodes}
-use Rattle.loc_status.proofs.Standing.{searchable_in_range}
-use Rattle.loc_treeidx.specs.Targets.{begins_before, ends_before}
-use Rattle.loc_treeidx.proofs.Beside.{below_found, above_by_end, chain_from_above}
+use Rattle.loc_treeidx.specs.Gaps.{IsDescent}
+use Rattle.loc_treeidx.proofs.Beside.{below_found}
+use Rattle.loc_treeidx.proofs.Descents.{descent-end, here_row, here_right}
+use Rattle.loc_treeidx.proofs.Heights.{here_lower}
 use Rattle.loc_treeidx.proofs.neighbours.next_below.Goals as goal
 
-pub walk_beside-begin-requires-clause-in_range : goal.walk_beside-begin-requires-clause-in_range
-walk_beside-begin-requires-clause-in_range c = searchable_in_range c.args.ranks.now c.args.edge c.args.versions.now.list c.requires.in_range c.requires.searchable
+pub item-requires : goal.item-requires
+item-requires c = here_row c.args.versions.now _ _ c.in-Some.at _ _ c.down.invariant.1 c.in-Some.is
 
-pub walk_beside-end-requires-clause-in_range : goal.walk_beside-end-requires-clause-in_range
-walk_beside-end-requires-clause-in_range c = searchable_in_range c.args.ranks.now c.args.edge c.args.versions.now.list c.requires.in_range c.requires.searchable
+pub newest_child-next-requires : goal.newest_child-next-requires
+newest_child-next-requires c = here_row c.args.versions.now _ _ c.in-Some.at _ _ c.down.invariant.1 c.in-Some.is
 
-pub returns-then-is_found : goal.returns-then-is_found
-returns-then-is_found c =
-    let m = c.args.versions.now in
-    let found = c.walk_beside-begin.result in
-    below_found (begins_before c.args.ranks.now c.args.edge) (present_nodes m) m.list c.walk_beside-begin.ensures.0 found.below found.above c.walk_beside-begin.ensures.1 c.args.edge (c.is_found.ensures.yes c.if-is_found.true)
+pub down-smaller : goal.down-smaller
+down-smaller c = here_lower c.args.versions.now _ _ c.in-Some.at _ _ c.down.invariant.1 c.in-Some.is c.sealed-sealed.ensures.facts Right _ c.newest_child-next.ensures
+
+pub down-preserved : goal.down-preserved
+down-preserved c = (
+  c.down.invariant.0 ++ (c.in-Some.at, Right) ∷ [],
+  here_right c.args.versions.now _ _ c.in-Some.at _ _ c.down.invariant.1 c.in-Some.is c.item.result c.item.ensures _ c.newest_child-next.result c.newest_child-next.ensures refl,
+)
 
 pub returns : goal.returns
 returns c =
-    let m = c.args.versions.now in
-    let n = present_nodes m in
-    let t = c.args.ranks.now in
-    let e = c.args.edge in
-    let first = c.walk_beside-begin.result in
-    let found = c.walk_beside-end.result in
-    let chain = chain_from_above t c.law.ensures.in_order e c.requires.in_range n m.list c.walk_beside-begin.ensures.0 first.below first.above c.requires.listed c.requires.searchable c.walk_beside-begin.ensures.1 (λ at. both_ways c.is_found.result c.if-is_found.false (c.is_found.ensures.no at)) in
-    below_found (ends_before t e) n m.list c.walk_beside-end.ensures.0 found.below found.above c.walk_beside-end.ensures.1 e (above_by_end t c.law.ensures.in_order e c.requires.in_range n m.list c.walk_beside-end.ensures.0 found.below found.above chain c.requires.listed c.walk_beside-end.ensures.1)
+    let n = present_nodes c.args.versions.now in
+    let list = c.args.versions.now.list in
+    below_found n list c.down.invariant.0 c.down.below (Some c.args.edge)
+    (descent-end n list c.down.invariant.0 c.down.below (Some c.args.edge) (subst (λ (o : Option Link). IsDescent n list c.down.invariant.0 o c.down.below (Some c.args.edge)) c.in_default.is c.down.invariant.1)) c.args.edge refl

@@ -1,7 +1,6 @@
-use Rattle.std.proofs.Common.{◌≡◌, take}
-use Rattle.loc_cover.specs.Stores.{lists_in}
+use Rattle.std.proofs.Common.{◌≡◌, ◌++◌, map}
 use Rattle.loc_cover.proofs.store.Store.lists.Given as goal
 
--- the lists at the places before are copied
-abbrev pub invariant-loop-number : goal.invariant-loop-number
-invariant-loop-number l = l.lists ≡ lists_in l.self.rows (take l.number-index l.self.order)
+-- with the lists that are left they are all
+abbrev pub invariant-loop-list : goal.invariant-loop-list
+invariant-loop-list l = l.lists ++ map (λ list. list.now) l.list-iterator ≡ l.self.lists

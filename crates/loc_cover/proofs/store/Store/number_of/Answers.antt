@@ -1,14 +1,30 @@
-use Rattle.std.proofs.Common.{map, ◌∙◌, ap, subst, arith}
-use Rattle.loc_cover.specs.Stores.{StoreRows, IsGap, lists_in, lists_of}
-use Rattle.loc_cover.proofs.Stored.{put_past}
+use Rattle.std.proofs.Common.{◌≡◌, ◌<◌, ◌≤◌, false, [], ◌∷◌, length, get_or, map, sym, ◌∙◌, subst, arith}
+use Rattle.std.specs.Prelude.{sum_by}
+use Rattle.loc_spec_plane.specs.Lists.{sorted_set}
+use Rattle.loc_spec_plane.specs.Covers.{list_before}
+use Rattle.loc_cover.specs.Legends.{most_members}
+use Rattle.loc_cover.specs.Stores.{StoreRows, IsStore, is_among, lists_of}
+use Rattle.loc_cover.proofs.Stored.{entry_past, is_new, number_is}
 use Rattle.loc_cover.proofs.store.Store.number_of.Goals as goal
 
-pub returns-then-len-self-clause-refused : goal.returns-then-len-self-clause-refused
-returns-then-len-self-clause-refused c =
-    let rows_are = ap (map (λ row. row.items)) c.deref.ensures.value ∙ ap (λ (s : StoreRows). s.rows) c.self.view_is in
-    let order_is = c.deref-2.ensures.value ∙ ap (λ (s : StoreRows). s.order) c.self.view_is in
-    let gap = subst (λ rows. IsGap (lists_in rows c.deref-2.result.now) c.deref-3.result.now c.in-Err.place) rows_are c.in-Err.ensures.missing in
-    let gap_2 = subst (λ order. IsGap (lists_in c.args.self.now.rows order) c.deref-3.result.now c.in-Err.place) order_is gap in
-    let gap_3 = subst (λ xs. IsGap (lists_of c.args.self.now) xs c.in-Err.place) c.deref-3.ensures.value gap_2 in
-    let members_are = ap (λ (s : StoreRows). s.members) c.self.view_is in
-    put_past c.args.self.now c.args.list.items c.in-Err.place c.requires.stands gap_3 (omega (arith, members_are, c.len.ensures, c.if-len-self.true, c.requires.stands.few))
+pub returns-in-Some-clause-found : goal.returns-in-Some-clause-found
+returns-in-Some-clause-found c =
+    let stands = subst IsStore (sym c.self.view_is) c.requires.stands in
+    subst (λ (s : StoreRows). get_or s.rows c.in-Some.number [] ≡ c.args.list.now) c.self.view_is
+    (number_is (λ r. r.now) c.args.list.now c.self.inside.numbers.entries (map (λ r. r.now) c.self.inside.rows.items) c.in-Some.number stands.named stands.within (sym c.get.ensures.value ∙ (sym c.copied.ensures ∙ c.in-Some.is))).1
+
+pub returns-in-Some-clause-within : goal.returns-in-Some-clause-within
+returns-in-Some-clause-within c =
+    let stands = subst IsStore (sym c.self.view_is) c.requires.stands in
+    subst (λ (s : StoreRows). c.in-Some.number < length s.rows) c.self.view_is
+    (number_is (λ r. r.now) c.args.list.now c.self.inside.numbers.entries (map (λ r. r.now) c.self.inside.rows.items) c.in-Some.number stands.named stands.within (sym c.get.ensures.value ∙ (sym c.copied.ensures ∙ c.in-Some.is))).0
+
+pub returns-then-list-self-clause-refused : goal.returns-then-list-self-clause-refused
+returns-then-list-self-clause-refused c =
+    let stands = subst IsStore (sym c.self.view_is) c.requires.stands in
+    let few : c.self.inside.members ≤ most_members = stands.few in
+    subst (λ (s : StoreRows). most_members < sum_by length (sorted_set list_before (c.args.list.now ∷ lists_of s))) c.self.view_is
+    (entry_past (λ r. r.now) c.args.list (map (λ r. r.now) c.self.inside.rows.items) c.self.inside.numbers.entries c.self.inside.members stands (is_new (λ r. r.now) c.args.list.now c.self.inside.numbers.entries (sym c.get.ensures.value ∙ (sym c.copied.ensures ∙ c.in_default.is))) (omega (arith, few, c.if-list-self.true)))
+
+pub put-requires-clause-new : goal.put-requires-clause-new
+put-requires-clause-new c = subst (λ (s : StoreRows). is_among c.args.list.now s.lists ≡ false) c.self.view_is (is_new (λ r. r.now) c.args.list.now c.self.inside.numbers.entries (sym c.get.ensures.value ∙ (sym c.copied.ensures ∙ c.in_default.is)))

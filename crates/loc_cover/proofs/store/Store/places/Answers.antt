@@ -1,10 +1,9 @@
 use Rattle.std.proofs.Common.{length, ◌∙◌, ap, arith}
-use Rattle.loc_cover.specs.Stores.{StoreRows}
 use Rattle.loc_cover.proofs.Stored.{few_rows}
 use Rattle.loc_cover.proofs.store.Store.places.Goals as goal
 
 pub overflow_cast-place : goal.overflow_cast-place
 overflow_cast-place c =
-    let same = c.deref-number-items.ensures.value ∙ ap (λ (s : StoreRows). s.order) c.self.view_is in
+    let same = c.deref-number-items.ensures.value ∙ c.in_ok-order.ensures in
     let few = few_rows c.args.self.now c.requires.stands in
     omega (arith, few, c.requires.stands.as_many, ap length same, c.loop-place-test.true)

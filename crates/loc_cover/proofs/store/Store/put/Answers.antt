@@ -1,26 +1,32 @@
-use Rattle.std.proofs.Common.{◌≡◌, ℕ, ◌+◌, ◌++◌, ◌∷◌, [], List, length, map, sym, ◌∙◌, ap, subst, arith}
-use Rattle.std.specs.List.{insert}
+use Rattle.std.proofs.Common.{◌≡◌, ℕ, ◌+◌, ◌≤◌, ◌++◌, ◌∷◌, [], false, Bor, List, length, map, sym, ◌∙◌, ap, subst, arith}
+use Rattle.std.specs.BTreeMap.{insert_entry}
+use Rattle.std.specs.Cmp.Lexicographic.{slice_cmp}
+use Rattle.std.specs.Ordering.{nat_cmp}
 use Rattle.std.proofs.lemmas.List.{length-map, map_push}
-use Rattle.loc_cover.specs.Stores.{StoreRows, IsStore}
-use Rattle.loc_cover.proofs.Stored.{few_rows, put_stands}
+use Rattle.loc_cover.specs.Legends.{most_members}
+use Rattle.loc_cover.specs.Stores.{StoreRows, IsStore, is_among}
+use Rattle.loc_cover.proofs.Stored.{entry_stands, few_rows, stored}
 use Rattle.loc_cover.proofs.store.Store.put.Goals as goal
 
 pub overflow_cast-number : goal.overflow_cast-number
 overflow_cast-number c =
-    let same : map (λ row. row.items) c.self.inside.rows.items ≡ c.args.self.now.rows = ap (λ (s : StoreRows). s.rows) c.self.view_is in
-    let size = length-map c.self.inside.rows.items (λ row. row.items) in
+    let same : map (λ row. row.now) c.self.inside.rows.items ≡ c.args.self.now.rows = ap (λ (s : StoreRows). s.rows) c.self.view_is in
+    let size = length-map c.self.inside.rows.items (λ row. row.now) in
     let few = few_rows c.args.self.now c.requires.stands in
     omega (arith, few, size, ap length same, c.len-number.ensures)
 
 pub returns-clause-stands : goal.returns-clause-stands
 returns-clause-stands c =
-    let build : List (List ℕ) → List ℕ → ℕ → StoreRows = λ rows order members. record { rows = rows; order = order; members = members } in
-    let rows_are : map (λ row. row.items) c.self.inside.rows.items ≡ c.args.self.now.rows = ap (λ (s : StoreRows). s.rows) c.self.view_is in
-    let order_is : c.self.inside.order.items ≡ c.args.self.now.order = ap (λ (s : StoreRows). s.order) c.self.view_is in
-    let members_are : c.self.inside.members ≡ c.args.self.now.members = ap (λ (s : StoreRows). s.members) c.self.view_is in
-    let number_is : c.len-number.result ≡ length c.args.self.now.rows = (let size = length-map c.self.inside.rows.items (λ row. row.items) in omega (arith, size, ap length rows_are, c.len-number.ensures)) in
-    let rows : map (λ row. row.items) c.push.new.self.items ≡ c.args.self.now.rows ++ c.args.list.items ∷ [] = ap (map (λ row. row.items)) c.in_ok-push.ensures.items ∙ (map_push (λ row. row.items) c.self.inside.rows.items c.args.list ∙ ap (λ xs. xs ++ c.args.list.items ∷ []) rows_are) in
-    let order : c.insert.new.self.items ≡ insert c.args.self.now.order c.args.place (length c.args.self.now.rows) = c.in_ok-insert.ensures.items ∙ (ap (λ xs. insert xs c.args.place c.len-number.result) order_is ∙ ap (insert c.args.self.now.order c.args.place) number_is) in
-    let members : c.self.inside.members + c.len.result ≡ c.args.self.now.members + length c.args.list.items = omega (arith, members_are, c.len.ensures) in
-    subst IsStore (sym (ap (λ xs. build xs c.insert.new.self.items (c.self.inside.members + c.len.result)) rows ∙ (ap (λ xs. build (c.args.self.now.rows ++ c.args.list.items ∷ []) xs (c.self.inside.members + c.len.result)) order ∙ ap (build (c.args.self.now.rows ++ c.args.list.items ∷ []) (insert c.args.self.now.order c.args.place (length c.args.self.now.rows))) members)))
-    (put_stands c.args.self.now c.args.list.items c.args.place c.requires.stands c.requires.gap c.requires.room)
+    let key : Bor (List ℕ) = record { ref_ptr = c.in_ok-row.field-0.ref_ptr; now = c.in_ok-row.field-0.now } in
+    let old = map (λ row. row.now) c.self.inside.rows.items in
+    let entries = c.insert.new.self.entries in
+    let is : c.in_ok-row.field-0.now ≡ c.args.list.now = c.in_ok-row.ensures in
+    let stands = subst IsStore (sym c.self.view_is) c.requires.stands in
+    let new = subst (λ xs. is_among xs (map (λ e. e.0.now) c.self.inside.numbers.entries) ≡ false) (sym is) (subst (λ (s : StoreRows). is_among c.args.list.now s.lists ≡ false) (sym c.self.view_is) c.requires.new) in
+    let members : c.self.inside.members + length c.args.list.now ≡ c.self.inside.members + length c.in_ok-row.field-0.now = ap (λ xs. c.self.inside.members + length xs) (sym is) in
+    let room : c.self.inside.members + length c.in_ok-row.field-0.now ≤ most_members = (let same = ap (λ (s : StoreRows). s.members) c.self.view_is in omega (arith, same, members, c.requires.room)) in
+    let number : c.len-number.result ≡ length (map (λ row. row.now) c.self.inside.rows.items) = (let size = length-map c.self.inside.rows.items (λ row. row.now) in omega (arith, size, c.len-number.ensures)) in
+    let rows = ap (map (λ row. row.now)) c.in_ok-push.ensures.items ∙ map_push (λ row. row.now) c.self.inside.rows.items key in
+    let put = c.in_ok-insert.ensures.entries ∙ ap (insert_entry (λ x y. slice_cmp nat_cmp x.now y.now) c.self.inside.numbers.entries key) number in
+    subst IsStore (sym (ap (λ xs. stored (λ r. r.now) xs entries (c.self.inside.members + length c.args.list.now)) rows ∙ (ap (λ es. stored (λ r. r.now) (old ++ key.now ∷ []) es (c.self.inside.members + length c.args.list.now)) put ∙ ap (stored (λ r. r.now) (old ++ key.now ∷ []) (insert_entry (λ x y. slice_cmp nat_cmp x.now y.now) c.self.inside.numbers.entries key (length old))) members)))
+    (entry_stands (λ r. r.now) key old c.self.inside.numbers.entries c.self.inside.members stands new room)

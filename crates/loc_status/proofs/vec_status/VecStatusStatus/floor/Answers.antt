@@ -2,7 +2,7 @@ use Rattle.std.proofs.Common.{◌-◌, ◌<◌, ◌∙◌, ap, sym, subst, lengt
 use Rattle.std.specs.List.{All}
 use Rattle.loc_spec_plane.specs.Points.{is_above}
 use Rattle.loc_spec_plane.specs.Tables.{corner, edge}
-use Rattle.loc_status.specs.declared.search.Target.TheVariants.{Corner}
+use Rattle.loc_status.specs.declared.targets.Target.TheVariants.{Corner}
 use Rattle.loc_status.specs.Meaning.{StatusMeaning}
 use Rattle.loc_status.specs.Targets.{is_passed, IsSearchEnd}
 use Rattle.loc_status.proofs.Ends.{last_found}

@@ -1,0 +1,20 @@
+use Rattle.std.proofs.Common.{rules, ◌∙◌, sym, arith, subst}
+use Rattle.std.specs.Prelude.{slice_index_or}
+use Rattle.loc_batch.specs.Blocks.{Holds}
+use Rattle.loc_batch.proofs.Placed.{held_again, placed_is, written_back, within_list}
+use Rattle.loc_batch.proofs.block.Block.search.Goals as goal
+
+pub seek-requires-clause-lines : goal.seek-requires-clause-lines
+seek-requires-clause-lines g c =
+    let points = c.requires.held.0 in
+    let held : Holds points (record { queries = c.deref.result.now; found = c.deref_mut.result.now }) =
+    rw (c.deref.ensures.value, c.deref_mut.ensures.value) (held_again points _ c.sort_unstable.new.self.items c.sort_unstable.ensures.permutation (subst (Holds points) (sym c.self.view_is) c.requires.held.1)) in
+    λ k d less. let within = within_list points (slice_index_or c.deref.result.now k d).line (slice_index_or c.deref.result.now k d).point (held.right k d less) in
+    omega (arith, within, held.as_many)
+
+pub returns-clause-found : goal.returns-clause-found
+returns-clause-found g c = λ points h.
+    let finds = g.I.Locator.finds c.args.index.now c.args.views.now in
+    let held : Holds points (record { queries = c.deref.result.now; found = c.deref_mut.result.now }) =
+    rw (c.deref.ensures.value, c.deref_mut.ensures.value) (held_again points _ c.sort_unstable.new.self.items c.sort_unstable.ensures.permutation (subst (Holds points) (sym c.self.view_is) h)) in
+    written_back _ _ _ (search (rules, arith)) ∙ (c.seek.ensures.placed ∙ placed_is finds points _ held)

@@ -1,0 +1,22 @@
+//! Lines in, answers out: the points text is cut into lines however it comes in pieces, each line is answered by what a locator finds and
+//! by the rows of a legend, and the answers go to a sink in large pieces.
+#![tactic(auto)]
+
+mod answers;
+mod batch;
+mod block;
+mod desk;
+mod faces;
+mod faults;
+mod laws;
+mod page;
+mod tally;
+mod whole;
+
+pub use answers::write_answer;
+pub use batch::Batch;
+pub use faces::{FaceNumbers, Unnumbered};
+pub use faults::{BatchFault, FeedFault};
+pub use laws::kept_law;
+pub use tally::Tally;
+pub use whole::answer_all;

@@ -1,0 +1,22 @@
+-- The map of a layer: its table, and the legend of the answers. The words: `has_many_covers`, `IsMapOf`.
+use Rattle.std.specs.Prelude.{◌≡◌, Bool, List, map, nat_lt}
+use Rattle.loc_spec_plane.specs.Covers.{cover_sum}
+use Rattle.loc_spec_plane.specs.Tables.{Table, AllEnds, AllEven, NoConflict}
+use Rattle.loc_rings.specs.Values.{Feature}
+use Rattle.loc_cover.specs.Legends.{LegendRows, FitsTable, IsTrueLegend}
+use Rattle.loc_maps.specs.Located.{table_in}
+
+-- the distinct cover lists have more members together than a legend holds
+abbrev pub has_many_covers : Table → Bool
+has_many_covers t = nat_lt 16777216 (cover_sum t)
+
+-- the table is that of the layer, every corner is an end, marks are even, no two edges conflict, and the legend is true of the table and has the ids
+-- of the layer
+pub record IsMapOf (layer : List Feature) (t : Table) (rows : LegendRows) : Type 0 where
+  pub table : t ≡ table_in layer
+  pub ended : AllEnds t
+  pub even : AllEven t
+  pub apart : NoConflict t
+  pub ids : rows.ids ≡ map (λ (f : Feature). f.id) layer
+  pub fits : FitsTable t rows
+  pub is_true : IsTrueLegend t rows

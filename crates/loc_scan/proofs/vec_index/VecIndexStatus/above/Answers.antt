@@ -1,7 +1,0 @@
-use Rattle.std.proofs.Common.{ap, sym, subst}
-use Rattle.loc_status.specs.Lists.{IsSearchable}
-use Rattle.loc_scan.specs.Versions.{Versions}
-use Rattle.loc_scan.proofs.vec_index.VecIndexStatus.above.Goals as goal
-
-pub above-requires-clause-searchable : goal.above-requires-clause-searchable
-above-requires-clause-searchable c = subst (λ es. IsSearchable c.args.ranks.now c.args.edge es) (sym (ap (λ (v : Versions). v.status.list) c.self.view_is)) c.requires.searchable
