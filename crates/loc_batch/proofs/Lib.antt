@@ -7,3 +7,4 @@ pub mod Placed
 pub mod Points
 pub mod Streamed
 pub mod Taking
+pub mod Quoting

@@ -19,7 +19,7 @@ use std::marker::Model;
 use std::sync::ledger::Ledger;
 
 // How many bytes a read asks for.
-const PIECE: usize = 1_048_576;
+const PIECE: usize = 4_194_304;
 
 // The lines of a stream, as far as they are answered.
 #[derive(Drop)]

@@ -14,7 +14,7 @@ use std::marker::Model;
 use std::sync::ledger::Ledger;
 
 /// How many lines a block has room for.
-const MOST_LINES: usize = 65_536;
+const MOST_LINES: usize = 262_144;
 
 /// A point that is sought, and the line of the block that reads as it.
 #[derive(Clone, Copy, PartialEq, Eq, PartialOrd, Ord, Drop)]
@@ -41,7 +41,7 @@ impl Model for Block {
 
     ghost view = { λ b. record { queries = b.queries.items; found = b.found.items } };
 
-    ghost invariant = { λ b. (vec_len b.queries ≤ vec_len b.found) × (vec_len b.found ≤ 65536) × (65536 ≤ vec_capacity b.queries) × (65536 ≤ vec_capacity b.found) };
+    ghost invariant = { λ b. (vec_len b.queries ≤ vec_len b.found) × (vec_len b.found ≤ 262144) × (262144 ≤ vec_capacity b.queries) × (262144 ≤ vec_capacity b.found) };
 }
 
 // What is found for each query stands in its line.
@@ -87,22 +87,22 @@ impl Block {
     // The number of lines.
     pub(crate) fn len(&self) -> usize
         ensures count { result ≡ length self.now.found }
-        ensures few { result ≤ 65536 }
+        ensures few { result ≤ 262144 }
     {
         self.found.len()
     }
 
     // Whether no further line has room.
     pub(crate) fn is_full(&self) -> bool
-        ensures room { result ≡ false → length self.now.found < 65536 }
-        ensures full { result ≡ true → 65536 ≤ length self.now.found }
+        ensures room { result ≡ false → length self.now.found < 262144 }
+        ensures full { result ≡ true → 262144 ≤ length self.now.found }
     {
         self.found.len() >= MOST_LINES
     }
 
     // One line more, by the point that it reads as.
     pub(crate) fn note(&mut self, point: Option<Point>)
-        requires { length self.old.found < 65536 }
+        requires { length self.old.found < 262144 }
         ensures { self.new ≡ with_line self.old point }
     {
         let line = self.found.len();

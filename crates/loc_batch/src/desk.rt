@@ -225,7 +225,7 @@ impl Desk {
     // The line that this text ends is one more of the block.
     fn read_line(&mut self, scale: u8, text: &[u8])
         requires scale { scale ≤ 15 }
-        requires room { length self.old.block.found < 65536 }
+        requires room { length self.old.block.found < 262144 }
         ensures block { self.new.block ≡ with_line self.old.block (point_of scale (self.old.line.items ++ text.now)) }
         ensures line { self.new.line.items ≡ [] }
         ensures tally { self.new.tally ≡ self.old.tally }
@@ -239,7 +239,7 @@ impl Desk {
     // The next line of a text, if the block has room for it, and what follows it.
     fn next_line<'a>(&self, text: &'a [u8]) -> Option<(&'a [u8], &'a [u8])>
         ensures cuts { MatchOption result (IsUnbroken text.now ⊎ (0 < length self.now.block.found)) (λ l. (text.now ≡ l.0.now ++ 10 ∷ l.1.now) × IsUnbroken l.0.now) }
-        ensures room { IfSome result (λ _. length self.now.block.found < 65536) }
+        ensures room { IfSome result (λ _. length self.now.block.found < 262144) }
         ensures shorter { IfSome result (λ l. length l.1.now < length text.now) }
     {
         if self.block.is_full() {

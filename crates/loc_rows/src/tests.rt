@@ -29,7 +29,7 @@ type Row = (
     &'static [u8],
 );
 
-const ROWS: [Row; 29] = [
+const ROWS: [Row; 31] = [
     (SQUARE, POINTS, "0", 0, ANSWERS, b""),
     (
         b"POLYGON((0 0,2 -2,4 0,2 2,0 0))",
@@ -57,10 +57,26 @@ const ROWS: [Row; 29] = [
     ),
     (
         b"POLYGON ((0 0, 4 0, 4 4, 0 4, 0 0), (1 1, 1 3, 3 3, 3 1, 1 1))",
-        b"2 2\n0.5 0.5\n0.55 0.5\n",
+        b"2 2\n0.5 0.5\n9 9\n0.55 0.5\n",
         "1",
         0,
-        b"face in\nface in \"1\"\nunread\n",
+        b"face in\nface in \"1\"\nface in\nunread\n",
+        b"",
+    ),
+    (
+        b"POLYGON ((0 0, 4 0, 4 4, 0 4, 0 0), (1 1, 1 3, 3 3, 3 1, 1 1))\nPOLYGON ((1 1, 3 1, 3 3, 1 3, 1 1))",
+        b"2 2\n1 2\n",
+        "0",
+        0,
+        b"face in \"2\"\nborder 3 on \"1\" \"2\" in\n",
+        b"",
+    ),
+    (
+        b"MULTIPOLYGON (((0 0, 2 0, 2 2, 0 2, 0 0)), ((2 0, 4 0, 4 2, 2 2, 2 0)))",
+        b"2 1\n1 1\n",
+        "0",
+        0,
+        b"border 3 on \"1\" in\nface in \"1\"\n",
         b"",
     ),
     (

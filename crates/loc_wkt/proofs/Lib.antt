@@ -14,7 +14,7 @@ pub mod TokenSteps
 pub mod TokenLongest
 pub mod TokenFront
 pub mod TokenTurns
-pub mod TokenPieces
+pub mod FirstPiece
 pub mod DigitLemmas
 pub mod GridLemmas
 pub mod GridTexts

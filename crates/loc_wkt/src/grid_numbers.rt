@@ -12,8 +12,7 @@ mod parts;
 
 use crate::numbers::{LIMIT, is_negative, signed, unsigned};
 use digits::{Digits, capped_value};
-pub use parts::is_number;
-use parts::parts;
+pub use parts::{NumberText, is_number, number_text};
 
 /// What a number text is on the grid of a scale: its grid value, or off the grid, or on it and beyond 10^18 either way.
 #[derive(Clone, Copy, Debug, PartialEq, Eq)]
@@ -48,12 +47,11 @@ fn shifts(exponent: &[u8]) -> (u64, u64)
 }
 
 /// The parts of a number text as numbers.
-fn decimal_of(text: &[u8]) -> Decimal
-    requires number { is_number_text text.now ≡ true }
-    requires length { length text.now ≤ 2 ^ 28 }
-    ensures { IsDecimal result text.now }
+fn decimal_of(number: &NumberText<'_>) -> Decimal
+    requires length { length number.now.text.now ≤ 2 ^ 28 }
+    ensures { IsDecimal result number.now.text.now }
 {
-    let parts = parts(text);
+    let parts = number.parts;
     let whole = Digits::none().followed_by(parts.whole);
     let digits = whole.followed_by(parts.fraction);
     let (raised, lowered) = shifts(parts.exponent);
@@ -65,6 +63,33 @@ fn decimal_of(text: &[u8]) -> Decimal
     }
 }
 
+/// What a number is on the grid of a scale. Its text has at most 2^28 bytes, and the scale is at most 15.
+pub(crate) fn on_grid(number: &NumberText<'_>, scale: u8) -> GridNumber
+    requires length { length number.now.text.now ≤ 2 ^ 28 }
+    requires scale { scale ≤ 15 }
+    ensures number { IsGridNumber scale number.now.text.now result }
+    ensures bound { IsBounded result }
+{
+    let decimal = decimal_of(number);
+    if decimal.digits.head == 0 && !decimal.digits.long {
+        return GridNumber::OnGrid(0);
+    }
+    let up = decimal.digits.zeros as u64 + decimal.raised + scale as u64;
+    let down = decimal.lowered + decimal.fraction as u64;
+    if up < down {
+        return GridNumber::OffGrid;
+    }
+    let places = up - down;
+    if decimal.digits.long || places > 18 {
+        return GridNumber::OutOfRange;
+    }
+    let magnitude = decimal.digits.head as u128 * 10u64.pow(places as u32) as u128;
+    if magnitude > LIMIT as u128 {
+        return GridNumber::OutOfRange;
+    }
+    GridNumber::OnGrid(signed(magnitude as u64, is_negative(number.text)))
+}
+
 /// What a number text is on the grid of a scale. The text has at most 2^28 bytes, and the scale is at most 15.
 pub fn grid_number(text: &[u8], scale: u8) -> GridNumber
     requires number { is_number_text text.now ≡ true }
@@ -73,24 +98,10 @@ pub fn grid_number(text: &[u8], scale: u8) -> GridNumber
     ensures number { IsGridNumber scale text.now result }
     ensures bound { IsBounded result }
 {
-    let number = decimal_of(text);
-    if number.digits.head == 0 && !number.digits.long {
-        return GridNumber::OnGrid(0);
+    match number_text(text) {
+        Some(number) => on_grid(&number, scale),
+        None => unreachable!(),
     }
-    let up = number.digits.zeros as u64 + number.raised + scale as u64;
-    let down = number.lowered + number.fraction as u64;
-    if up < down {
-        return GridNumber::OffGrid;
-    }
-    let places = up - down;
-    if number.digits.long || places > 18 {
-        return GridNumber::OutOfRange;
-    }
-    let magnitude = number.digits.head as u128 * 10u64.pow(places as u32) as u128;
-    if magnitude > LIMIT as u128 {
-        return GridNumber::OutOfRange;
-    }
-    GridNumber::OnGrid(signed(magnitude as u64, is_negative(text)))
 }
 
 #[cfg(test)]

@@ -6,10 +6,9 @@ ghost use Rattle.std.specs.List.{list_all};
 ghost use Rattle.std.specs.Str.{bytes_eq};
 ghost use Rattle.loc_spec_text.specs.Bytes.{capitals, drop_while, is_white as is_white_byte};
 ghost use Rattle.loc_spec_text.specs.Geometry.{piece_of, pieces};
-ghost use Rattle.loc_spec_text.specs.Number.{is_number as is_number_text};
 ghost use Rattle.loc_wkt.specs.Fronts.{empty_at, goes_on_at, is_word, mark_at, number_at, open_at};
 
-use crate::grid_numbers::is_number;
+use crate::grid_numbers::{NumberText, number_text};
 use crate::tokens::{is_mark, next_piece, white_length};
 
 /// The text behind the white space at its front.
@@ -52,19 +51,15 @@ pub(crate) fn goes_on(text: &[u8]) -> Option<(bool, &[u8])>
     }
 }
 
-/// The number text at the front of a text and what follows it.
-pub(crate) fn next_number(text: &[u8]) -> Option<(&[u8], &[u8])>
-    ensures found { MatchOption result (number_at (pieces text.now) ≡ None) (λ r. number_at (pieces text.now) ≡ Some (r.0.now, pieces r.1.now)) }
-    ensures number { IfSome result (λ r. is_number_text r.0.now ≡ true) }
+/// The number at the front of a text and what follows it.
+pub(crate) fn next_number(text: &[u8]) -> Option<(NumberText<'_>, &[u8])>
+    ensures found { MatchOption result (number_at (pieces text.now) ≡ None) (λ r. number_at (pieces text.now) ≡ Some (r.0.text.now, pieces r.1.now)) }
     ensures shorter { IfSome result (λ r. length r.1.now < length text.now) }
-    ensures within { IfSome result (λ r. length r.0.now ≤ length text.now) }
+    ensures within { IfSome result (λ r. length r.0.text.now ≤ length text.now) }
 {
     let (piece, rest) = next_piece(text)?;
-    if is_number(piece) {
-        Some((piece, rest))
-    } else {
-        None
-    }
+    let number = number_text(piece)?;
+    Some((number, rest))
 }
 
 /// Whether a run is this word in any ASCII case.

@@ -3,12 +3,12 @@
 ghost use Rattle.std.specs.Prelude.{◌≡◌, ◌≤◌, ◌<◌, ◌^◌, length, true, if◌then◌else◌, IfSome, MatchOption, Some, None};
 ghost use Rattle.loc_spec_plane.specs.Points.{OnGrid};
 ghost use Rattle.loc_spec_text.specs.Geometry.{pieces};
-ghost use Rattle.loc_spec_text.specs.Number.{grid_value as grid_value_of, is_number as is_number_text};
+ghost use Rattle.loc_spec_text.specs.Number.{grid_value as grid_value_of};
 ghost use Rattle.loc_spec_text.specs.Points.{is_grid_number, point_of, point_texts};
 ghost use Rattle.loc_spec_text.specs.Reader.{point_at};
 ghost use Rattle.loc_wkt.specs.Fronts.{is_end, point_mark_at};
 
-use crate::grid_numbers::{GridNumber, grid_number};
+use crate::grid_numbers::{GridNumber, NumberText, on_grid};
 use crate::marks::{behind_open, is_this_word, next_mark, next_number};
 use crate::tokens::next_piece;
 use loc_geom::Point;
@@ -16,11 +16,11 @@ use loc_geom::Point;
 /// The longest line that is read as a point.
 const MOST_BYTES: usize = 4096;
 
-/// Two number texts at the front of a text, and what follows them.
-fn next_pair(text: &[u8]) -> Option<(&[u8], &[u8], &[u8])>
-    ensures found { MatchOption result (point_at (pieces text.now) ≡ None) (λ r. point_at (pieces text.now) ≡ Some ((r.0.now, r.1.now), pieces r.2.now)) }
-    ensures first { IfSome result (λ r. (is_number_text r.0.now ≡ true) × (length r.0.now ≤ length text.now)) }
-    ensures second { IfSome result (λ r. (is_number_text r.1.now ≡ true) × (length r.1.now ≤ length text.now)) }
+/// Two numbers at the front of a text, and what follows them.
+fn next_pair(text: &[u8]) -> Option<(NumberText<'_>, NumberText<'_>, &[u8])>
+    ensures found { MatchOption result (point_at (pieces text.now) ≡ None) (λ r. point_at (pieces text.now) ≡ Some ((r.0.text.now, r.1.text.now), pieces r.2.now)) }
+    ensures first { IfSome result (λ r. length r.0.text.now ≤ length text.now) }
+    ensures second { IfSome result (λ r. length r.1.text.now ≤ length text.now) }
 {
     let (x, rest) = next_number(text)?;
     let (y, rest) = next_number(rest)?;
@@ -50,11 +50,11 @@ fn is_close_mark(text: &[u8]) -> bool
     }
 }
 
-/// The number texts of a point line: two alone, or two behind the word POINT in parentheses.
-fn point_numbers(text: &[u8]) -> Option<(&[u8], &[u8])>
-    ensures found { MatchOption result (point_texts (pieces text.now) ≡ None) (λ r. point_texts (pieces text.now) ≡ Some (r.0.now, r.1.now)) }
-    ensures first { IfSome result (λ r. (is_number_text r.0.now ≡ true) × (length r.0.now ≤ length text.now)) }
-    ensures second { IfSome result (λ r. (is_number_text r.1.now ≡ true) × (length r.1.now ≤ length text.now)) }
+/// The numbers of a point line: two alone, or two behind the word POINT in parentheses.
+fn point_numbers(text: &[u8]) -> Option<(NumberText<'_>, NumberText<'_>)>
+    ensures found { MatchOption result (point_texts (pieces text.now) ≡ None) (λ r. point_texts (pieces text.now) ≡ Some (r.0.text.now, r.1.text.now)) }
+    ensures first { IfSome result (λ r. length r.0.text.now ≤ length text.now) }
+    ensures second { IfSome result (λ r. length r.1.text.now ≤ length text.now) }
 {
     match behind_point_mark(text) {
         Some(inside) => {
@@ -76,15 +76,14 @@ fn point_numbers(text: &[u8]) -> Option<(&[u8], &[u8])>
     }
 }
 
-/// The grid value of a number text, unless it is off the grid or out of range.
-fn grid_value(text: &[u8], scale: u8) -> Option<i64>
-    requires number { is_number_text text.now ≡ true }
-    requires length { length text.now ≤ 2 ^ 28 }
+/// The grid value of a number, unless it is off the grid or out of range.
+fn grid_value(number: &NumberText<'_>, scale: u8) -> Option<i64>
+    requires length { length number.now.text.now ≤ 2 ^ 28 }
     requires scale { scale ≤ 15 }
-    ensures value { result ≡ (if is_grid_number scale text.now then Some (grid_value_of scale text.now) else None) }
+    ensures value { result ≡ (if is_grid_number scale number.now.text.now then Some (grid_value_of scale number.now.text.now) else None) }
     ensures bound { IfSome result (λ value. OnGrid value) }
 {
-    match grid_number(text, scale) {
+    match on_grid(number, scale) {
         GridNumber::OnGrid(value) => Some(value),
         _ => None,
     }
@@ -100,5 +99,5 @@ pub fn read_point(text: &[u8], scale: u8) -> Option<Point>
         return None;
     }
     let (x, y) = point_numbers(text)?;
-    Point::new(grid_value(x, scale)?, grid_value(y, scale)?)
+    Point::new(grid_value(&x, scale)?, grid_value(&y, scale)?)
 }

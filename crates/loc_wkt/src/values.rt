@@ -5,14 +5,13 @@ ghost use Rattle.loc_rings.specs.Values.{IsRing};
 ghost use Rattle.loc_spec_plane.specs.Points.{OnGrid};
 ghost use Rattle.loc_spec_text.specs.Bytes.{or_else};
 ghost use Rattle.loc_spec_text.specs.Geometry.{pieces, two};
-ghost use Rattle.loc_spec_text.specs.Number.{is_number as is_number_text};
 ghost use Rattle.loc_spec_text.specs.Reader.{wide_more, wide_point_at};
 ghost use Rattle.loc_spec_text.specs.Reading.{all_rings, number_fault as number_fault_of, ring_fault as fault_of};
 ghost use Rattle.loc_wkt.specs.GridNumbers.{IsBounded, IsGridNumber};
 ghost use Rattle.loc_wkt.specs.Lists.{IsFurther, IsRead};
 ghost use Rattle.loc_wkt.specs.Passes.{HasRoom, after_number, after_point, nothing_read, point_or_zero, value_or_zero, with_values};
 
-use crate::grid_numbers::{GridNumber, grid_number};
+use crate::grid_numbers::{GridNumber, NumberText, on_grid};
 use crate::marks::next_number;
 use loc_geom::Point;
 use loc_rings::Rings;
@@ -127,16 +126,15 @@ impl Values {
     }
 
     /// The grid value of the next number, or 0 where it is off the grid or out of range.
-    pub(crate) fn value(&mut self, text: &[u8]) -> i64
-        requires number { is_number_text text.now ≡ true }
-        requires length { length text.now ≤ 2 ^ 28 }
+    pub(crate) fn value(&mut self, text: &NumberText<'_>) -> i64
+        requires length { length text.now.text.now ≤ 2 ^ 28 }
         requires scale { self.old.scale ≤ 15 }
         requires room { self.old.numbers.count < 2 ^ 28 }
-        ensures value { result ≡ value_or_zero self.old.scale text.now }
-        ensures counted { self.new ≡ after_number self.old text.now }
+        ensures value { result ≡ value_or_zero self.old.scale text.now.text.now }
+        ensures counted { self.new ≡ after_number self.old text.now.text.now }
         ensures bound { OnGrid result }
     {
-        let number = grid_number(text, self.scale);
+        let number = on_grid(text, self.scale);
         self.numbers = self
             .numbers
             .with(number_fault(number, self.numbers.count + 1));
@@ -153,7 +151,7 @@ impl Values {
     {
         let (x, rest) = next_number(text)?;
         let (y, rest) = next_number(rest)?;
-        let point = Point::new(self.value(x), self.value(y))?;
+        let point = Point::new(self.value(&x), self.value(&y))?;
         match behind_further(rest) {
             None => Some((point, rest)),
             Some(behind) => {

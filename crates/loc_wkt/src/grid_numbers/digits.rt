@@ -9,6 +9,9 @@ ghost use Rattle.loc_wkt.specs.GridNumbers.{Represents};
 
 const HEAD_LIMIT: u64 = 10_000_000_000_000_000_000;
 
+// A head below this takes one digit more.
+const SHORT_HEAD: u64 = HEAD_LIMIT / 10;
+
 const MOST_SHIFT: u64 = 1 << 40;
 
 /// Digits read so far: a head below 10^19 that ends in no zero, and the zeros behind it. Where the head is longer, it is not kept.
@@ -52,6 +55,13 @@ impl Digits {
                 head: self.head,
                 zeros: self.zeros + 1,
                 long: self.long,
+            };
+        }
+        if self.zeros == 0 && !self.long && self.head < SHORT_HEAD {
+            return Digits {
+                head: self.head * 10 + digit as u64,
+                zeros: 0,
+                long: false,
             };
         }
         if self.long || self.zeros > 18 || self.head >= HEAD_LIMIT {

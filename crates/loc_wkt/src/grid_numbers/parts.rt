@@ -1,6 +1,6 @@
 // The parts of a number text: its digits before and behind the point, and its exponent.
 
-ghost use Rattle.std.specs.Prelude.{◌≡◌, ◌≤◌, ◌+◌, length, position};
+ghost use Rattle.std.specs.Prelude.{◌≡◌, ◌≤◌, ◌+◌, ℕ, List, length, position, true, false, IfSome, IfNone};
 ghost use Rattle.std.specs.Char.{is_ascii_digit};
 ghost use Rattle.std.specs.List.{before_first, after_first, list_all, list_any};
 ghost use Rattle.loc_spec_text.specs.Number.{are_digits, exponent, fraction_digits, has_exponent, is_exponent_mark, is_number as is_number_text, is_point, whole_digits};
@@ -84,11 +84,21 @@ fn is_digits(text: &[u8]) -> bool
     !text.is_empty() && all_digits(text)
 }
 
-/// Whether a text is a number: a sign or none, digits with at most one point, and an exponent or none.
-pub fn is_number(text: &[u8]) -> bool
-    ensures { result ≡ is_number_text text.now }
+/// A number text, cut into its parts once.
+#[derive(Clone, Copy)]
+pub struct NumberText<'a> {
+    pub text: &'a [u8],
+    pub parts: NumberParts<'a>,
+    ghost number: { is_number_text text.now ≡ true },
+    ghost whole: { parts.whole.now ≡ whole_digits text.now },
+    ghost fraction: { parts.fraction.now ≡ fraction_digits text.now },
+    ghost exponent: { parts.exponent.now ≡ exponent text.now },
+}
+
+/// Whether the parts are those of a number: digits with at most one point, and an exponent or none.
+fn are_of_number(parts: &NumberParts<'_>) -> bool
+    ensures { (text : List ℕ) → parts.now.whole.now ≡ whole_digits text → parts.now.fraction.now ≡ fraction_digits text → parts.now.exponent.now ≡ exponent text → parts.now.has_exponent ≡ has_exponent text → result ≡ is_number_text text }
 {
-    let parts = parts(text);
     if parts.whole.is_empty() && parts.fraction.is_empty() {
         return false;
     }
@@ -96,4 +106,24 @@ pub fn is_number(text: &[u8]) -> bool
         return false;
     }
     !parts.has_exponent || is_digits(unsigned(parts.exponent))
+}
+
+/// The number that a text is: a sign or none, digits with at most one point, and an exponent or none.
+pub fn number_text(text: &[u8]) -> Option<NumberText<'_>>
+    ensures none { IfNone result (is_number_text text.now ≡ false) }
+    ensures same { IfSome result (λ number. number.text.now ≡ text.now) }
+{
+    let parts = parts(text);
+    if are_of_number(&parts) {
+        Some(NumberText { text, parts })
+    } else {
+        None
+    }
+}
+
+/// Whether a text is a number: a sign or none, digits with at most one point, and an exponent or none.
+pub fn is_number(text: &[u8]) -> bool
+    ensures { result ≡ is_number_text text.now }
+{
+    number_text(text).is_some()
 }

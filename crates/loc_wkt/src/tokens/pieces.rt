@@ -1,11 +1,11 @@
-// The pieces of a text, cut by its tokens: a piece is the longest token at its place, with what follows it before the next break.
+// The pieces of a text: each mark by itself, and what stands before the next break.
 
 ghost use Rattle.std.specs.Prelude.{◌≡◌, ◌∷◌, [], ◌<◌, ◌≤◌, length, take, drop, slice_index, false, IfSome, IfNone};
 ghost use Rattle.std.specs.List.{position_or_len};
 ghost use Rattle.loc_spec_text.specs.Bytes.{is_white as is_white_byte};
 ghost use Rattle.loc_spec_text.specs.Geometry.{is_break as is_break_byte, is_mark as is_mark_byte, piece_of, pieces};
 
-use super::lengths::{is_white, token_length, white_length};
+use super::lengths::{is_white, white_length};
 
 /// Whether a byte is a parenthesis or a comma.
 pub fn is_mark(b: u8) -> bool
@@ -29,7 +29,7 @@ fn run_length(text: &[u8]) -> usize
     text.iter().take_while(|b| !is_break(**b)).count()
 }
 
-/// The length of the first piece of a text that begins with no white space.
+/// The length of the first piece of a text that begins with no white space: a mark by itself, or what stands before the first break.
 fn piece_length(text: &[u8]) -> usize
     requires some { 0 < length text.now }
     requires no_white { is_white_byte (slice_index text.now 0) ≡ false }
@@ -37,11 +37,10 @@ fn piece_length(text: &[u8]) -> usize
     ensures within { result ≤ length text.now }
     ensures cut { pieces text.now ≡ piece_of (take result text.now) ∷ pieces (drop result text.now) }
 {
-    let token = token_length(text);
     if is_mark(text[0]) {
-        token
+        1
     } else {
-        token + run_length(&text[token..])
+        run_length(text)
     }
 }
 

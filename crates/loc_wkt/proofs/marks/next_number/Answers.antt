@@ -1,13 +1,14 @@
-use Rattle.std.proofs.Common.{sym, ◌∙◌, rules}
-use Rattle.loc_spec_text.specs.Geometry.{pieces}
+use Rattle.std.proofs.Common.{sym, ap, ◌∙◌, ◌∷◌, rules}
+use Rattle.loc_spec_text.specs.Geometry.{piece_of, pieces}
 use Rattle.loc_wkt.proofs.FrontLemmas.{at_none, no_number_first, nothing_first, number_first}
 use Rattle.loc_wkt.proofs.marks.next_number.Goals as goal
 
 pub returns-in_err-piece-clause-found : goal.returns-in_err-piece-clause-found
 returns-in_err-piece-clause-found c = at_none _ _ _ c.from_residual.ensures (nothing_first (pieces c.args.text.now) (search rules))
 
-pub returns-then-is_number-clause-found : goal.returns-then-is_number-clause-found
-returns-then-is_number-clause-found c = number_first (pieces c.args.text.now) (pieces c.in_ok-piece.rest.now) c.in_ok-piece.piece.now (search rules) (sym c.is_number.ensures ∙ c.if-is_number.true)
+pub returns-in_err-number-clause-found : goal.returns-in_err-number-clause-found
+returns-in_err-number-clause-found c = at_none _ _ _ c.from_residual-in_err-number.ensures (no_number_first (pieces c.args.text.now) (pieces c.in_ok-piece.rest.now) c.in_ok-piece.piece.now (search rules) (search rules))
 
-pub returns-else-is_number-clause-found : goal.returns-else-is_number-clause-found
-returns-else-is_number-clause-found c = no_number_first (pieces c.args.text.now) (pieces c.in_ok-piece.rest.now) c.in_ok-piece.piece.now (search rules) (sym c.is_number.ensures ∙ c.if-is_number.false)
+pub returns-clause-found : goal.returns-clause-found
+returns-clause-found c = number_first (pieces c.args.text.now) (pieces c.in_ok-piece.rest.now) c.in_ok-number.number.text.now
+    (c.in_ok-piece.ensures.found ∙ ap (λ run. piece_of run ∷ pieces c.in_ok-piece.rest.now) (sym c.in_ok-number.ensures.same)) c.in_ok-number.number.number

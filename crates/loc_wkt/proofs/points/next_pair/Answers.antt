@@ -8,7 +8,7 @@ pub returns-in_err-x-clause-found : goal.returns-in_err-x-clause-found
 returns-in_err-x-clause-found c = at_none _ _ _ c.from_residual.ensures (no_pair (pieces c.args.text.now) (search rules))
 
 pub returns-in_err-y-clause-found : goal.returns-in_err-y-clause-found
-returns-in_err-y-clause-found c = at_none _ _ _ c.from_residual-in_err-y.ensures (half_pair (pieces c.args.text.now) (pieces c.in_ok-x.rest.now) c.in_ok-x.x.now (search rules) (search rules))
+returns-in_err-y-clause-found c = at_none _ _ _ c.from_residual-in_err-y.ensures (half_pair (pieces c.args.text.now) (pieces c.in_ok-x.rest.now) c.in_ok-x.x.text.now (search rules) (search rules))
 
 pub returns-clause-found : goal.returns-clause-found
-returns-clause-found c = pair_front (pieces c.args.text.now) (pieces c.in_ok-x.rest.now) (pieces c.in_ok-y.rest.now) c.in_ok-x.x.now c.in_ok-y.y.now (search rules) (search rules)
+returns-clause-found c = pair_front (pieces c.args.text.now) (pieces c.in_ok-x.rest.now) (pieces c.in_ok-y.rest.now) c.in_ok-x.x.text.now c.in_ok-y.y.text.now (search rules) (search rules)

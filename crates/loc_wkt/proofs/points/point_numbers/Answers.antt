@@ -18,8 +18,8 @@ returns-in_err-x-in-None-clause-found c = let none : point_at (pieces c.args.tex
 
 pub returns-then-is_close_mark-clause-found : goal.returns-then-is_close_mark-clause-found
 returns-then-is_close_mark-clause-found c = marked_texts (pieces c.args.text.now) (pieces c.in-Some.inside.now) c.in-Some.ensures.found ∙ ap (pair_then is_end) c.in_ok-x-in-Some.ensures.found
-    ∙ ap (λ b. if b then Some (c.in_ok-x-in-Some.x.now, c.in_ok-x-in-Some.y.now) else None) (sym c.is_close_mark.ensures ∙ c.if-is_close_mark.true)
+    ∙ ap (λ b. if b then Some (c.in_ok-x-in-Some.x.text.now, c.in_ok-x-in-Some.y.text.now) else None) (sym c.is_close_mark.ensures ∙ c.if-is_close_mark.true)
 
 pub returns-else-is_close_mark-clause-found : goal.returns-else-is_close_mark-clause-found
 returns-else-is_close_mark-clause-found c = marked_texts (pieces c.args.text.now) (pieces c.in-Some.inside.now) c.in-Some.ensures.found ∙ ap (pair_then is_end) c.in_ok-x-in-Some.ensures.found
-    ∙ ap (λ b. if b then Some (c.in_ok-x-in-Some.x.now, c.in_ok-x-in-Some.y.now) else None) (sym c.is_close_mark.ensures ∙ c.if-is_close_mark.false)
+    ∙ ap (λ b. if b then Some (c.in_ok-x-in-Some.x.text.now, c.in_ok-x-in-Some.y.text.now) else None) (sym c.is_close_mark.ensures ∙ c.if-is_close_mark.false)

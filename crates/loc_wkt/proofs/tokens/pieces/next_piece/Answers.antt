@@ -1,7 +1,7 @@
 use Rattle.std.proofs.Common.{arith, ◌∙◌, ◌∷◌, sym, ap, ap₂, refl}
 use Rattle.std.proofs.lemmas.List.{take_rest}
 use Rattle.loc_spec_text.specs.Geometry.{pieces, piece_of}
-use Rattle.loc_wkt.proofs.TokenPieces.{no_piece, pieces_behind}
+use Rattle.loc_wkt.proofs.FirstPiece.{no_piece, pieces_behind}
 use Rattle.loc_wkt.proofs.TokenTurns.{turn_starts}
 use Rattle.loc_wkt.proofs.tokens.pieces.next_piece.Goals as goal
 

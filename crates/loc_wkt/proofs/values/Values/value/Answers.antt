@@ -7,4 +7,4 @@ pub returns-clause-counted : goal.returns-clause-counted
 unfolding counted
 returns-clause-counted c = let v = c.args.self.now in
     ap (λ n. record v { numbers = n })
-    (c.with-self.ensures ∙ ap (λ o. record { count = v.numbers.count + 1; fault = or_else v.numbers.fault o }) (c.number_fault.ensures v.scale c.args.text.now c.grid_number-number.ensures.number))
+    (c.with-self.ensures ∙ ap (λ o. record { count = v.numbers.count + 1; fault = or_else v.numbers.fault o }) (c.number_fault.ensures v.scale c.args.text.now.text.now c.on_grid-number.ensures.number))
