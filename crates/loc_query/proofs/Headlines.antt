@@ -31,20 +31,20 @@ use Rattle.loc_query.specs.QueryCourses.{points_course, query_course, steps_by}
 use Rattle.loc_query.proofs.Rows as rows
 
 -- what holds of refusals and behind an accepted layer holds of a query
-query_all : (P : Course → Type 0) → ((passes : Text → Bool) → P (refuses passes)) → (index : Index) (file : LayerFile) (points text : Text)
-    → ((layer : List Feature) → P (points_course index file.scale points layer)) → P (layer_in file.form (layer_of file.form file.scale text) (λ l. accepted_course file.scale l (points_course index file.scale points l)))
-query_all P refused_so index file points text behind = layer_all P refused_so file.form (layer_of file.form file.scale text) (λ l. accepted_course file.scale l (points_course index file.scale points l))
-    (λ l. accepted_all P refused_so file.scale l (points_course index file.scale points l) (behind l))
+query_all : (P : Course → Type 0) → ((passes : Text → Bool) → P (refuses passes)) → (index : Index) (faces : Bool) (file : LayerFile) (points text : Text)
+    → ((layer : List Feature) → P (points_course index faces file.scale points layer)) → P (layer_in file.form (layer_of file.form file.scale text) (λ l. accepted_course file.scale l (points_course index faces file.scale points l)))
+query_all P refused_so index faces file points text behind = layer_all P refused_so file.form (layer_of file.form file.scale text) (λ l. accepted_course file.scale l (points_course index faces file.scale points l))
+    (λ l. accepted_all P refused_so file.scale l (points_course index faces file.scale points l) (behind l))
 
 -- a query makes no file
-pub query_makes_none : (index : Index) (file : LayerFile) (points : Text) → MakesNone (query_course index file points)
-query_makes_none index file points name maker = query_all MakesNone (λ passes name maker. maker) index file points maker.0 (λ layer name maker. maker) name maker.1
+pub query_makes_none : (index : Index) (faces : Bool) (file : LayerFile) (points : Text) → MakesNone (query_course index faces file points)
+query_makes_none index faces file points name maker = query_all MakesNone (λ passes name maker. maker) index faces file points maker.0 (λ layer name maker. maker) name maker.1
 
 -- and no line of its points is refused
-pub query_refuses_behind : (index : Index) (file : LayerFile) (points line : Text) → MayRefuseBehind (query_course index file points) line → line ≡ ended (codes "points: too long")
-query_refuses_behind index file points line by = query_all (λ c. MayRefuseBehind c line → line ≡ ended (codes "points: too long")) (λ passes by. absurd by) index file points by.0 (λ layer by. here layer by) by.1
+pub query_refuses_behind : (index : Index) (faces : Bool) (file : LayerFile) (points line : Text) → MayRefuseBehind (query_course index faces file points) line → line ≡ ended (codes "points: too long")
+query_refuses_behind index faces file points line by = query_all (λ c. MayRefuseBehind c line → line ≡ ended (codes "points: too long")) (λ passes by. absurd by) index faces file points by.0 (λ layer by. here layer by) by.1
   where
-    here : (layer : List Feature) → MayRefuseBehind (points_course index file.scale points layer) line → line ≡ ended (codes "points: too long")
+    here : (layer : List Feature) → MayRefuseBehind (points_course index faces file.scale points layer) line → line ≡ ended (codes "points: too long")
     here layer (inl is) = is
     here layer (inr asked) = absurd (cc asked.1)
 
@@ -52,68 +52,68 @@ query_refuses_behind index file points line by = query_all (λ c. MayRefuseBehin
 not_done : (o by : Outcome) (before : Option Text) (new : Moment) → o ≡ by → (EndsSo by before new None → ⊥) → EndsSo o before new None → ⊥
 not_done o by before new is none ends = none (subst (λ (x : Outcome). EndsSo x before new None) is ends)
 
-module _ (told : Text → Told) (index : Index) (file : LayerFile) (points layer text : Text) (is : told file.name ≡ holds layer) (also : told points ≡ holds text) where
+module _ (told : Text → Told) (index : Index) (faces : Bool) (file : LayerFile) (points layer text : Text) (is : told file.name ≡ holds layer) (also : told points ≡ holds text) where
   -- where a query was done, its layer is accepted and its points are not too long
-  accepted : (before : Option Text) (new : Moment) → EndsSo (outcome told (query_course index file points)) before new None → (features : List Feature) × IsAccepted file layer features × (length text ≤ limit)
+  accepted : (before : Option Text) (new : Moment) → EndsSo (outcome told (query_course index faces file points)) before new None → (features : List Feature) × IsAccepted file layer features × (length text ≤ limit)
   accepted before new ends = elim (long_or_short limit layer) [
-    | inl long ↦ absurd (not_done _ _ before new (rows.layer_long told index file points layer is long.0) (λ e. e) ends)
+    | inl long ↦ absurd (not_done _ _ before new (rows.layer_long told index faces file points layer is long.0) (λ e. e) ends)
     | inr short ↦ by_read short.0 (layer_of file.form file.scale layer) refl
   ]
     where
       by_points : (features : List Feature) → IsAccepted file layer features → (features : List Feature) × IsAccepted file layer features × (length text ≤ limit)
       by_points features a = elim (long_or_short limit text) [
-        | inl long ↦ absurd (not_done _ _ before new (rows.points_long told index file points layer is features a.within a.reads a.apart a.few_covers text also long.0) (λ e. e) ends)
+        | inl long ↦ absurd (not_done _ _ before new (rows.points_long told index faces file points layer is features a.within a.reads a.apart a.few_covers text also long.0) (λ e. e) ends)
         | inr short ↦ (features, a, short.0)
       ]
 
       by_covers : (features : List Feature) → length layer ≤ limit → layer_of file.form file.scale layer ≡ Ok features → Accepts features → (features : List Feature) × IsAccepted file layer features × (length text ≤ limit)
       by_covers features few reads apart = elim (cases_lt 16777216 (cover_sum (table_in features))) [
-        | inl many ↦ absurd (not_done _ _ before new (rows.covers told index file points layer is features few reads apart many) (λ e. e) ends)
+        | inl many ↦ absurd (not_done _ _ before new (rows.covers told index faces file points layer is features few reads apart many) (λ e. e) ends)
         | inr less ↦ by_points features (record { within = few; reads = reads; apart = apart; few_covers = less })
       ]
 
       by_conflict : (features : List Feature) → length layer ≤ limit → layer_of file.form file.scale layer ≡ Ok features → (b : Bool) → has_conflict (edges_of features) ≡ b → (features : List Feature) × IsAccepted file layer features × (length text ≤ limit)
-      by_conflict features few reads true has = absurd (not_done _ _ before new (rows.conflict told index file points layer is features few reads has) (λ e. e) ends)
+      by_conflict features few reads true has = absurd (not_done _ _ before new (rows.conflict told index faces file points layer is features few reads has) (λ e. e) ends)
       by_conflict features few reads false has = by_covers features few reads (subst (λ (b : Bool). IsTrue (not b)) (sym has) refl)
 
       by_read : length layer ≤ limit → (r : LayerRead) → layer_of file.form file.scale layer ≡ r → (features : List Feature) × IsAccepted file layer features × (length text ≤ limit)
-      by_read few (Err fault) reads = absurd (not_done _ _ before new (rows.layer_line told index file points layer is fault few reads) (λ e. e) ends)
+      by_read few (Err fault) reads = absurd (not_done _ _ before new (rows.layer_line told index faces file points layer is fault few reads) (λ e. e) ends)
       by_read few (Ok features) reads = by_conflict features few reads (has_conflict (edges_of features)) refl
 
   -- an accepted layer and points that are not too long come to the answers
-  comes_to : (features : List Feature) → IsAccepted file layer features → length text ≤ limit → outcome told (query_course index file points) ≡ output (exactly (output_of file.scale features text))
-  comes_to features a short = rows.answered_all told index file points layer is features a.within a.reads a.apart a.few_covers text also short
+  comes_to : (features : List Feature) → IsAccepted file layer features → length text ≤ limit → outcome told (query_course index faces file points) ≡ output (exactly (output_of faces file.scale features text))
+  comes_to features a short = rows.answered_all told index faces file points layer is features a.within a.reads a.apart a.few_covers text also short
 
-  steps_within : (k : ℕ) → length (lines text) * steps_in index (layer_of file.form file.scale layer) ≤ k → WithinSteps told (query_course index file points) k
+  steps_within : (k : ℕ) → length (lines text) * steps_in index (layer_of file.form file.scale layer) ≤ k → WithinSteps told (query_course index faces file points) k
   steps_within k most other few told_so =
       let same : other ≡ layer = subst (λ (t : Told). IsToldText t other) is told_so in
-      subst (λ (t : Text). WithinSteps told (layer_in file.form (layer_of file.form file.scale t) (λ l. accepted_course file.scale l (points_course index file.scale points l))) k) (sym same)
+      subst (λ (t : Text). WithinSteps told (layer_in file.form (layer_of file.form file.scale t) (λ l. accepted_course file.scale l (points_course index faces file.scale points l))) k) (sym same)
       (by_read (layer_of file.form file.scale layer) most)
     where
-      by_points : (features : List Feature) → length (lines text) * steps_by index (table_in features) ≤ k → WithinSteps told (points_course index file.scale points features) k
+      by_points : (features : List Feature) → length (lines text) * steps_by index (table_in features) ≤ k → WithinSteps told (points_course index faces file.scale points features) k
       by_points features most more short told_too =
           let front = subst (λ (t : Told). IsToldFront t more) also told_too in
           let fewer : length (lines more) ≤ length (lines text) = subst (λ (t : Text). length (lines more) ≤ length (lines t)) (sym front.1) (lines-front more front.0) in
           le_trans (mul-le-mul_right (steps_by index (table_in features)) fewer) most
 
-      by_read : (r : LayerRead) → length (lines text) * steps_in index r ≤ k → WithinSteps told (layer_in file.form r (λ l. accepted_course file.scale l (points_course index file.scale points l))) k
+      by_read : (r : LayerRead) → length (lines text) * steps_in index r ≤ k → WithinSteps told (layer_in file.form r (λ l. accepted_course file.scale l (points_course index faces file.scale points l))) k
       by_read (Err fault) most = tt
-      by_read (Ok features) most = accepted_all (λ (c : Course). WithinSteps told c k) (λ passes. tt) file.scale features (points_course index file.scale points features) (by_points features most)
+      by_read (Ok features) most = accepted_all (λ (c : Course). WithinSteps told c k) (λ passes. tt) file.scale features (points_course index faces file.scale points features) (by_points features most)
 
-module _ (index : Index) (file : LayerFile) (points : Text) (old new : Moment) (n n' : Stream) (status : ℕ) (s : Sentences (query_course index file points) old new n n' status) where
-  none_failed : Steady old.shelf.read_faults new.shelf.read_faults → Steady old.out.faults new.out.faults → NoneFailed (query_course index file points) old new
-  none_failed reads out = record { reads = reads; out = out; files = λ name maker. absurd (query_makes_none index file points name maker) }
+module _ (index : Index) (faces : Bool) (file : LayerFile) (points : Text) (old new : Moment) (n n' : Stream) (status : ℕ) (s : Sentences (query_course index faces file points) old new n n' status) where
+  none_failed : Steady old.shelf.read_faults new.shelf.read_faults → Steady old.out.faults new.out.faults → NoneFailed (query_course index faces file points) old new
+  none_failed reads out = record { reads = reads; out = out; files = λ name maker. absurd (query_makes_none index faces file points name maker) }
 
   memory : status ≡ 5 → (status ≡ 5) × (new.out.written ≡ old.out.written)
   memory five = (five, s.out.memory five)
 
-  grown : (answer : Text) → outcome old.shelf.told (query_course index file points) ≡ output (exactly answer) → status ≡ 0 → Appends old.out.written new.out.written answer
+  grown : (answer : Text) → outcome old.shelf.told (query_course index faces file points) ≡ output (exactly answer) → status ≡ 0 → Appends old.out.written new.out.written answer
   grown answer is zero =
       let done = subst (λ (o : Outcome). EndsSo o old.out.written new None) is (s.done zero) in
       subst (λ (t : Text). Appends old.out.written new.out.written t) (it_exactly answer done.0 done.1) done.2
 
   -- a refusal by a line that passes
-  refused : (passes : Text → Bool) → outcome old.shelf.told (query_course index file points) ≡ refusal passes → Steady old.shelf.read_faults new.shelf.read_faults
+  refused : (passes : Text → Bool) → outcome old.shelf.told (query_course index faces file points) ≡ refusal passes → Steady old.shelf.read_faults new.shelf.read_faults
       → ((status ≡ 1) × (new.out.written ≡ old.out.written) × (line : Text) × IsTrue (passes line) × Wrote n n' line) ⊎ ((status ≡ 5) × (new.out.written ≡ old.out.written))
   refused passes is steady = elim (s.refuses passes is steady) [
     | inl one ↦ inl (one.0, subst (λ (o : Outcome). OutSo o old.out.written new.out.written) is s.out.grows, one.1, one.2, one.3)
@@ -121,7 +121,7 @@ module _ (index : Index) (file : LayerFile) (points : Text) (old new : Moment) (
   ]
 
   -- a refusal by this line
-  refused_by : (line : Text) → outcome old.shelf.told (query_course index file points) ≡ refusal (exactly line) → Steady old.shelf.read_faults new.shelf.read_faults
+  refused_by : (line : Text) → outcome old.shelf.told (query_course index faces file points) ≡ refusal (exactly line) → Steady old.shelf.read_faults new.shelf.read_faults
       → ((status ≡ 1) × (new.out.written ≡ old.out.written) × Wrote n n' line) ⊎ ((status ≡ 5) × (new.out.written ≡ old.out.written))
   refused_by line is steady = elim (refused (exactly line) is steady) [
     | inl one ↦ inl (one.0, one.1, subst (λ (t : Text). Wrote n n' t) (it_exactly line one.2 one.3) one.4)
@@ -129,26 +129,26 @@ module _ (index : Index) (file : LayerFile) (points : Text) (old new : Moment) (
   ]
 
   -- what a query answers
-  pub headline : Headline index file points old new n n' status
+  pub headline : Headline index faces file points old new n n' status
   headline = record {
     done = λ layer text is also zero.
-        let a = accepted old.shelf.told index file points layer text is also old.out.written new (s.done zero) in
-        (a.0, a.1, a.2, grown (output_of file.scale a.0 text) (comes_to old.shelf.told index file points layer text is also a.0 a.1 a.2) zero);
+        let a = accepted old.shelf.told index faces file points layer text is also old.out.written new (s.done zero) in
+        (a.0, a.1, a.2, grown (output_of faces file.scale a.0 text) (comes_to old.shelf.told index faces file points layer text is also a.0 a.1 a.2) zero);
     answers = λ layer text features is also a short reads out.
-        let to = comes_to old.shelf.told index file points layer text is also features a short in
+        let to = comes_to old.shelf.told index faces file points layer text is also features a short in
         elim (s.succeeds (subst IsDoing (sym to) tt) (none_failed reads out)) [
-          | inl zero ↦ inl (zero, grown (output_of file.scale features text) to zero)
+          | inl zero ↦ inl (zero, grown (output_of faces file.scale features text) to zero)
           | inr five ↦ inr (memory five)
         ];
-    layer_long = λ layer is long steady. refused_by (ended (codes "layer: too long")) (rows.layer_long old.shelf.told index file points layer is long) steady;
-    layer_fault = λ layer fault is few reads steady. refused_by (ended (layer_fault_text file.form fault)) (rows.layer_line old.shelf.told index file points layer is fault few reads) steady;
-    conflict = λ layer features is few reads has steady. refused (names_conflict file.scale (edges_of features)) (rows.conflict old.shelf.told index file points layer is features few reads has) steady;
-    covers = λ layer features is few reads apart many steady. refused_by (ended (codes "layer: covers past 16777216")) (rows.covers old.shelf.told index file points layer is features few reads apart many) steady;
+    layer_long = λ layer is long steady. refused_by (ended (codes "layer: too long")) (rows.layer_long old.shelf.told index faces file points layer is long) steady;
+    layer_fault = λ layer fault is few reads steady. refused_by (ended (layer_fault_text file.form fault)) (rows.layer_line old.shelf.told index faces file points layer is fault few reads) steady;
+    conflict = λ layer features is few reads has steady. refused (names_conflict file.scale (edges_of features)) (rows.conflict old.shelf.told index faces file points layer is features few reads has) steady;
+    covers = λ layer features is few reads apart many steady. refused_by (ended (codes "layer: covers past 16777216")) (rows.covers old.shelf.told index faces file points layer is features few reads apart many) steady;
     points_long = λ layer text features is also a long reads out.
-        elim (s.refuses_partly (output_within limit file.scale features text) (ended (codes "points: too long"))
-        (rows.points_long old.shelf.told index file points layer is features a.within a.reads a.apart a.few_covers text also long) (none_failed reads out)) [
+        elim (s.refuses_partly (output_within limit faces file.scale features text) (ended (codes "points: too long"))
+        (rows.points_long old.shelf.told index faces file points layer is features a.within a.reads a.apart a.few_covers text also long) (none_failed reads out)) [
           | inl one ↦ inl one
           | inr five ↦ inr (memory five)
         ];
-    steps = λ layer text is also. s.steps.within _ (steps_within old.shelf.told index file points layer text is also _ (omega arith));
+    steps = λ layer text is also. s.steps.within _ (steps_within old.shelf.told index faces file points layer text is also _ (omega arith));
   }

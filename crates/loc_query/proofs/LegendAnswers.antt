@@ -29,7 +29,7 @@ use Rattle.loc_place.proofs.FoundPlace.{place_at_is}
 use Rattle.loc_cover.specs.Legends.{LegendRows, IsSound, covering, touching, list_above, list_over}
 use Rattle.loc_cover.proofs.Covered.{covering_covers, touching_touches}
 use Rattle.loc_batch.specs.Answering.{answer_by, answer_at as answer_by_rows, face_at, found_answer, names}
-use Rattle.loc_batch.specs.Faces.{unnumbered}
+use Rattle.loc_faces.specs.Subdivision.{shown_at}
 use Rattle.loc_answering.specs.ByLine.{as_bytes, by_line}
 use Rattle.loc_course.specs.Courses.{Text, Stopped, answers}
 use Rattle.loc_course.specs.Following.{Follows}
@@ -118,35 +118,37 @@ module _ (layer : List Feature) (t : Table) (rows : LegendRows) (sound : IsSound
     covering_named = named_are (λ rings. covers rings p) refl layer rows (covering rows place) m.ids (covering_rises place)
         (λ f. covering_covers t rows m.fits m.is_true in_order m.ended m.even m.apart p place is f ∙ (ap (λ s. covers_by_marks s f p) m.table ∙ covers_is (layer_of layer) f p))
 
-  answer_is : (p : Point) (place : Place) → IsPlace t p place
-      → answer_by_rows rows (face_at unnumbered place) place ≡ answer_at place (ids_where (λ rings. touches rings p) layer) (ids_where (λ rings. covers rings p) layer)
-  answer_is p (Corner c) is =
+  answer_is : (shown : Option ℕ → Option ℕ) (p : Point) (place : Place) → IsPlace t p place
+      → answer_by_rows rows (face_at shown place) place ≡ answer_at shown place (ids_where (λ rings. touches rings p) layer) (ids_where (λ rings. covers rings p) layer)
+  answer_is shown p (Corner c) is =
       let less : c < length t.corners = ltb-true c (length t.corners) (and_parts (nat_lt c (length t.corners)) (same_point (corner t c) p) is).0 in
       ap₂ (on_corner c) (touching_named p (Corner c) is (m.fits.on_corner c less).rising) (covering_named p (Corner c) is)
-  answer_is p (Border e) is =
+  answer_is shown p (Border e) is =
       let less : e < length t.ends = ltb-true e (length t.ends) (and_parts (is_edge t e) (lies_on (edge t e) p) is.1).0 in
       ap₂ (on_border e) (touching_named p (Border e) is (m.fits.on_edge e less).rising) (covering_named p (Border e) is)
-  answer_is p (Area floor) is = ap (in_face None) (covering_named p (Area floor) is)
+  answer_is shown p (Area floor) is = ap (in_face (shown floor)) (covering_named p (Area floor) is)
 
-  -- what is answered to a line by the legend is what is answered by direct containment
-  answer_to_line : (scale : ℕ) (line : List ℕ) → answer_by scale (λ p. Ok (place_at t p)) unnumbered rows line ≡ Ok (answer_to (point_of scale) (located layer) line)
-  unfolding answer_by located
-  answer_to_line scale line = by (point_of scale line)
-    where
-      by : (o : Option Point) → found_answer rows unnumbered (option_map (λ p. Ok (place_at t p)) o) ≡ Ok (unwrap_or (option_map (located layer) o) no_point)
-      by None = refl
-      by (Some p) = ap Ok (answer_is p (place_at t p) (place_at_is t planar p)
-          ∙ ap (λ s. answer_at (place_at s p) (ids_where (λ rings. touches rings p) layer) (ids_where (λ rings. covers rings p) layer)) m.table)
+  module _ (faces : Bool) (shown : Option ℕ → Option ℕ) (numbers_are : shown ≡ shown_at faces t) where
+    -- what is answered to a line by the legend is what is answered by direct containment
+    pub answer_to_line : (scale : ℕ) (line : List ℕ) → answer_by scale (λ p. Ok (place_at t p)) shown rows line ≡ Ok (answer_to (point_of scale) (located faces layer) line)
+    unfolding answer_by located
+    answer_to_line scale line = by (point_of scale line)
+      where
+        by : (o : Option Point) → found_answer rows shown (option_map (λ p. Ok (place_at t p)) o) ≡ Ok (unwrap_or (option_map (located faces layer) o) no_point)
+        by None = refl
+        by (Some p) = ap Ok (answer_is shown p (place_at t p) (place_at_is t planar p)
+            ∙ (ap (λ (s : Option ℕ → Option ℕ). answer_at s (place_at t p) (ids_where (λ rings. touches rings p) layer) (ids_where (λ rings. covers rings p) layer)) numbers_are
+            ∙ ap (λ s. answer_at (shown_at faces s) (place_at s p) (ids_where (λ rings. touches rings p) layer) (ids_where (λ rings. covers rings p) layer)) m.table))
 
-  -- so for all lines
-  answers_are : (scale : ℕ) → by_line (answer_by scale (λ p. Ok (place_at t p)) unnumbered rows) ≡ (λ line. Ok (answer_line scale layer line))
-  answers_are scale = fun_ext (λ line. ap as_bytes (answer_to_line scale line))
+    -- so for all lines
+    answers_are : (scale : ℕ) → by_line (answer_by scale (λ p. Ok (place_at t p)) shown rows) ≡ (λ line. Ok (answer_line faces scale layer line))
+    answers_are scale = fun_ext (λ line. ap as_bytes (answer_to_line scale line))
 
-  -- what follows the answers by the legend follows the course of the points
-  pub follows_points : (index : Index) (scale : ℕ) (points : Text) (old new : Moment) (end : Option Stopped)
-      → Follows (answers (source points limit (ended (codes "points: too long"))) (steps_by index t) (by_line (answer_by scale (λ p. Ok (place_at t p)) unnumbered rows))) old new end
-      → Follows (points_course index scale points layer) old new end
-  follows_points index scale points old new end follows =
-      let of_points = source points limit (ended (codes "points: too long")) in
-      subst (λ (answer : Answering). Follows (answers of_points (steps_by index (table_in layer)) answer) old new end) (answers_are scale)
-      (subst (λ (s : Table). Follows (answers of_points (steps_by index s) (by_line (answer_by scale (λ p. Ok (place_at t p)) unnumbered rows))) old new end) m.table follows)
+    -- what follows the answers by the legend follows the course of the points
+    pub follows_points : (index : Index) (scale : ℕ) (points : Text) (old new : Moment) (end : Option Stopped)
+        → Follows (answers (source points limit (ended (codes "points: too long"))) (steps_by index t) (by_line (answer_by scale (λ p. Ok (place_at t p)) shown rows))) old new end
+        → Follows (points_course index faces scale points layer) old new end
+    follows_points index scale points old new end follows =
+        let of_points = source points limit (ended (codes "points: too long")) in
+        subst (λ (answer : Answering). Follows (answers of_points (steps_by index (table_in layer)) answer) old new end) (answers_are scale)
+        (subst (λ (s : Table). Follows (answers of_points (steps_by index s) (by_line (answer_by scale (λ p. Ok (place_at t p)) shown rows))) old new end) m.table follows)

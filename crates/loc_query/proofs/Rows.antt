@@ -1,5 +1,5 @@
 -- The refusals of a query and its output, as rows: what the told files come to.
-use Rattle.std.proofs.Common.{◌≡◌, ◌<◌, ◌≤◌, List, [], ◌∷◌, ◌++◌, length, map, take, None, Ok, Err, refl, ◌∙◌, ap, arith, true, codes}
+use Rattle.std.proofs.Common.{◌≡◌, ◌<◌, ◌≤◌, Bool, List, [], ◌∷◌, ◌++◌, length, map, take, None, Ok, Err, refl, ◌∙◌, ap, arith, true, codes}
 use Rattle.std.specs.Prelude.{nat_lt}
 use Rattle.std.specs.List.{flat_map}
 use Rattle.std.proofs.lemmas.Bool.{cond-true, cond-false, false_from_ne_true}
@@ -47,9 +47,9 @@ joined : (f : Text → Text) (ls : List Text) → flat_map (λ line. line) (map 
 joined f [] = refl
 joined f (line ∷ ls) = ap (λ text. f line ++ text) (joined f ls)
 
-module _ (told : Text → Told) (index : Index) (file : LayerFile) (points layer : Text) (is : told file.name ≡ holds layer) where
+module _ (told : Text → Told) (index : Index) (faces : Bool) (file : LayerFile) (points layer : Text) (is : told file.name ≡ holds layer) where
   abbrev behind : LayerRead → Outcome
-  behind r = outcome told (layer_in file.form r (λ l. accepted_course file.scale l (points_course index file.scale points l)))
+  behind r = outcome told (layer_in file.form r (λ l. accepted_course file.scale l (points_course index faces file.scale points l)))
 
   abbrev by_layer : Text → Outcome
   by_layer text = behind (layer_of file.form file.scale text)
@@ -61,44 +61,44 @@ module _ (told : Text → Told) (index : Index) (file : LayerFile) (points layer
   of_points = source points limit (ended (codes "points: too long"))
 
   abbrev answering : List Feature → Answering
-  answering features line = Ok (answer_line file.scale features line)
+  answering features line = Ok (answer_line faces file.scale features line)
 
-  pub layer_long : limit < length layer → outcome told (query_course index file points) ≡ refusal (exactly (ended (codes "layer: too long")))
+  pub layer_long : limit < length layer → outcome told (query_course index faces file points) ≡ refusal (exactly (ended (codes "layer: too long")))
   layer_long more = long of_layer by_layer (told file.name) layer is more
 
-  read : length layer ≤ limit → (r : LayerRead) → layer_of file.form file.scale layer ≡ r → outcome told (query_course index file points) ≡ behind r
+  read : length layer ≤ limit → (r : LayerRead) → layer_of file.form file.scale layer ≡ r → outcome told (query_course index faces file points) ≡ behind r
   read few r reads = short of_layer by_layer (told file.name) layer is few ∙ ap behind reads
 
-  pub layer_line : (fault : LayerFault) → length layer ≤ limit → layer_of file.form file.scale layer ≡ Err fault → outcome told (query_course index file points) ≡ refusal (exactly (ended (layer_fault_text file.form fault)))
+  pub layer_line : (fault : LayerFault) → length layer ≤ limit → layer_of file.form file.scale layer ≡ Err fault → outcome told (query_course index faces file points) ≡ refusal (exactly (ended (layer_fault_text file.form fault)))
   layer_line fault few reads = read few (Err fault) reads
 
   module _ (features : List Feature) (few : length layer ≤ limit) (reads : layer_of file.form file.scale layer ≡ Ok features) where
-    pub conflict : has_conflict (edges_of features) ≡ true → outcome told (query_course index file points) ≡ refusal (names_conflict file.scale (edges_of features))
+    pub conflict : has_conflict (edges_of features) ≡ true → outcome told (query_course index faces file points) ≡ refusal (names_conflict file.scale (edges_of features))
     conflict has = read few (Ok features) reads
-        ∙ ap (outcome told) (cond-true (has_conflict (edges_of features)) (refuses (names_conflict file.scale (edges_of features))) (covers_course (table_in features) (points_course index file.scale points features)) has)
+        ∙ ap (outcome told) (cond-true (has_conflict (edges_of features)) (refuses (names_conflict file.scale (edges_of features))) (covers_course (table_in features) (points_course index faces file.scale points features)) has)
 
-    pub covers : Accepts features → 16777216 < cover_sum (table_in features) → outcome told (query_course index file points) ≡ refusal (exactly (ended (codes "layer: covers past 16777216")))
+    pub covers : Accepts features → 16777216 < cover_sum (table_in features) → outcome told (query_course index faces file points) ≡ refusal (exactly (ended (codes "layer: covers past 16777216")))
     covers apart many = read few (Ok features) reads
-        ∙ (ap (outcome told) (on_apart file.scale (edges_of features) (covers_course (table_in features) (points_course index file.scale points features)) apart)
-        ∙ ap (outcome told) (cond-true (has_many_covers (table_in features)) (refuses (exactly (ended (codes "layer: covers past 16777216")))) (points_course index file.scale points features) ((Decides-ltb 16777216 (cover_sum (table_in features))).1 many)))
+        ∙ (ap (outcome told) (on_apart file.scale (edges_of features) (covers_course (table_in features) (points_course index faces file.scale points features)) apart)
+        ∙ ap (outcome told) (cond-true (has_many_covers (table_in features)) (refuses (exactly (ended (codes "layer: covers past 16777216")))) (points_course index faces file.scale points features) ((Decides-ltb 16777216 (cover_sum (table_in features))).1 many)))
 
-    accepted : Accepts features → cover_sum (table_in features) ≤ 16777216 → outcome told (query_course index file points) ≡ by_lines of_points (answering features) (told points)
+    accepted : Accepts features → cover_sum (table_in features) ≤ 16777216 → outcome told (query_course index faces file points) ≡ by_lines of_points (answering features) (told points)
     accepted apart few_covers = read few (Ok features) reads
-        ∙ (ap (outcome told) (on_apart file.scale (edges_of features) (covers_course (table_in features) (points_course index file.scale points features)) apart)
-        ∙ ap (outcome told) (on_few_covers (table_in features) (points_course index file.scale points features) few_covers))
+        ∙ (ap (outcome told) (on_apart file.scale (edges_of features) (covers_course (table_in features) (points_course index faces file.scale points features)) apart)
+        ∙ ap (outcome told) (on_few_covers (table_in features) (points_course index faces file.scale points features) few_covers))
 
     module _ (apart : Accepts features) (few_covers : cover_sum (table_in features) ≤ 16777216) (text : Text) (also : told points ≡ holds text) where
-      pub points_long : limit < length text → outcome told (query_course index file points) ≡ partly (output_within limit file.scale features text) (ended (codes "points: too long"))
+      pub points_long : limit < length text → outcome told (query_course index faces file points) ≡ partly (output_within limit faces file.scale features text) (ended (codes "points: too long"))
       points_long more =
           let first = ended_lines (take limit text) in
           let is_long = cond-true (nat_lt limit (length text)) (answered_long of_points.too_long (answered (answering features) first)) (answered (answering features) (lines text)) ((Decides-ltb limit (length text)).1 more) in
           accepted apart few_covers ∙ (ap (by_lines of_points (answering features)) also
-          ∙ (ap (λ (a : Answered Text Text). by_refusal (out_of a) a.refusal) (is_long ∙ ap (answered_long of_points.too_long) (all_answered (answer_line file.scale features) first))
-          ∙ ap (λ out. partly out of_points.too_long) (joined (answer_line file.scale features) first)))
+          ∙ (ap (λ (a : Answered Text Text). by_refusal (out_of a) a.refusal) (is_long ∙ ap (answered_long of_points.too_long) (all_answered (answer_line faces file.scale features) first))
+          ∙ ap (λ out. partly out of_points.too_long) (joined (answer_line faces file.scale features) first)))
 
-      pub answered_all : length text ≤ limit → outcome told (query_course index file points) ≡ output (exactly (output_of file.scale features text))
+      pub answered_all : length text ≤ limit → outcome told (query_course index faces file points) ≡ output (exactly (output_of faces file.scale features text))
       unfolding output_of
       answered_all less =
           accepted apart few_covers ∙ (ap (by_lines of_points (answering features)) also
-          ∙ (ap (λ (a : Answered Text Text). by_refusal (out_of a) a.refusal) (of_whole of_points (answering features) text less ∙ all_answered (answer_line file.scale features) (lines text))
-          ∙ ap (λ out. output (exactly out)) (joined (answer_line file.scale features) (lines text))))
+          ∙ (ap (λ (a : Answered Text Text). by_refusal (out_of a) a.refusal) (of_whole of_points (answering features) text less ∙ all_answered (answer_line faces file.scale features) (lines text))
+          ∙ ap (λ out. output (exactly out)) (joined (answer_line faces file.scale features) (lines text))))

@@ -1,5 +1,5 @@
 -- The headline of the program, in the words of its user: what a query whose files are told answers.
-use Rattle.std.specs.Prelude.{◌≡◌, ◌⊎◌, ℕ, ◌+◌, ◌*◌, ◌<◌, ◌≤◌, List, length, Ok, Err, IsTrue, codes}
+use Rattle.std.specs.Prelude.{◌≡◌, ◌⊎◌, ℕ, ◌+◌, ◌*◌, ◌<◌, ◌≤◌, Bool, List, length, Ok, Err, IsTrue, codes}
 use Rattle.std.specs.Io.KnownBytes.{Appends}
 use Rattle.loc_io.specs.Streams.{Stream}
 use Rattle.loc_io.specs.Meaning.{holds}
@@ -33,15 +33,15 @@ abbrev pub steps_in : Index → LayerRead → ℕ
 steps_in index (Ok features) = steps_by index (table_in features)
 steps_in index (Err fault) = 0
 
--- The texts of the layer and of the points are those told of their files. An answer may want memory: the status is 5 then, and nothing is on out.
-pub record Headline (index : Index) (file : LayerFile) (points : Text) (old new : Moment) (n n' : Stream) (status : ℕ) : Type 0 where
+-- The texts of the layer and of the points are those told of their files. With `faces` the answers name the number of each open face. An answer may want memory: the status is 5 then, and nothing is on out.
+pub record Headline (index : Index) (faces : Bool) (file : LayerFile) (points : Text) (old new : Moment) (n n' : Stream) (status : ℕ) : Type 0 where
   -- With status 0 the layer is accepted, the points are within the limit, and out has grown by exactly the defined answers.
   pub done : (layer text : Text) → old.shelf.told file.name ≡ holds layer → old.shelf.told points ≡ holds text → status ≡ 0
-      → (features : List Feature) × IsAccepted file layer features × (length text ≤ limit) × Appends old.out.written new.out.written (output_of file.scale features text)
+      → (features : List Feature) × IsAccepted file layer features × (length text ≤ limit) × Appends old.out.written new.out.written (output_of faces file.scale features text)
   -- The status is 0 for every accepted layer and points within the limit, unless a read or a write failed.
   pub answers : (layer text : Text) (features : List Feature) → old.shelf.told file.name ≡ holds layer → old.shelf.told points ≡ holds text
       → IsAccepted file layer features → length text ≤ limit → Steady old.shelf.read_faults new.shelf.read_faults → Steady old.out.faults new.out.faults
-      → ((status ≡ 0) × Appends old.out.written new.out.written (output_of file.scale features text)) ⊎ ((status ≡ 5) × (new.out.written ≡ old.out.written))
+      → ((status ≡ 0) × Appends old.out.written new.out.written (output_of faces file.scale features text)) ⊎ ((status ≡ 5) × (new.out.written ≡ old.out.written))
   -- Else, unless a read failed, it is 1, nothing is on out, and the line on notes is that of the cause: the layer is too long,
   pub layer_long : (layer : Text) → old.shelf.told file.name ≡ holds layer → limit < length layer → Steady old.shelf.read_faults new.shelf.read_faults
       → ((status ≡ 1) × (new.out.written ≡ old.out.written) × Wrote n n' (ended (codes "layer: too long"))) ⊎ ((status ≡ 5) × (new.out.written ≡ old.out.written))
@@ -59,7 +59,7 @@ pub record Headline (index : Index) (file : LayerFile) (points : Text) (old new 
   -- or the layer is accepted and the points are too long: then the lines that end within the limit are answered, unless a write failed.
   pub points_long : (layer text : Text) (features : List Feature) → old.shelf.told file.name ≡ holds layer → old.shelf.told points ≡ holds text
       → IsAccepted file layer features → limit < length text → Steady old.shelf.read_faults new.shelf.read_faults → Steady old.out.faults new.out.faults
-      → ((status ≡ 1) × Appends old.out.written new.out.written (output_within limit file.scale features text) × Wrote n n' (ended (codes "points: too long"))) ⊎ ((status ≡ 5) × (new.out.written ≡ old.out.written))
+      → ((status ≡ 1) × Appends old.out.written new.out.written (output_within limit faces file.scale features text) × Wrote n n' (ended (codes "points: too long"))) ⊎ ((status ≡ 5) × (new.out.written ≡ old.out.written))
   -- So many steps were counted at most for each line of the points.
   pub steps : (layer text : Text) → old.shelf.told file.name ≡ holds layer → old.shelf.told points ≡ holds text
       → new.steps ≤ old.steps + length (lines text) * steps_in index (layer_of file.form file.scale layer)

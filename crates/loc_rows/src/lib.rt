@@ -5,6 +5,12 @@
 #[cfg(test)]
 mod batches;
 #[cfg(test)]
+mod faces;
+#[cfg(test)]
+mod generated;
+#[cfg(test)]
+mod indexed;
+#[cfg(test)]
 mod legends;
 #[cfg(test)]
 mod tests;

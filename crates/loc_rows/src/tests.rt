@@ -12,9 +12,9 @@ use std::test::Fail;
 const SQUARE: &[u8] = b"POLYGON ((0 0, 4 0, 4 4, 0 4, 0 0))\n";
 
 // Points inside, outside, at corners, on a border, and in the open face beside.
-const POINTS: &[u8] = b"2 2\n5 2\n0 0\n4 4\n4 2\n4 5\n0 -1\n-1 4\n5 0\n";
+pub(crate) const POINTS: &[u8] = b"2 2\n5 2\n0 0\n4 4\n4 2\n4 5\n0 -1\n-1 4\n5 0\n";
 
-const ANSWERS: &[u8] =
+pub(crate) const ANSWERS: &[u8] =
     b"face in \"1\"\nface in\ncorner 0 on \"1\" in\ncorner 3 on \"1\" in\nborder 3 on \"1\" in\nface in\nface in\nface in\nface in\n";
 
 const BOW_TIE: &[u8] = b"POLYGON ((0 0, 4 4, 4 0, 0 4, 0 0))";
@@ -252,8 +252,8 @@ const ROWS: [Row; 31] = [
     ),
 ];
 
-const USAGE: &[u8] =
-    b"usage: locate query LAYER POINTS --scale K [--form lines|csv] [--index scan|tree]\n       locate check LAYER --scale K [--form lines|csv]\n";
+pub(crate) const USAGE: &[u8] =
+    b"usage: locate query LAYER POINTS --scale K [--form lines|csv] [--index scan|tree] [--faces]\n       locate check LAYER --scale K [--form lines|csv]\n       locate ask INDEX POINTS\n       locate face LAYER POINT --scale K [--form lines|csv]\n       locate gen KIND N SHIFT\n       locate trial KIND N SHIFT [--index scan|tree]\n";
 
 // Words that are no command.
 const REFUSED: [[&str; 5]; 6] = [
@@ -367,7 +367,12 @@ fn words_of(alloc: Global, words: &[&str]) -> Result<Vec<String>, Fail> {
 }
 
 // A shelf with a layer and points, and which of its calls fails.
-fn shelf_of(alloc: Global, layer: &[u8], points: &[u8], failing: u64) -> Result<MemShelf, Fail> {
+pub(crate) fn shelf_of(
+    alloc: Global,
+    layer: &[u8],
+    points: &[u8],
+    failing: u64,
+) -> Result<MemShelf, Fail> {
     let mut shelf = MemShelf::new(alloc, calls(alloc, failing)?);
     shelf.put("layer", layer)?;
     shelf.put("points", points)?;
@@ -393,14 +398,14 @@ fn status<L: Ledger>(
 
 // What a run leaves: its status, and what stands on out and on notes.
 #[derive(Drop)]
-struct Outcome {
-    status: u8,
-    out: MemSink,
-    notes: MemSink,
+pub(crate) struct Outcome {
+    pub(crate) status: u8,
+    pub(crate) out: MemSink,
+    pub(crate) notes: MemSink,
 }
 
 // What the words leave, run over a shelf where one call of out and one of notes fails.
-fn outcome_of(
+pub(crate) fn outcome_of(
     alloc: Global,
     words: &[&str],
     mut shelf: MemShelf,

@@ -1,33 +1,41 @@
 -- What holds of a run, by the course of its words.
 use Rattle.std.proofs.Common.{◌≡◌, ◌≢◌, ◌⊎◌, ℕ, ◌≤◌, ap, Option, Some, None, refl, sym, ◌∙◌, subst, inl, inr, arith}
-use Rattle.std.specs.Prelude.{IfSome, codes, option_map}
+use Rattle.std.specs.Prelude.{IfSome, option_map}
 use Rattle.loc_io.specs.Meaning.{KeepsFiles}
 use Rattle.loc_io.specs.Streams.{Stream}
-use Rattle.loc_words.specs.Words.{Asked, query, check}
-use Rattle.loc_spec_text.specs.Points.{ended}
+use Rattle.loc_words.specs.Words.{Asked, query, check, ask, face, gen, trial}
 use Rattle.loc_course.specs.Courses.{Text, Course, no_memory}
 use Rattle.loc_course.specs.Following.{lacks}
 use Rattle.loc_course.specs.Moments.{Moment}
-use Rattle.loc_course.specs.Sentences.{InTimes, MakesNone, MayRefuseBehind, NoCountRose, Notes, ReadsFail, Sentences, Wrote, note_of}
+use Rattle.loc_course.specs.Sentences.{InTimes, IsPlain, MakesNone, MayRefuseBehind, NoCountRose, Notes, ReadsFail, Sentences, Wrote, note_of}
 use Rattle.loc_course.proofs.Plain.{none_behind}
 use Rattle.loc_course.proofs.Statuses.{ended_so, in_range, never_two}
+use Rattle.loc_indexed.proofs.Behind.{ask_makes_none, ask_refuses_behind}
 use Rattle.loc_maps.specs.MapCourses.{layer_file}
 use Rattle.loc_maps.proofs.Checked.{check_plain}
 use Rattle.loc_query.proofs.Headlines.{query_makes_none, query_refuses_behind}
-use Rattle.loc_top.specs.Run.{OutFails, OutOf, Ran, RefusesWords, course_by}
+use Rattle.loc_face.proofs.Plainly.{face_plain}
+use Rattle.loc_trial.proofs.Plain.{gen_plain, trial_plain}
+use Rattle.loc_top.specs.Run.{OutFails, OutOf, Ran, RefusesPoints, RefusesWords, course_by}
 
--- no command makes a file, and by one line alone it refuses a file whose lines it answers
+-- no command makes a file, and by these lines alone it refuses a file whose lines it answers
 pub record IsAnswering (c : Course) : Type 0 where
   pub makes_none : MakesNone c
-  pub line : (line : Text) → MayRefuseBehind c line → line ≡ ended (codes "points: too long")
+  pub line : (line : Text) → MayRefuseBehind c line → RefusesPoints line
+
+-- a course that writes at once and makes no file does so
+plain_answering : (c : Course) → IsPlain c → IsAnswering c
+plain_answering c plain = record { makes_none = plain.makes_none; line = λ line by. absurd (none_behind c line plain.at_once by) }
 
 answering : (a : Asked) → IsAnswering (course_by a)
 answering (query asked) =
     let file = layer_file asked.layer asked.form asked.scale in
-    record { makes_none = query_makes_none asked.index file asked.points; line = query_refuses_behind asked.index file asked.points }
-answering (check asked) =
-    let plain = check_plain (layer_file asked.layer asked.form asked.scale) in
-    record { makes_none = plain.makes_none; line = λ line by. absurd (none_behind (course_by (check asked)) line plain.at_once by) }
+    record { makes_none = query_makes_none asked.index asked.faces file asked.points; line = λ line by. inl (query_refuses_behind asked.index asked.faces file asked.points line by) }
+answering (check asked) = plain_answering (course_by (check asked)) (check_plain (layer_file asked.layer asked.form asked.scale))
+answering (ask asked) = record { makes_none = ask_makes_none asked.index asked.points; line = ask_refuses_behind asked.index asked.points }
+answering (face asked) = plain_answering (course_by (face asked)) (face_plain (layer_file asked.layer asked.form asked.scale) asked.point)
+answering (gen asked) = plain_answering (course_by (gen asked)) (gen_plain asked.kind asked.n asked.shift)
+answering (trial asked) = plain_answering (course_by (trial asked)) (trial_plain asked.index asked.kind asked.n asked.shift)
 
 answering_of : (o : Option Asked) (c : Course) → option_map course_by o ≡ Some c → IsAnswering c
 answering_of None c is = absurd (cc is)
@@ -105,7 +113,7 @@ module _ (old new : Moment) (n n' : Stream) (status : ℕ) where
           record {
             grows = s.out.grows;
             kept = λ either. elim either [ inl two ↦ absurd (never_two r.end (sym r.status_is ∙ two)) | inr five ↦ s.out.memory five ];
-            refused = λ one. elim (s.out.refused one) [ inl same ↦ inl same | inr by ↦ inr (subst (λ (l : Text). Wrote n n' l) (p.line by.0 by.1) by.2) ];
+            refused = λ one. elim (s.out.refused one) [ inl same ↦ inl same | inr by ↦ inr (by.0, p.line by.0 by.1, by.2) ];
             at_once = s.out.kept;
           },
           λ below. (λ four. elim (s.writes_fail.only four) [ inl rose ↦ omega (arith, rose, below) | inr by ↦ absurd (p.makes_none by.0 by.1) ], λ rose. s.writes_fail.rose (inl rose)),

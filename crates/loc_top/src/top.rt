@@ -3,19 +3,23 @@
 ghost use Rattle.std.specs.Prelude.{◌≡◌, ◌≤◌, IfSome, Some, map, string_bytes};
 ghost use Rattle.loc_io.specs.Meaning.{KeepsFiles};
 ghost use Rattle.loc_io.specs.Streams.{InTime};
-ghost use Rattle.loc_words.specs.Words.{AskedQuery, command_of, query};
+ghost use Rattle.loc_words.specs.Words.{AskedAsk, AskedQuery, ask, command_of, query};
 ghost use Rattle.loc_course.specs.Courses.{Course};
 ghost use Rattle.loc_course.specs.Moments.{moment};
 ghost use Rattle.loc_course.specs.Sentences.{Counts, Done, InTimes, Misses, Names, NoCountRose, Notes, ReadsFail, RefusedOnly, Refuses, RefusesPartly, Succeeds};
+ghost use Rattle.loc_indexed.specs.Asks.{Asks};
 ghost use Rattle.loc_maps.specs.MapCourses.{layer_file};
 ghost use Rattle.loc_query.specs.Headline.{Headline};
 ghost use Rattle.loc_top.specs.Run.{OutFails, OutOf, Ran, RefusesWords, course_of};
 
 use loc_course::{Scale, Stop, report, write_text};
+use loc_face::face;
 use loc_geom::Steps;
+use loc_indexed::ask;
 use loc_io::{Shelf, Sink};
 use loc_maps::check;
 use loc_query::query;
+use loc_trial::{generate, trial};
 use loc_words::{Command, WordsFault, command_of, usage_text};
 use std::alloc::Global;
 use std::sync::ledger::Ledger;
@@ -41,6 +45,7 @@ fn run_course<F: Shelf, O: Sink, N: Sink, L: Ledger>(
                 asked.form,
                 Scale::new(asked.scale),
                 asked.index,
+                asked.faces,
                 shelf,
                 out,
                 steps,
@@ -50,6 +55,39 @@ fn run_course<F: Shelf, O: Sink, N: Sink, L: Ledger>(
         Ok(Command::Check(asked)) => {
             let scale = Scale::new(asked.scale);
             let outcome = check(alloc, asked.layer, asked.form, scale, shelf, out);
+            report(outcome, notes)
+        }
+        Ok(Command::Ask(asked)) => {
+            let outcome = ask(alloc, asked.index, asked.points, shelf, out, steps);
+            report(outcome, notes)
+        }
+        Ok(Command::Face(asked)) => {
+            let outcome = face(
+                alloc,
+                asked.layer,
+                asked.point,
+                asked.form,
+                Scale::new(asked.scale),
+                shelf,
+                out,
+                steps,
+            );
+            report(outcome, notes)
+        }
+        Ok(Command::Gen(asked)) => {
+            let outcome = generate(asked.kind, asked.n, asked.shift, out);
+            report(outcome, notes)
+        }
+        Ok(Command::Trial(asked)) => {
+            let outcome = trial(
+                alloc,
+                asked.kind,
+                asked.n,
+                asked.shift,
+                asked.index,
+                out,
+                steps,
+            );
             report(outcome, notes)
         }
         Err(WordsFault::Refused) => {
@@ -70,7 +108,9 @@ pub fn run<F: Shelf, O: Sink, N: Sink, L: Ledger>(
     steps: &mut Steps<L>,
 ) -> u8
     ensures headline { (asked : AskedQuery) → command_of (map string_bytes words.now) ≡ Some (query asked)
-        → Headline asked.index (layer_file asked.layer asked.form asked.scale) asked.points (moment (F.meaning shelf.old) (O.meaning out.old) steps.old) (moment (F.meaning shelf.new) (O.meaning out.new) steps.new) (N.meaning notes.old) (N.meaning notes.new) result }
+        → Headline asked.index asked.faces (layer_file asked.layer asked.form asked.scale) asked.points (moment (F.meaning shelf.old) (O.meaning out.old) steps.old) (moment (F.meaning shelf.new) (O.meaning out.new) steps.new) (N.meaning notes.old) (N.meaning notes.new) result }
+    ensures asks { (asked : AskedAsk) → command_of (map string_bytes words.now) ≡ Some (ask asked)
+        → Asks asked.index asked.points (moment (F.meaning shelf.old) (O.meaning out.old) steps.old) (moment (F.meaning shelf.new) (O.meaning out.new) steps.new) (N.meaning notes.old) (N.meaning notes.new) result }
     ensures ran { Ran (course_of (map string_bytes words.now)) (moment (F.meaning shelf.old) (O.meaning out.old) steps.old) (moment (F.meaning shelf.new) (O.meaning out.new) steps.new) (N.meaning notes.old) (N.meaning notes.new) result }
     ensures done { IfSome (course_of (map string_bytes words.now)) (λ (c : Course). Done c (moment (F.meaning shelf.old) (O.meaning out.old) steps.old) (moment (F.meaning shelf.new) (O.meaning out.new) steps.new) result) }
     ensures succeeds { IfSome (course_of (map string_bytes words.now)) (λ (c : Course). Succeeds c (moment (F.meaning shelf.old) (O.meaning out.old) steps.old) (moment (F.meaning shelf.new) (O.meaning out.new) steps.new) result) }

@@ -1,14 +1,15 @@
 -- The whole parse of the words of a row.
 use Rattle.std.proofs.Common.{◌≡◌, ◌+◌, ◌<◌, ◌&&◌, ◌||◌, ℕ, Bool, true, false, not, cond, List, [], ◌∷◌, ◌++◌, map, length, fold, nat_lt, Option, Some, None, is_some, option_map, option_and_then, Result, Ok, Err, IfOk, refl, sym, ◌∙◌, ap, ap₂, subst, arith, inl, inr}
 use Rattle.std.specs.Prelude.{count_by}
-use Rattle.std.specs.List.{list_any, list_all}
+use Rattle.std.specs.List.{find, list_any, list_all}
 use Rattle.std.specs.Str.{bytes_eq}
 use Rattle.std.proofs.Math.Bool.{or_assoc}
 use Rattle.std.proofs.lemmas.Bool.{and_parts, cases_Bool, ltb-true, not-true, or_parts}
 use Rattle.std.proofs.lemmas.List.Folds.{list_any-append}
 use Rattle.std.proofs.lemmas.Slice.Eq.{bytes_eq-Decides}
+use Rattle.clap.specs.Facts.{Entry as Found}
 use Rattle.clap.specs.Lexer.{usize_max}
-use Rattle.clap.specs.Walk.{Row, Rule, arg_by_index, first_of, has_row, is_early_multiple, nothing_held, walk, with_default}
+use Rattle.clap.specs.Walk.{Row, Rule, arg_by_index, first_of, has_row, is_early_multiple, nothing_held, row_of, walk, with_default}
 use Rattle.clap.specs.Takes.{is_given}
 use Rattle.clap.specs.Faults.{check_fault, default_fault, defaults_fault, entered_fault, fault_of, is_simple_and_free, level_fault, settle_fault, walk_fault}
 use Rattle.clap.specs.Kinds.{Kinds, or_else}
@@ -136,6 +137,11 @@ entries_back ((name, Some v) ∷ given) = ap (λ (l : List Entry). (name, Some v
 pub value_by_rows : (rows : List Row) (name : Text) → value_in (map entry_of rows) name ≡ first_of name rows
 value_by_rows [] name = refl
 value_by_rows (x ∷ rows) name = elim (cases_Bool (bytes_eq x.id name)) [ inl is ↦ simp is | inr other ↦ simp other (value_by_rows rows name) ]
+
+-- an entry is there exactly where something stands under its name
+pub stands_by_rows : (found : List Found) (name : Text) → is_some (option_map (λ (e : Found). e.1) (find (λ (e : Found). bytes_eq e.0.now name) found)) ≡ stands (map entry_of (map row_of found)) name
+stands_by_rows [] name = refl
+stands_by_rows (x ∷ found) name = elim (cases_Bool (bytes_eq x.0.now name)) [ inl is ↦ simp is | inr other ↦ simp other (stands_by_rows found name) ]
 
 module _ (r : CommandRow) (is : is_row r ≡ true) where
   abbrev top : Shape

@@ -1,6 +1,6 @@
 -- The command that a list of words is: the rows of the commands, what each makes of the words that are given for its row, and
 -- `command_of` for the whole list.
-use Rattle.std.specs.Prelude.{ℕ, ◌≤◌, ◌^◌, ◌&&◌, List, [], ◌∷◌, ◌++◌, length, codes, map, nat_lt, nat_le, if◌then◌else◌, Option, Some, None, option_map, option_and_then}
+use Rattle.std.specs.Prelude.{ℕ, ◌≤◌, ◌^◌, ◌&&◌, Bool, List, [], ◌∷◌, ◌++◌, length, codes, map, nat_lt, nat_le, if◌then◌else◌, Option, Some, None, option_map, option_and_then, ⊤}
 use Rattle.std.specs.Char.{is_ascii_digit}
 use Rattle.std.specs.List.{list_all}
 use Rattle.std.specs.Str.{bytes_eq}
@@ -9,12 +9,14 @@ use Rattle.loc_spec_plane.specs.declared.Index.{Index}
 use Rattle.loc_spec_plane.specs.declared.Index.TheVariants.{Scan, Tree}
 use Rattle.loc_spec_text.specs.declared.Form.{Form}
 use Rattle.loc_spec_text.specs.declared.Form.TheVariants.{Lines, Csv}
-use Rattle.loc_words.specs.Rows.{Text, CommandRow, OptionRow, Entry, given_of, value_in}
-use Rattle.loc_words.specs.declared.row.OptionKind.TheVariants.{Required, Optional}
+use Rattle.loc_gen.specs.declared.kinds.Kind.{Kind}
+use Rattle.loc_gen.specs.declared.kinds.Kind.TheVariants.{Grid, Nest, Strips}
+use Rattle.loc_words.specs.Rows.{Text, CommandRow, OptionRow, Entry, given_of, stands, value_in}
+use Rattle.loc_words.specs.declared.row.OptionKind.TheVariants.{Required, Optional, Flag}
 use Rattle.loc_words.specs.declared.row.CommandRow.{CommandRow as Row}
 use Rattle.loc_words.specs.declared.row.OptionRow.{OptionRow as Declared}
 use Rattle.loc_words.specs.declared.command.Command.{Command}
-use Rattle.loc_words.specs.declared.command.Command.TheVariants.{Query, Check}
+use Rattle.loc_words.specs.declared.command.Command.TheVariants.{Query, Check, Ask, Face, Gen, Trial}
 
 -- what a query says
 pub record AskedQuery : Type 0 where
@@ -23,6 +25,7 @@ pub record AskedQuery : Type 0 where
   pub scale : ℕ
   pub form : Form
   pub index : Index
+  pub faces : Bool
 
 -- what a check says
 pub record AskedCheck : Type 0 where
@@ -30,20 +33,57 @@ pub record AskedCheck : Type 0 where
   pub scale : ℕ
   pub form : Form
 
+-- what is asked, and of which index
+pub record AskedAsk : Type 0 where
+  pub index : Text
+  pub points : Text
+
+-- what a question for a face says
+pub record AskedFace : Type 0 where
+  pub layer : Text
+  pub point : Text
+  pub scale : ℕ
+  pub form : Form
+
+-- what is said of a layer to be generated: its kind, its size and its shift
+pub record AskedGen : Type 0 where
+  pub kind : Kind
+  pub n : ℕ
+  pub shift : ℕ
+
+-- what a trial says
+pub record AskedTrial : Type 0 where
+  pub kind : Kind
+  pub n : ℕ
+  pub shift : ℕ
+  pub index : Index
+
 -- a command with its values
 pub data Asked : Type 0 where
   query : AskedQuery → Asked
   check : AskedCheck → Asked
+  ask : AskedAsk → Asked
+  face : AskedFace → Asked
+  gen : AskedGen → Asked
+  trial : AskedTrial → Asked
 
 -- what a command says
 abbrev pub asked_by : Command → Asked
-asked_by (Query q) = query (record { layer = q.layer.now; points = q.points.now; scale = q.scale; form = q.form; index = q.index })
+asked_by (Query q) = query (record { layer = q.layer.now; points = q.points.now; scale = q.scale; form = q.form; index = q.index; faces = q.faces })
 asked_by (Check c) = check (record { layer = c.layer.now; scale = c.scale; form = c.form })
+asked_by (Ask a) = ask (record { index = a.index.now; points = a.points.now })
+asked_by (Face f) = face (record { layer = f.layer.now; point = f.point.now; scale = f.scale; form = f.form })
+asked_by (Gen g) = gen (record { kind = g.kind; n = g.n; shift = g.shift })
+asked_by (Trial t) = trial (record { kind = t.kind; n = t.n; shift = t.shift; index = t.index })
 
--- the scale of a command is one that coordinates can have
+-- the scale of a command that has one is one that coordinates can have
 abbrev pub HasScale : Command → Type 0
 HasScale (Query q) = q.scale ≤ 15
 HasScale (Check c) = c.scale ≤ 15
+HasScale (Ask a) = ⊤
+HasScale (Face f) = f.scale ≤ 15
+HasScale (Gen g) = ⊤
+HasScale (Trial t) = ⊤
 
 -- an option as the program has it
 abbrev pub option_of : Declared → OptionRow
@@ -84,13 +124,17 @@ abbrev pub index_or_tree : Option Text → Option Index
 index_or_tree None = Some Tree
 index_or_tree (Some word) = index_word word
 
+-- a kind of generated layer by its name
+abbrev pub kind_word : Text → Option Kind
+kind_word word = if bytes_eq word (codes "grid") then Some Grid else if bytes_eq word (codes "nest") then Some Nest else if bytes_eq word (codes "strips") then Some Strips else None
+
 -- the options of a command on a layer
 abbrev pub layer_options : List OptionRow
 layer_options = record { name = codes "scale"; kind = Required } ∷ record { name = codes "form"; kind = Optional } ∷ []
 
 -- the options of a query
 abbrev pub query_options : List OptionRow
-query_options = layer_options ++ record { name = codes "index"; kind = Optional } ∷ []
+query_options = layer_options ++ record { name = codes "index"; kind = Optional } ∷ record { name = codes "faces"; kind = Flag } ∷ []
 
 -- query LAYER POINTS
 abbrev pub query_row : CommandRow
@@ -100,20 +144,69 @@ query_row = record { name = codes "query"; places = codes "layer" ∷ codes "poi
 abbrev pub check_row : CommandRow
 check_row = record { name = codes "check"; places = codes "layer" ∷ []; options = layer_options }
 
+-- ask INDEX POINTS
+abbrev pub ask_row : CommandRow
+ask_row = record { name = codes "ask"; places = codes "index" ∷ codes "points" ∷ []; options = [] }
+
+-- face LAYER POINT
+abbrev pub face_row : CommandRow
+face_row = record { name = codes "face"; places = codes "layer" ∷ codes "point" ∷ []; options = layer_options }
+
+-- gen KIND N SHIFT
+abbrev pub gen_row : CommandRow
+gen_row = record { name = codes "gen"; places = codes "kind" ∷ codes "n" ∷ codes "shift" ∷ []; options = [] }
+
+-- trial KIND N SHIFT
+abbrev pub trial_row : CommandRow
+trial_row = record gen_row { name = codes "trial"; options = record { name = codes "index"; kind = Optional } ∷ [] }
+
+-- the layer's name, its scale and its form, of what was given
+abbrev pub layer_given : List Entry → Option (Text × ℕ × Form)
+layer_given given = option_and_then (λ name. option_map (λ values. (name, values.0, values.1)) (scale_and_form (value_in given (codes "scale")) (value_in given (codes "form"))))
+    (value_in given (codes "layer"))
+
+-- the kind, the size and the shift of a generated layer, of what was given
+abbrev pub generated_given : List Entry → Option (Kind × ℕ × ℕ)
+generated_given given = option_and_then (λ kind. option_and_then (λ n. option_map (λ shift. (kind, n, shift)) (option_and_then number_word (value_in given (codes "shift"))))
+    (option_and_then number_word (value_in given (codes "n")))) (option_and_then kind_word (value_in given (codes "kind")))
+
+-- the index of what was given
+abbrev pub index_given : List Entry → Option Index
+index_given given = index_or_tree (value_in given (codes "index"))
+
 -- the query of what was given
 abbrev pub query_from : List Entry → Option Asked
-query_from given = option_and_then (λ layer. option_and_then (λ points. option_and_then (λ values. option_map (λ index. query (record { layer = layer; points = points; scale = values.0; form = values.1; index = index }))
-    (index_or_tree (value_in given (codes "index")))) (scale_and_form (value_in given (codes "scale")) (value_in given (codes "form")))) (value_in given (codes "points"))) (value_in given (codes "layer"))
+query_from given = option_and_then (λ file. option_and_then (λ points. option_map (λ index. query (record { layer = file.0; points = points; scale = file.1; form = file.2; index = index; faces = stands given (codes "faces") }))
+    (index_given given)) (value_in given (codes "points"))) (layer_given given)
 
 -- the check of what was given
 abbrev pub check_from : List Entry → Option Asked
-check_from given = option_and_then (λ layer. option_map (λ values. check (record { layer = layer; scale = values.0; form = values.1 }))
-    (scale_and_form (value_in given (codes "scale")) (value_in given (codes "form")))) (value_in given (codes "layer"))
+check_from given = option_map (λ file. check (record { layer = file.0; scale = file.1; form = file.2 })) (layer_given given)
+
+-- the index and the points of what was given
+abbrev pub ask_from : List Entry → Option Asked
+ask_from given = option_and_then (λ index. option_map (λ points. ask (record { index = index; points = points })) (value_in given (codes "points"))) (value_in given (codes "index"))
+
+-- the question for a face of what was given
+abbrev pub face_from : List Entry → Option Asked
+face_from given = option_and_then (λ file. option_map (λ point. face (record { layer = file.0; point = point; scale = file.1; form = file.2 })) (value_in given (codes "point"))) (layer_given given)
+
+-- the generated layer of what was given
+abbrev pub gen_from : List Entry → Option Asked
+gen_from given = option_map (λ of. gen (record { kind = of.0; n = of.1; shift = of.2 })) (generated_given given)
+
+-- the trial of what was given
+abbrev pub trial_from : List Entry → Option Asked
+trial_from given = option_and_then (λ of. option_map (λ index. trial (record { kind = of.0; n = of.1; shift = of.2; index = index })) (index_given given)) (generated_given given)
 
 -- the command of this name that the words behind it are, if they are one
 abbrev pub command_named : Text → List Text → Option Asked
 command_named name words = if bytes_eq name query_row.name then option_and_then query_from (given_of query_row words)
-    else if bytes_eq name check_row.name then option_and_then check_from (given_of check_row words) else None
+    else if bytes_eq name check_row.name then option_and_then check_from (given_of check_row words)
+    else if bytes_eq name ask_row.name then option_and_then ask_from (given_of ask_row words)
+    else if bytes_eq name face_row.name then option_and_then face_from (given_of face_row words)
+    else if bytes_eq name gen_row.name then option_and_then gen_from (given_of gen_row words)
+    else if bytes_eq name trial_row.name then option_and_then trial_from (given_of trial_row words) else None
 
 -- the command that the words are, if they are one: the first word names it
 unfoldable pub command_of : List Text → Option Asked

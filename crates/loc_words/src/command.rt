@@ -1,12 +1,12 @@
 //! The command that words are.
-ghost use Rattle.std.specs.Prelude.{◌≡◌, IfErr, IfOk, IfSome, None, Some, map, option_and_then, option_map, string_bytes};
+ghost use Rattle.std.specs.Prelude.{◌≡◌, ◌≤◌, IfErr, IfOk, IfSome, None, Some, map, option_and_then, option_map, string_bytes};
 ghost use Rattle.loc_words.specs.Apps.{given_by};
 ghost use Rattle.loc_words.specs.Words as spec;
 
 use crate::parser::{Given, read_row};
 use crate::row::{CommandRow, OptionKind, OptionRow};
-use crate::values::{read_index, read_scale_and_form};
-use crate::{Form, Index, WordsFault};
+use crate::values::{kind_of, number_of, read_index, read_scale_and_form};
+use crate::{Form, Index, Kind, WordsFault};
 use std::alloc::{AllocError, Global};
 
 /// A command with its values.
@@ -16,6 +16,14 @@ pub enum Command<'a> {
     Query(Query<'a>),
     /// The counts of a layer.
     Check(Check<'a>),
+    /// Answers to the points of a file, from an index file.
+    Ask(Ask<'a>),
+    /// The face of a point, against a layer.
+    Face(Face<'a>),
+    /// A generated layer.
+    Gen(Gen),
+    /// The counts of the answers to the points of a generated layer.
+    Trial(Trial),
 }
 
 /// What a query says. Its places are as they stand in the words.
@@ -26,6 +34,7 @@ pub struct Query<'a> {
     pub scale: u8,
     pub form: Form,
     pub index: Index,
+    pub faces: bool,
 }
 
 /// What a check says.
@@ -34,6 +43,39 @@ pub struct Check<'a> {
     pub layer: &'a str,
     pub scale: u8,
     pub form: Form,
+}
+
+/// What is asked, and of which index.
+#[derive(Clone, Copy, Debug, PartialEq, Eq)]
+pub struct Ask<'a> {
+    pub index: &'a str,
+    pub points: &'a str,
+}
+
+/// What a question for a face says. Its places are as they stand in the words.
+#[derive(Clone, Copy, Debug, PartialEq, Eq)]
+pub struct Face<'a> {
+    pub layer: &'a str,
+    pub point: &'a str,
+    pub scale: u8,
+    pub form: Form,
+}
+
+/// What is said of a layer to be generated.
+#[derive(Clone, Copy, Debug, PartialEq, Eq)]
+pub struct Gen {
+    pub kind: Kind,
+    pub n: u64,
+    pub shift: u64,
+}
+
+/// What a trial says.
+#[derive(Clone, Copy, Debug, PartialEq, Eq)]
+pub struct Trial {
+    pub kind: Kind,
+    pub n: u64,
+    pub shift: u64,
+    pub index: Index,
 }
 
 const SCALE: OptionRow<'static> = OptionRow {
@@ -51,10 +93,15 @@ const INDEX: OptionRow<'static> = OptionRow {
     kind: OptionKind::Optional,
 };
 
+const FACES: OptionRow<'static> = OptionRow {
+    name: "faces",
+    kind: OptionKind::Flag,
+};
+
 const QUERY: CommandRow<'static> = CommandRow {
     name: "query",
     places: &["layer", "points"],
-    options: &[SCALE, FORM, INDEX],
+    options: &[SCALE, FORM, INDEX, FACES],
 };
 
 const CHECK: CommandRow<'static> = CommandRow {
@@ -63,21 +110,66 @@ const CHECK: CommandRow<'static> = CommandRow {
     options: &[SCALE, FORM],
 };
 
+const ASK: CommandRow<'static> = CommandRow {
+    name: "ask",
+    places: &["index", "points"],
+    options: &[],
+};
+
+const FACE: CommandRow<'static> = CommandRow {
+    name: "face",
+    places: &["layer", "point"],
+    options: &[SCALE, FORM],
+};
+
+const GEN: CommandRow<'static> = CommandRow {
+    name: "gen",
+    places: &["kind", "n", "shift"],
+    options: &[],
+};
+
+const TRIAL: CommandRow<'static> = CommandRow {
+    name: "trial",
+    places: &["kind", "n", "shift"],
+    options: &[INDEX],
+};
+
+// The layer's name, its scale and its form, of what was given.
+fn layer_given<'a>(given: &Given<'a>) -> Option<(&'a str, u8, Form)>
+    ensures bound { IfSome result (λ file. file.1 ≤ 15) }
+    ensures value { option_map (λ file. (file.0.now, file.1, file.2)) result ≡ spec.layer_given (given_by given.now) }
+{
+    let name = given.value("layer")?;
+    let (scale, form) = read_scale_and_form(given.value("scale"), given.value("form"))?;
+    Some((name, scale, form))
+}
+
+// The kind, the size and the shift of a generated layer, of what was given.
+fn generated_given<'a>(given: &Given<'a>) -> Option<(Kind, u64, u64)>
+    ensures { result ≡ spec.generated_given (given_by given.now) }
+{
+    let kind = kind_of(given.value("kind")?)?;
+    let n = number_of(given.value("n")?)?;
+    let shift = number_of(given.value("shift")?)?;
+    Some((kind, n, shift))
+}
+
 fn query_from<'a>(given: Option<Given<'a>>) -> Option<Command<'a>>
     ensures scale { IfSome result spec.HasScale }
     ensures value { option_map spec.asked_by result ≡ option_and_then spec.query_from (option_map given_by given.entry) }
 {
     let given = given?;
-    let layer = given.value("layer")?;
+    let (layer, scale, form) = layer_given(&given)?;
     let points = given.value("points")?;
-    let (scale, form) = read_scale_and_form(given.value("scale"), given.value("form"))?;
     let index = read_index(given.value("index"))?;
+    let faces = given.stands("faces");
     Some(Command::Query(Query {
         layer,
         points,
         scale,
         form,
         index,
+        faces,
     }))
 }
 
@@ -85,10 +177,56 @@ fn check_from<'a>(given: Option<Given<'a>>) -> Option<Command<'a>>
     ensures scale { IfSome result spec.HasScale }
     ensures value { option_map spec.asked_by result ≡ option_and_then spec.check_from (option_map given_by given.entry) }
 {
-    let given = given?;
-    let layer = given.value("layer")?;
-    let (scale, form) = read_scale_and_form(given.value("scale"), given.value("form"))?;
+    let (layer, scale, form) = layer_given(&given?)?;
     Some(Command::Check(Check { layer, scale, form }))
+}
+
+fn ask_from<'a>(given: Option<Given<'a>>) -> Option<Command<'a>>
+    ensures scale { IfSome result spec.HasScale }
+    ensures value { option_map spec.asked_by result ≡ option_and_then spec.ask_from (option_map given_by given.entry) }
+{
+    let given = given?;
+    let index = given.value("index")?;
+    let points = given.value("points")?;
+    Some(Command::Ask(Ask { index, points }))
+}
+
+fn face_from<'a>(given: Option<Given<'a>>) -> Option<Command<'a>>
+    ensures scale { IfSome result spec.HasScale }
+    ensures value { option_map spec.asked_by result ≡ option_and_then spec.face_from (option_map given_by given.entry) }
+{
+    let given = given?;
+    let (layer, scale, form) = layer_given(&given)?;
+    let point = given.value("point")?;
+    Some(Command::Face(Face {
+        layer,
+        point,
+        scale,
+        form,
+    }))
+}
+
+fn gen_from<'a>(given: Option<Given<'a>>) -> Option<Command<'a>>
+    ensures scale { IfSome result spec.HasScale }
+    ensures value { option_map spec.asked_by result ≡ option_and_then spec.gen_from (option_map given_by given.entry) }
+{
+    let (kind, n, shift) = generated_given(&given?)?;
+    Some(Command::Gen(Gen { kind, n, shift }))
+}
+
+fn trial_from<'a>(given: Option<Given<'a>>) -> Option<Command<'a>>
+    ensures scale { IfSome result spec.HasScale }
+    ensures value { option_map spec.asked_by result ≡ option_and_then spec.trial_from (option_map given_by given.entry) }
+{
+    let given = given?;
+    let (kind, n, shift) = generated_given(&given)?;
+    let index = read_index(given.value("index"))?;
+    Some(Command::Trial(Trial {
+        kind,
+        n,
+        shift,
+        index,
+    }))
 }
 
 // The command of this name that the words behind it are.
@@ -103,6 +241,10 @@ fn command_named<'a>(
     match name {
         "query" => Ok(query_from(read_row(alloc, &QUERY, words)?)),
         "check" => Ok(check_from(read_row(alloc, &CHECK, words)?)),
+        "ask" => Ok(ask_from(read_row(alloc, &ASK, words)?)),
+        "face" => Ok(face_from(read_row(alloc, &FACE, words)?)),
+        "gen" => Ok(gen_from(read_row(alloc, &GEN, words)?)),
+        "trial" => Ok(trial_from(read_row(alloc, &TRIAL, words)?)),
         _ => Ok(None),
     }
 }

@@ -14,8 +14,9 @@ mod usage;
 mod values;
 mod words;
 
-pub use command::{Check, Command, Query, command_of};
+pub use command::{Ask, Check, Command, Face, Gen, Query, Trial, command_of};
 pub use fault::WordsFault;
+pub use loc_gen::Kind;
 pub use loc_spec_plane::Index;
 pub use loc_spec_text::Form;
 pub use parser::clap_takes_commands;

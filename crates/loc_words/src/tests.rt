@@ -1,11 +1,11 @@
 //! What no clause says: that words are read with ample memory, at lists of words from outside.
-use crate::{Command, Form, Index, WordsFault, command_of, usage_text};
+use crate::{Command, Form, Index, Kind, WordsFault, command_of, usage_text};
 use std::alloc::{AllocError, Global};
 use std::test::Fail;
 
 // Lines of words, with a space between each two, and where they are a command, the number of its
 // places, its scale and its form.
-const ROWS: [(&str, Option<(u8, u8, Form)>); 50] = [
+const ROWS: [(&str, Option<(u8, u8, Form)>); 58] = [
     ("query a b --scale=0", Some((2, 0, Form::Lines))),
     ("query a b --scale 0", Some((2, 0, Form::Lines))),
     ("query a b --form csv --scale 15", Some((2, 15, Form::Csv))),
@@ -59,17 +59,64 @@ const ROWS: [(&str, Option<(u8, u8, Form)>); 50] = [
     ("query a b --scale 0 --index --form csv", None),
     ("query a b --scale 0 --index scan --index scan", None),
     ("check a --scale 0 --index scan", None),
+    ("query a b --scale 0 --faces=1", None),
+    ("query a b --scale 0 --faces yes", None),
+    ("query a b --faces --scale 0 --faces", None),
+    ("check a --scale 0 --faces", None),
+    ("face a b --scale 0", Some((2, 0, Form::Lines))),
+    ("face a b --scale=3 --form csv", Some((2, 3, Form::Csv))),
+    ("face a --scale 0", None),
+    ("face a b", None),
     ("query a b --scale 0 --help", None),
     ("query a b --scale 0 -h", None),
     ("--version", None),
 ];
 
-// Lines of words that are a query, and its index.
-const INDEX_ROWS: [(&str, Index); 4] = [
-    ("query a b --scale 0", Index::Tree),
-    ("query a b --scale 0 --index tree", Index::Tree),
-    ("query a b --index scan --scale 0", Index::Scan),
-    ("query a b --scale 0 --index=scan", Index::Scan),
+// Lines of words that are a query, its index, and whether faces are numbered.
+const INDEX_ROWS: [(&str, Index, bool); 6] = [
+    ("query a b --scale 0", Index::Tree, false),
+    ("query a b --scale 0 --index tree", Index::Tree, false),
+    ("query a b --index scan --scale 0", Index::Scan, false),
+    ("query a b --scale 0 --index=scan", Index::Scan, false),
+    ("query a b --faces --scale 0", Index::Tree, true),
+    (
+        "query a b --scale 0 --index scan --faces",
+        Index::Scan,
+        true,
+    ),
+];
+
+// Lines of words, and where they are a command on a generated layer, its kind, its size and its shift, and the index of a trial.
+const GENERATED_ROWS: [(&str, Option<(Kind, u64, u64, Option<Index>)>); 11] = [
+    ("gen grid 256 0", Some((Kind::Grid, 256, 0, None))),
+    (
+        "gen nest 00 18446744073709551615",
+        Some((Kind::Nest, 0, 18_446_744_073_709_551_615, None)),
+    ),
+    (
+        "trial strips 2 1",
+        Some((Kind::Strips, 2, 1, Some(Index::Tree))),
+    ),
+    (
+        "trial nest 3 0 --index=scan",
+        Some((Kind::Nest, 3, 0, Some(Index::Scan))),
+    ),
+    ("gen GRID 2 0", None),
+    ("gen grid -1 0", None),
+    ("gen grid 2", None),
+    ("gen grid 2 18446744073709551616", None),
+    ("gen grid 2 0 --index scan", None),
+    ("trial grid 2 0 --scale 0", None),
+    ("trial grid 2 0 --index trap", None),
+];
+
+// Lines of words, and whether they ask the index "a" for the points "b".
+const ASK_ROWS: [(&str, bool); 5] = [
+    ("ask a b", true),
+    ("ask a", false),
+    ("ask a b c", false),
+    ("ask a b --scale 0", false),
+    ("ask a -b", false),
 ];
 
 // The places, the scale and the form of a command on "a", and "b".
@@ -77,6 +124,9 @@ fn values_of(command: Command<'_>) -> Option<(u8, u8, Form)> {
     match command {
         Command::Query(query) if query.layer == "a" && query.points == "b" => {
             Some((2, query.scale, query.form))
+        }
+        Command::Face(face) if face.layer == "a" && face.point == "b" => {
+            Some((2, face.scale, face.form))
         }
         Command::Check(check) if check.layer == "a" => Some((1, check.scale, check.form)),
         _ => None,
@@ -105,12 +155,26 @@ fn lists_of_words(rt: HostRuntime) -> Result<(), Fail> {
 }
 
 #[test]
-fn indexes_of_queries(rt: HostRuntime) -> Result<(), Fail> {
+fn indexes_that_are_asked(rt: HostRuntime) -> Result<(), Fail> {
     let alloc = rt.alloc();
-    for (line, index) in &INDEX_ROWS {
+    for (line, asks) in &ASK_ROWS {
         let words = words_of(alloc, line)?;
         let is_so = match command_of(alloc, words.as_slice()) {
-            Ok(Command::Query(query)) => query.index == *index,
+            Ok(Command::Ask(ask)) => ask.index == "a" && ask.points == "b",
+            _ => false,
+        };
+        assert!(rt; is_so == *asks, "{line}");
+    }
+    Ok(())
+}
+
+#[test]
+fn indexes_of_queries(rt: HostRuntime) -> Result<(), Fail> {
+    let alloc = rt.alloc();
+    for (line, index, faces) in &INDEX_ROWS {
+        let words = words_of(alloc, line)?;
+        let is_so = match command_of(alloc, words.as_slice()) {
+            Ok(Command::Query(query)) => query.index == *index && query.faces == *faces,
             _ => false,
         };
         assert!(rt; is_so, "{line}");
@@ -118,7 +182,33 @@ fn indexes_of_queries(rt: HostRuntime) -> Result<(), Fail> {
     Ok(())
 }
 
+fn generated_by(command: Command<'_>) -> Option<(Kind, u64, u64, Option<Index>)> {
+    match command {
+        Command::Gen(asked) => Some((asked.kind, asked.n, asked.shift, None)),
+        Command::Trial(asked) => { Some((asked.kind, asked.n, asked.shift, Some(asked.index))) },
+        _ => None,
+    }
+}
+
+#[test]
+fn generated_layers(rt: HostRuntime) -> Result<(), Fail> {
+    let alloc = rt.alloc();
+    for (line, values) in &GENERATED_ROWS {
+        let words = words_of(alloc, line)?;
+        match command_of(alloc, words.as_slice()) {
+            Ok(command) => {
+                assert!(rt;
+                    values.is_some() && generated_by(command) == *values,
+                    "{line}"
+                )
+            }
+            Err(fault) => assert!(rt; values.is_none() && fault == WordsFault::Refused, "{line}"),
+        }
+    }
+    Ok(())
+}
+
 #[test]
 fn lines_of_the_usage_text(rt: HostRuntime) {
-    assert!(rt; usage_text().lines().count() == 2 && usage_text().ends_with("csv]\n"));
+    assert!(rt; usage_text().lines().count() == 6 && usage_text().ends_with("tree]\n"));
 }

@@ -2,9 +2,9 @@
 ghost use Rattle.std.specs.Prelude.{◌≡◌, ◌≤◌, IfSome, option_map};
 ghost use Rattle.std.specs.Char.{is_ascii_digit};
 ghost use Rattle.std.specs.List.{list_all};
-ghost use Rattle.loc_words.specs.Words.{form_word, index_or_tree, index_word, number_word, scale_word, scale_and_form};
+ghost use Rattle.loc_words.specs.Words.{form_word, index_or_tree, index_word, kind_word, number_word, scale_word, scale_and_form};
 
-use crate::{Form, Index};
+use crate::{Form, Index, Kind};
 
 const MOST_DIGITS: usize = 20;
 
@@ -21,8 +21,8 @@ fn are_digits(bytes: &[u8]) -> bool
     true
 }
 
-// A number of 1 to 20 digits below 2^64.
-fn number_of(word: &str) -> Option<u64>
+/// A number of 1 to 20 digits below 2^64.
+pub(crate) fn number_of(word: &str) -> Option<u64>
     ensures { result ≡ number_word word.now }
 {
     if word.is_empty() || word.len() > MOST_DIGITS || !are_digits(word.as_bytes()) {
@@ -83,5 +83,17 @@ pub(crate) fn read_index(index: Option<&str>) -> Option<Index>
     match index {
         Some(word) => index_of(word),
         None => Some(Index::Tree),
+    }
+}
+
+/// The kind of generated layer of this name.
+pub(crate) fn kind_of(word: &str) -> Option<Kind>
+    ensures { result ≡ kind_word word.now }
+{
+    match word {
+        "grid" => Some(Kind::Grid),
+        "nest" => Some(Kind::Nest),
+        "strips" => Some(Kind::Strips),
+        _ => None,
     }
 }

@@ -1,6 +1,8 @@
+use Rattle.std.proofs.Common.{refl}
 use Rattle.loc_spec_plane.specs.declared.Index.TheVariants.{Tree}
+use Rattle.loc_faces.specs.Subdivision.{shown_at}
 use Rattle.loc_query.proofs.LegendAnswers.{follows_points}
 use Rattle.loc_query.proofs.answering.query_by_tree.Goals as goal
 
 pub returns : goal.returns
-returns g c = c.in_ok-plane.ensures.goes_on _ _ _ _ (follows_points c.args.layer _ _ c.law.ensures c.in_ok-plane.ensures.map Tree c.args.scale c.args.points.now _ _ _ c.answer_points.ensures)
+returns g c = c.in_ok-plane.ensures.goes_on _ _ _ _ (follows_points c.args.layer _ _ c.law.ensures c.in_ok-plane.ensures.map c.args.faces (shown_at c.args.faces _) refl Tree c.args.scale c.args.points.now _ _ _ c.answer_numbered.ensures)

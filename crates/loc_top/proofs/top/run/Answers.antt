@@ -2,6 +2,8 @@ use Rattle.std.proofs.Common.{ap, map, string_bytes}
 use Rattle.std.specs.Prelude.{option_map}
 use Rattle.loc_words.specs.Words.{command_of}
 use Rattle.loc_maps.specs.MapCourses.{layer_file}
+use Rattle.loc_indexed.specs.IndexedCourses.{ask_course}
+use Rattle.loc_indexed.proofs.Outcomes.{asks}
 use Rattle.loc_query.specs.QueryCourses.{query_course}
 use Rattle.loc_query.proofs.Headlines.{headline}
 use Rattle.loc_top.specs.Run.{course_by}
@@ -11,8 +13,12 @@ use Rattle.loc_top.proofs.top.run.Goals as goal
 pub returns-clause-headline : goal.returns-clause-headline
 returns-clause-headline g c asked is =
     let file = layer_file asked.layer asked.form asked.scale in
-    let course = query_course asked.index file asked.points in
-    headline asked.index file asked.points _ _ _ _ _ (sentences_of _ _ _ _ c.run_course.result _ c.run_course.ensures.ran course (ap (option_map course_by) is))
+    let course = query_course asked.index asked.faces file asked.points in
+    headline asked.index asked.faces file asked.points _ _ _ _ _ (sentences_of _ _ _ _ c.run_course.result _ c.run_course.ensures.ran course (ap (option_map course_by) is))
+
+pub returns-clause-asks : goal.returns-clause-asks
+returns-clause-asks g c asked is =
+    asks asked.index asked.points _ _ _ _ _ (sentences_of _ _ _ _ c.run_course.result _ c.run_course.ensures.ran (ask_course asked.index asked.points) (ap (option_map course_by) is))
 
 pub returns-clause-done : goal.returns-clause-done
 returns-clause-done g c = of_course _ _ _ _ c.run_course.result _ _ c.run_course.ensures.ran (λ course s. s.done)

@@ -1,0 +1,72 @@
+-- The text of the face above a floor, as it is written, and the lines that refuse a point.
+use Rattle.std.proofs.Common.{◌≡◌, ℕ, ◌+◌, ◌*◌, ◌<◌, ◌≤◌, Option, Some, None, Result, Ok, Err, refl, sym, ◌∙◌, ap, subst, arith}
+use Rattle.loc_io.specs.Meaning.{Meaning}
+use Rattle.loc_io.specs.Streams.{Stream, TakesAll}
+use Rattle.loc_spec_plane.specs.declared.Place.{Place}
+use Rattle.loc_spec_plane.specs.Points.{Point}
+use Rattle.loc_spec_plane.specs.Tables.{Table}
+use Rattle.loc_spec_plane.specs.Faces.{face_above, face_count}
+use Rattle.loc_place.specs.Found.{place_at}
+use Rattle.loc_place.specs.Planar.{IsPlanar}
+use Rattle.loc_treeidx.specs.Steps.{most_steps}
+use Rattle.loc_half.specs.HalfEdgeLists.{HalfEdgeLists, AreHalfEdges, next_in}
+use Rattle.loc_faces.specs.FaceLists.{FaceLists, AreFaces, face_in}
+use Rattle.loc_faces.specs.FaceTexts.{face_text}
+use Rattle.loc_faces.specs.Subdivision.{next_at}
+use Rattle.loc_faces.proofs.Computed.{face_same, next_same}
+use Rattle.loc_course.specs.Courses.{Text, Stopped, refused, unwritten, refuses, searches, writes}
+use Rattle.loc_course.specs.Following.{Follows, moment, refuses_by, searches_by, writes_by}
+use Rattle.loc_course.specs.Outcomes.{exactly}
+use Rattle.loc_course.proofs.Told.{exactly_it}
+use Rattle.loc_face.specs.FaceCourses.{place_course, point_course, text_above}
+use Rattle.loc_spec_text.specs.Points.{ended, point_of}
+use Rattle.std.specs.Prelude.{codes}
+
+-- the face above a floor is one of the faces
+pub above_below : (t : Table) (next : ℕ → ℕ) (lists : FaceLists) → AreFaces t next lists → (floor : Option ℕ) → face_above (face_in lists) floor < face_count t next
+above_below t next lists faces None = omega arith
+above_below t next lists faces (Some e) = let below = faces.within (2 * e) in let count = faces.count in omega (arith, below, count)
+
+-- the text of a face by its lists is the text that is computed
+pub text_is : (scale : ℕ) (t : Table) → IsPlanar t → (half : HalfEdgeLists) → AreHalfEdges t half → (lists : FaceLists) → AreFaces t (next_in half) lists → (floor : Option ℕ) (number : ℕ) → number ≡ face_above (face_in lists) floor
+    → face_text scale t (next_in half) (face_in lists) number ≡ text_above scale t floor
+unfolding text_above
+text_is scale t planar half are lists faces floor number is =
+    ap (face_text scale t (next_in half) (face_in lists)) is
+    ∙ (ap (λ (next : ℕ → ℕ). face_text scale t next (face_in lists) (face_above (face_in lists) floor)) (next_same t planar half are)
+    ∙ ap (λ (face : ℕ → ℕ). face_text scale t (next_at t) face (face_above face floor)) (face_same t planar half are lists faces))
+
+-- what came, told twice
+pub same_ok : {T E : Type 0} (r : Result T E) (x y : T) → r ≡ Ok x → r ≡ Ok y → x ≡ y
+same_ok r x y first second = let both : Ok x ≡ Ok y = sym first ∙ second in cc
+
+-- a text that was written
+pub done : {T E : Type 0} (text : Text) (shelf : Meaning) (k : ℕ) (o m : Stream) (r : Result T E) (x : T) → r ≡ Ok x → TakesAll text o m r → Follows (writes (exactly text)) (moment shelf o k) (moment shelf m k) None
+done text shelf k o m r x is takes =
+    let took = subst (λ r. TakesAll text o m r) is takes in
+    writes_by text m (exactly_it text text refl) (record { wrote = (took.ok, took.cause.steady); in_time = took.in_time })
+
+-- a text of which a write failed
+pub cut : {T E : Type 0} (text : Text) (shelf : Meaning) (k : ℕ) (o m : Stream) (r : Result T E) (e : E) → r ≡ Err e → TakesAll text o m r → Follows (writes (exactly text)) (moment shelf o k) (moment shelf m k) (Some unwritten)
+cut text shelf k o m r e is takes =
+    let failed = subst (λ r. TakesAll text o m r) is takes in
+    writes_by text m (exactly_it text text refl) (record { wrote = (failed.err, failed.cause.failed); in_time = failed.in_time })
+
+-- a place that was found by so many steps
+pub sought : (scale : ℕ) (t : Table) (p : Point) (place : Place) (shelf : Meaning) (o m : Stream) (k l : ℕ) (end : Option Stopped) → place_at t p ≡ place → k ≤ l → l ≤ k + most_steps t
+    → Follows (place_course scale t place) (moment shelf o l) (moment shelf m l) end → Follows (searches (most_steps t) (place_course scale t (place_at t p))) (moment shelf o k) (moment shelf m l) end
+sought scale t p place shelf o m k l end is up within follows = searches_by l up within (subst (λ (q : Place). Follows (place_course scale t q) (moment shelf o l) (moment shelf m l) end) (sym is) follows)
+
+-- a refusal by a line
+pub refuses_it : (text line : Text) (shelf : Meaning) (o : Stream) (k : ℕ) → line ≡ text → Follows (refuses (exactly text)) (moment shelf o k) (moment shelf o k) (Some (refused line))
+refuses_it text line shelf o k is = refuses_by line (exactly_it text line is)
+
+-- the same text, written otherwise
+pub takes_same : {T E : Type 0} (a b : Text) (o m : Stream) (r : Result T E) → a ≡ b → TakesAll a o m r → TakesAll b o m r
+takes_same a b o m r is takes = subst (λ l. TakesAll l o m r) is takes
+
+-- a word that is no point is refused
+pub unread_word : (scale : ℕ) (t : Table) (word line : Text) (shelf : Meaning) (o : Stream) (k : ℕ) → None ≡ point_of scale word → line ≡ ended (codes "point: unread")
+    → Follows (point_course scale t (point_of scale word)) (moment shelf o k) (moment shelf o k) (Some (refused line))
+unread_word scale t word line shelf o k none is =
+    subst (λ (p : Option Point). Follows (point_course scale t p) (moment shelf o k) (moment shelf o k) (Some (refused line))) none (refuses_it (ended (codes "point: unread")) line shelf o k is)

@@ -1,0 +1,117 @@
+//! The face of a point, from the bytes in to the bytes out.
+
+ghost use Rattle.std.specs.Prelude.{ℕ, IfSome, ◌<◌, length};
+ghost use Rattle.loc_spec_plane.specs.Tables.{NoConflict};
+ghost use Rattle.loc_spec_text.specs.Points.{point_of};
+ghost use Rattle.loc_edges.specs.Floors.{AreFloors};
+ghost use Rattle.loc_io.specs.Meaning.{Meaning};
+ghost use Rattle.loc_place.specs.Found.{place_at};
+ghost use Rattle.loc_treeidx.specs.Standing.{AreVersionsOf};
+ghost use Rattle.loc_treeidx.specs.Steps.{most_steps};
+ghost use Rattle.loc_course.specs.Courses.{searches, writes};
+ghost use Rattle.loc_course.specs.Following.{Follows, moment};
+ghost use Rattle.loc_course.specs.Outcomes.{exactly};
+ghost use Rattle.loc_course.specs.Stops.{end_of};
+ghost use Rattle.loc_maps.specs.MapCourses.{layer_file};
+ghost use Rattle.loc_face.specs.FaceCourses.{face_course, place_course, point_course, text_above};
+
+use crate::lines::numbered_line;
+use loc_course::{Line, Scale, Stop};
+use loc_faces::{Faces, write_face};
+use loc_geom::{Point, Steps};
+use loc_half::HalfEdges;
+use loc_io::{Shelf, Sink};
+use loc_maps::{Plane, judge, read_layer_file};
+use loc_place::{Locator, Place};
+use loc_spec_text::Form;
+use loc_treeidx::TreeIndex;
+use loc_treeidx::laws::swept_stands;
+use loc_wkt::read_point;
+use std::alloc::Global;
+use std::sync::ledger::Ledger;
+
+// Writes the face above a floor.
+fn write_above<O: Sink>(
+    alloc: Global,
+    plane: &Plane<TreeIndex>,
+    floor: Option<u32>,
+    scale: Scale,
+    out: &mut O,
+) -> Result<(), Stop>
+    requires apart { NoConflict plane.now.table }
+    requires floors { AreFloors plane.now.table plane.now.floors }
+    requires in_range { IfSome floor (λ e. e < length plane.now.table.ends) }
+    ensures { (shelf : Meaning) (k : ℕ) → Follows (writes (exactly (text_above scale plane.now.table floor))) (moment shelf (O.meaning out.old) k) (moment shelf (O.meaning out.new) k) (end_of result) }
+{
+    let table = &plane.table;
+    table.law();
+    let half = HalfEdges::make(alloc, table)?;
+    let faces = Faces::make(alloc, table, &half, &plane.floors)?;
+    let number = faces.above(floor);
+    match write_face(&faces, number, table, &half, scale.decimals(), out) {
+        Ok(()) => Ok(()),
+        Err(_) => Err(Stop::WriteFault),
+    }
+}
+
+// Seeks a point, and writes its face, or says why it has none.
+fn write_at<O: Sink, L: Ledger>(
+    alloc: Global,
+    plane: &Plane<TreeIndex>,
+    point: Point,
+    scale: Scale,
+    out: &mut O,
+    steps: &mut Steps<L>,
+) -> Result<(), Stop>
+    requires apart { NoConflict plane.now.table }
+    requires stands { AreVersionsOf plane.now.table plane.now.status }
+    requires floors { AreFloors plane.now.table plane.now.floors }
+    ensures { (shelf : Meaning) → Follows (searches (most_steps plane.now.table) (place_course scale plane.now.table (place_at plane.now.table point))) (moment shelf (O.meaning out.old) steps.old) (moment shelf (O.meaning out.new) steps.new) (end_of result) }
+{
+    match plane.status.locate(&plane.table.views(), point, steps) {
+        Ok(Place::Corner(n)) => Err(Stop::Refused(numbered_line(b"point: corner ", n))),
+        Ok(Place::Border(e)) => Err(Stop::Refused(numbered_line(b"point: border ", e))),
+        Ok(Place::Area(floor)) => write_above(alloc, plane, floor, scale, out),
+        Err(_) => unreachable!(),
+    }
+}
+
+// Reads a word as a point, and writes its face.
+fn write_for<O: Sink, L: Ledger>(
+    alloc: Global,
+    plane: &Plane<TreeIndex>,
+    word: &[u8],
+    scale: Scale,
+    out: &mut O,
+    steps: &mut Steps<L>,
+) -> Result<(), Stop>
+    requires apart { NoConflict plane.now.table }
+    requires stands { AreVersionsOf plane.now.table plane.now.status }
+    requires floors { AreFloors plane.now.table plane.now.floors }
+    ensures { (shelf : Meaning) → Follows (point_course scale plane.now.table (point_of scale word.now)) (moment shelf (O.meaning out.old) steps.old) (moment shelf (O.meaning out.new) steps.new) (end_of result) }
+{
+    match read_point(word, scale.decimals()) {
+        Some(point) => write_at(alloc, plane, point, scale, out, steps),
+        None => Err(Stop::Refused(Line::of(b"point: unread"))),
+    }
+}
+
+/// Reads the layer, seeks the point of the word in it, and writes the face in which the point lies: all memory is taken before the first
+/// byte on `out`.
+pub fn face<F: Shelf, O: Sink, L: Ledger>(
+    alloc: Global,
+    layer_name: &str,
+    point: &str,
+    form: Form,
+    scale: Scale,
+    shelf: &mut F,
+    out: &mut O,
+    steps: &mut Steps<L>,
+) -> Result<(), Stop>
+    ensures { Follows (face_course (layer_file layer_name.now form scale) point.now) (moment (F.meaning shelf.old) (O.meaning out.old) steps.old) (moment (F.meaning shelf.new) (O.meaning out.new) steps.new) (end_of result) }
+{
+    let layer = read_layer_file(alloc, shelf, layer_name, form, scale)?;
+    let plane = judge(alloc, layer, scale, TreeIndex::new(alloc))?;
+    swept_stands(&plane.table, &plane.status);
+    write_for(alloc, &plane, point.as_bytes(), scale, out, steps)
+}

@@ -1,0 +1,14 @@
+pub mod Computed
+pub mod CycleTexts
+pub mod Hanging
+pub mod Keyed
+pub mod Known
+pub mod Leaders
+pub mod Least
+pub mod Lines
+pub mod Made
+pub mod Nested
+pub mod Numbering
+pub mod Once
+pub mod Turns
+pub mod Writing

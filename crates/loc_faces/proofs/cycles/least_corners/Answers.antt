@@ -1,0 +1,21 @@
+use Rattle.std.proofs.Common.{◌≡◌, ◌+◌, get_or, set, min, sym, ◌∙◌, ap, subst, arith}
+use Rattle.std.proofs.lemmas.List.{get_or_read}
+use Rattle.loc_spec_plane.specs.HalfEdges.{target}
+use Rattle.loc_half.specs.HalfEdgeLists.{leader_in}
+use Rattle.loc_faces.proofs.Leaders.{leads_within}
+use Rattle.loc_faces.proofs.Least.{IsLeastSoFar, least_more, least_all}
+use Rattle.loc_faces.proofs.cycles.least_corners.Goals as goal
+
+pub loop-h-preserved : goal.loop-h-preserved
+loop-h-preserved c =
+    let leader : c.leader-leader.result ≡ leader_in c.args.half.now c.loop-h.h = c.leader-leader.ensures in
+    let size = c.loop-h.invariant.as_many in
+    let within = leads_within c.args.table.now c.law.ensures.in_order c.args.half.now c.requires.half c.loop-h.h (omega arith) in
+    let i : c.index.result.now ≡ get_or c.loop-h.least.items c.leader-leader.result 0 = get_or_read c.loop-h.least.items _ _ (omega (arith, leader, within, size)) c.index.ensures 0 in
+    let v : c.min.result ≡ min (get_or c.loop-h.least.items (leader_in c.args.half.now c.loop-h.h) 0) (target c.args.table.now c.loop-h.h) =
+    c.min.ensures ∙ (ap (λ n. min n c.target.result) (i ∙ ap (λ l. get_or c.loop-h.least.items l 0) leader) ∙ ap (min (get_or c.loop-h.least.items (leader_in c.args.half.now c.loop-h.h) 0)) c.target.ensures) in
+    subst (λ l. IsLeastSoFar c.args.table.now c.args.half.now (set c.loop-h.least.items l c.min.result) (c.loop-h.h + 1)) (sym leader)
+    (least_more c.args.table.now c.law.ensures.in_order c.args.half.now c.requires.half c.loop-h.least.items c.loop-h.h c.min.result (omega arith) v c.loop-h.invariant)
+
+pub returns : goal.returns
+returns c = least_all c.args.table.now c.law.ensures.in_order c.args.half.now c.requires.half c.loop-h.least.items c.loop-h.h (omega arith) (omega arith) c.loop-h.invariant

@@ -1,0 +1,52 @@
+use Rattle.std.proofs.Common.{◌≡◌, ℕ, ◌+◌, ◌<◌, ◌≤◌, true, false, List, length, get_or, map, sym, ◌∙◌, ap, subst, arith}
+use Rattle.loc_spec_plane.specs.Lists.{numbers}
+use Rattle.loc_spec_plane.specs.HalfEdges.{half_edge_count}
+use Rattle.loc_spec_plane.specs.Faces.{hangs}
+use Rattle.loc_half.specs.HalfEdgeLists.{next_in}
+use Rattle.loc_faces.specs.Boundaries.{inner_leaders}
+use Rattle.loc_faces.specs.Cycles.{AreHanging, AreNumbered, face_by}
+use Rattle.loc_faces.specs.FaceLists.{AreFaces}
+use Rattle.loc_faces.proofs.Nested.{face_over}
+use Rattle.loc_faces.proofs.Numbering.{listed_few}
+use Rattle.loc_faces.proofs.Made.{faces_are, faces_below}
+use Rattle.loc_faces.proofs.faces.Faces.make.Goals as goal
+
+pub overflow_cast-count : goal.overflow_cast-count
+overflow_cast-count c =
+    let few = listed_few c.args.table.now c.args.half.now c.requires.half c.in_ok-outers.outers.items c.in_ok-outers.of_cycle.items _ c.in_ok-outers.ensures in
+    let small = c.law.ensures.small.few_edges in
+    let held = c.in_ok-outers.outers.ok.0 in
+    omega (arith, few, small, held, c.len.ensures)
+
+pub overflow_add-count : goal.overflow_add-count
+overflow_add-count c =
+    let few = listed_few c.args.table.now c.args.half.now c.requires.half c.in_ok-outers.outers.items c.in_ok-outers.of_cycle.items _ c.in_ok-outers.ensures in
+    let small = c.law.ensures.small.few_edges in
+    let held = c.in_ok-outers.outers.ok.0 in
+    omega (arith, few, small, held, c.len.ensures)
+
+pub hanging_rows-requires-clause-within : goal.hanging_rows-requires-clause-within
+hanging_rows-requires-clause-within c =
+    let numbered : AreNumbered c.args.table.now c.args.half.now c.in_ok-outers.outers.items c.in_ok-outers.of_cycle.items (half_edge_count c.args.table.now) = c.in_ok-outers.ensures in
+    let within : (most : ℕ) → ((l : ℕ) → get_or c.in_ok-outers.of_cycle.items l 0 ≤ most) → (l : ℕ) → get_or c.number_hanging-of_cycle.result.items l 0 ≤ most = c.number_hanging-of_cycle.ensures.within in
+    let each : (h : ℕ) → h < half_edge_count c.args.table.now → get_or c.in_ok-of_half.of_half.items h 0 ≡ face_by c.args.half.now c.number_hanging-of_cycle.result.items h = λ h lt. c.in_ok-of_half.ensures.each h lt ∙ ap (λ (l : List ℕ). face_by c.args.half.now l h) c.deref-5.ensures.value in
+    let many : c.len.result ≡ length c.in_ok-outers.outers.items = (let held = c.in_ok-outers.outers.ok.0 in omega (arith, held, c.len.ensures)) in
+    let below : (h : ℕ) → get_or c.in_ok-of_half.of_half.items h 0 < c.len.result + 1 = subst (λ n. (h : ℕ) → get_or c.in_ok-of_half.of_half.items h 0 < n + 1) (sym many)
+    (faces_below c.args.table.now c.args.half.now (length c.in_ok-outers.outers.items) c.number_hanging-of_cycle.result.items c.in_ok-of_half.of_half.items c.in_ok-of_half.ensures.as_many each (within (length c.in_ok-outers.outers.items) numbered.within)) in
+    λ h _. subst (λ (l : List ℕ). get_or l h 0 < c.len.result + 1) (sym c.deref-7.ensures.value) (below h)
+
+pub returns : goal.returns
+returns c =
+    let hung : AreHanging c.args.table.now c.args.half.now c.in_ok-hanging.hanging.items = c.in_ok-hanging.ensures in
+    let numbered : AreNumbered c.args.table.now c.args.half.now c.in_ok-outers.outers.items c.in_ok-outers.of_cycle.items (half_edge_count c.args.table.now) = c.in_ok-outers.ensures in
+    let outer : (h : ℕ) → h < half_edge_count c.args.table.now → hangs c.args.table.now (next_in c.args.half.now) h ≡ false → face_by c.args.half.now c.number_hanging-of_cycle.result.items h ≡ face_by c.args.half.now c.in_ok-outers.of_cycle.items h = c.number_hanging-of_cycle.ensures.outer in
+    let nested : (h : ℕ) → h < half_edge_count c.args.table.now → hangs c.args.table.now (next_in c.args.half.now) h ≡ true → face_by c.args.half.now c.number_hanging-of_cycle.result.items h ≡ face_over c.args.table.now c.args.half.now c.args.floors.now c.number_hanging-of_cycle.result.items h = c.number_hanging-of_cycle.ensures.hanging in
+    let within : (most : ℕ) → ((l : ℕ) → get_or c.in_ok-outers.of_cycle.items l 0 ≤ most) → (l : ℕ) → get_or c.number_hanging-of_cycle.result.items l 0 ≤ most = c.number_hanging-of_cycle.ensures.within in
+    let size : length c.in_ok-of_half.of_half.items ≡ half_edge_count c.args.table.now = c.in_ok-of_half.ensures.as_many in
+    let each : (h : ℕ) → h < half_edge_count c.args.table.now → get_or c.in_ok-of_half.of_half.items h 0 ≡ face_by c.args.half.now c.number_hanging-of_cycle.result.items h = λ h lt. c.in_ok-of_half.ensures.each h lt ∙ ap (λ (l : List ℕ). face_by c.args.half.now l h) c.deref-5.ensures.value in
+    let many : c.len.result ≡ length c.in_ok-outers.outers.items = (let held = c.in_ok-outers.outers.ok.0 in omega (arith, held, c.len.ensures)) in
+    let rows : c.in_ok-inner.inner ≡ map (inner_leaders c.args.table.now (next_in c.args.half.now) (λ h. get_or c.in_ok-of_half.of_half.items h 0)) (numbers (length c.in_ok-outers.outers.items + 1)) =
+    c.in_ok-inner.ensures ∙ (ap (λ (l : List ℕ). map (inner_leaders c.args.table.now (next_in c.args.half.now) (λ h. get_or l h 0)) (numbers (c.len.result + 1))) c.deref-7.ensures.value
+    ∙ ap (λ n. map (inner_leaders c.args.table.now (next_in c.args.half.now) (λ h. get_or c.in_ok-of_half.of_half.items h 0)) (numbers (n + 1))) many) in
+    let made = faces_are c.args.table.now c.law.ensures.in_order c.args.half.now c.requires.half c.args.floors.now c.requires.floors c.in_ok-hanging.hanging.items hung c.in_ok-outers.outers.items c.in_ok-outers.of_cycle.items c.number_hanging-of_cycle.result.items c.in_ok-of_half.of_half.items numbered outer nested within size each c.in_ok-inner.inner rows in
+    subst (λ n. AreFaces c.args.table.now (next_in c.args.half.now) (record { count = n + 1; of_half = c.in_ok-of_half.of_half.items; outers = c.in_ok-outers.outers.items; inner = c.in_ok-inner.inner })) (sym many) made

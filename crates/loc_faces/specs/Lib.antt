@@ -1,0 +1,5 @@
+pub mod Boundaries
+pub mod Cycles
+pub mod FaceLists
+pub mod FaceTexts
+pub mod Subdivision

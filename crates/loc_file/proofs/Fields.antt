@@ -1,0 +1,151 @@
+-- What a reader of one field finds: the field by its bytes, or what is wrong there.
+use Rattle.std.proofs.Common.{◌≡◌, ℕ, ◌+◌, ◌<◌, ◌≤◌, ◌^◌, Bool, true, false, ◌&&◌, List, [], ◌∷◌, ◌++◌, length, get_or, ◌%◌, refl, sym, ◌∙◌, ap, subst, arith, ℤ, pos, negsuc}
+use Rattle.std.specs.Prelude.{Some, is_none, nat_lt, nat_eq, ◌==◌, ◌||◌, codes, unsigned_abs, FitsSigned}
+use Rattle.std.specs.List.{starts_with}
+use Rattle.std.specs.Str.{bytes_eq}
+use Rattle.std.proofs.lemmas.Slice.Eq.{bytes_eq-Decides}
+use Rattle.std.specs.Int.{w8, w32, w64, to_be_bytes, from_be_bytes, cast_signed, cast_unsigned}
+use Rattle.std.proofs.lemmas.Nat.{be_bytes_4, be_bytes_8}
+use Rattle.std.proofs.lemmas.Bool.{lt-ltb, ltb-true, eqb-true, true≢false}
+use Rattle.std.proofs.lemmas.Int.{of_z-to_z, to_z-of_z, ints}
+use Rattle.loc_spec_index.specs.declared.IndexFault.{IndexFault}
+use Rattle.loc_spec_index.specs.declared.IndexFault.TheVariants as fault
+use Rattle.loc_spec_index.specs.declared.Part.{Part}
+use Rattle.loc_spec_index.specs.IndexFile.{Field, magic, version, is_version, number, coordinate, order, spelled, is_right, fault_at, with_bytes, unless}
+use Rattle.loc_spec_plane.specs.Points.{Point, point_at, OnGrid}
+use Rattle.loc_file.proofs.Steps.{read-next, read-along}
+use Rattle.loc_file.specs.Readings.{Left, IsTaken, IsShort, IsRead, IsWrong, short, wrong}
+
+end : (l : List ℕ) → l ++ [] ≡ l
+end [] = refl
+end (x ∷ l) = ap (λ k. x ∷ k) (end l)
+
+-- ---- any field
+
+pub short-at : (field : Field) (count : ℕ) {a : Left} {f : IndexFault} → length (spelled field) ≡ count → IsShort count a f → IsWrong field a f
+short-at field count {a} {f} as_long s =
+    subst (λ g. IsWrong field a g) (ap (λ n. fault.Short (a.offset + n)) as_long ∙ sym s.need) (short (let few = s.few in omega (arith, few, as_long)))
+
+pub wrong-at : (field : Field) (count : ℕ) (held : List ℕ) {a b : Left} (f : IndexFault) → length (spelled field) ≡ count → IsTaken count held a b → fault_at a.offset (with_bytes held field) ≡ Some f → IsWrong field a f
+wrong-at field count held {a} {b} f as_long t is = wrong held b.rest f t.taken (t.as_many ∙ sym as_long) is
+
+pub read-at : (field : Field) (count : ℕ) (held : List ℕ) {a b : Left} → IsTaken count held a b → spelled field ≡ held → is_right field ≡ true → IsRead (field ∷ []) a b
+read-at field count held {a} {b} t is right = record {
+  right = ap (λ r. r && true) right;
+  spelled = t.taken ∙ ap (λ l. l ++ b.rest) (sym is ∙ sym (end (spelled field)));
+  offset = (let o = t.offset in let l = ap length (end (spelled field) ∙ is) ∙ t.as_many in omega (arith, o, l));
+}
+
+fault-is : (holds : Bool) (f : IndexFault) → holds ≡ false → unless holds f ≡ Some f
+fault-is true f e = cc
+fault-is false f e = refl
+
+none-is : (holds : Bool) (f : IndexFault) → holds ≡ true → is_none (unless holds f) ≡ true
+none-is true f e = refl
+none-is false f e = cc
+
+not-less : (a b : ℕ) → b ≤ a → nat_lt a b ≡ false
+not-less a b h = by (nat_lt a b) refl
+  where
+    by : (t : Bool) → nat_lt a b ≡ t → t ≡ false
+    by true e = absurd (let lt : a < b = ltb-true a b e in omega (arith, lt, h))
+    by false e = refl
+
+-- ---- numbers
+
+one : (held : List ℕ) (value : ℕ) → length held ≡ 1 → ((i : ℕ) → get_or held i 0 < 256) → value ≡ get_or held 0 0 → to_be_bytes w8 value ≡ held
+one [] value l small is = absurd (omega (arith, l))
+one (x ∷ []) value l small is = ap (λ v. v ∷ []) (ap (λ v. v % 256) is ∙ (let b = small 0 in omega (arith, b)))
+one (x ∷ y ∷ ys) value l small is = absurd (omega (arith, l))
+
+abbrev pub AreBytes : List ℕ → Type 0
+AreBytes bs = (i : ℕ) → get_or bs i 0 < 256
+
+pub number-read : (bound value : ℕ) (held : List ℕ) {a b : Left} → IsTaken 4 held a b → AreBytes held → value ≡ from_be_bytes w32 held → value < bound → IsRead (number w32 bound value ∷ []) a b
+number-read bound value held t small is lt = read-at (number w32 bound value) 4 held t (be_bytes_4 held value t.as_many small is) (none-is _ _ (lt-ltb value bound lt))
+
+pub number-wrong : (bound value n offset : ℕ) (held : List ℕ) {a b : Left} → offset ≡ a.offset → IsTaken 4 held a b → value ≡ from_be_bytes w32 held → bound ≤ value → IsWrong (number w32 bound n) a (fault.Field offset value bound)
+number-wrong bound value n offset held {a} o t is le =
+    wrong-at (number w32 bound n) 4 held (fault.Field offset value bound) refl t
+    (ap (λ v. unless (nat_lt v bound) (fault.Field a.offset v bound)) (sym is) ∙ (fault-is _ _ (not-less value bound le) ∙ ap (λ k. Some (fault.Field k value bound)) (sym o)))
+
+pub number-short : (bound n : ℕ) {a : Left} {f : IndexFault} → IsShort 4 a f → IsWrong (number w32 bound n) a f
+number-short bound n s = short-at (number w32 bound n) 4 refl s
+
+pub byte-short : (bound n : ℕ) {a : Left} {f : IndexFault} → IsShort 1 a f → IsWrong (number w8 bound n) a f
+byte-short bound n s = short-at (number w8 bound n) 1 refl s
+
+-- the one byte of a list of one
+pub byte-read : (bound value : ℕ) (held : List ℕ) {a b : Left} → IsTaken 1 held a b → AreBytes held → value ≡ get_or held 0 0 → value < bound → IsRead (number w8 bound value ∷ []) a b
+byte-read bound value held t small is lt = read-at (number w8 bound value) 1 held t (one held value t.as_many small is) (none-is _ _ (lt-ltb value bound lt))
+
+pub byte-wrong : (bound value n offset : ℕ) (held : List ℕ) {a b : Left} → offset ≡ a.offset → IsTaken 1 held a b → value ≡ get_or held 0 0 → bound ≤ value → IsWrong (number w8 bound n) a (fault.Field offset value bound)
+byte-wrong bound value n offset held {a} o t is le =
+    wrong-at (number w8 bound n) 1 held (fault.Field offset value bound) refl t
+    (ap (λ v. unless (nat_lt v bound) (fault.Field a.offset v bound)) (sym is) ∙ (fault-is _ _ (not-less value bound le) ∙ ap (λ k. Some (fault.Field k value bound)) (sym o)))
+
+-- ---- coordinates
+
+pub coordinate-read : (x : ℤ) (raw : ℕ) (held : List ℕ) {a b : Left} → IsTaken 8 held a b → AreBytes held → raw ≡ from_be_bytes w64 held → raw < 2 ^ 64 → x ≡ cast_signed w64 raw → unsigned_abs x ≤ 10 ^ 18 → IsRead (coordinate x ∷ []) a b
+coordinate-read x raw held t small is fits signed le = read-at (coordinate x) 8 held t
+    (ap (λ z. to_be_bytes w64 (cast_unsigned w64 z)) signed ∙ (ap (to_be_bytes w64) (of_z-to_z w64 raw fits) ∙ be_bytes_8 held raw t.as_many small is))
+    (none-is _ _ (lt-ltb (unsigned_abs x) (10 ^ 18 + 1) (omega (arith, le))))
+
+pub coordinate-wrong : (x z : ℤ) (raw size offset : ℕ) (held : List ℕ) {a b : Left} → offset ≡ a.offset → IsTaken 8 held a b → raw ≡ from_be_bytes w64 held → x ≡ cast_signed w64 raw → size ≡ unsigned_abs x → 10 ^ 18 < size → IsWrong (coordinate z) a (fault.Field offset size (10 ^ 18 + 1))
+coordinate-wrong x z raw size offset held {a} o t is signed sized lt =
+    let e : unsigned_abs (cast_signed w64 (from_be_bytes w64 held)) ≡ size = ap (λ r. unsigned_abs (cast_signed w64 r)) (sym is) ∙ (ap unsigned_abs (sym signed) ∙ sym sized) in
+    wrong-at (coordinate z) 8 held (fault.Field offset size (10 ^ 18 + 1)) refl t
+    (ap (λ v. unless (nat_lt v (10 ^ 18 + 1)) (fault.Field a.offset v (10 ^ 18 + 1))) e ∙ (fault-is _ _ (not-less size (10 ^ 18 + 1) (omega (arith, lt))) ∙ ap (λ k. Some (fault.Field k size (10 ^ 18 + 1))) (sym o)))
+
+-- a number that was cast and cast back
+pub cast-back : (v : ℤ) (raw : ℕ) → v ≡ cast_signed w64 raw → raw < 2 ^ 64 → cast_signed w64 (cast_unsigned w64 v) ≡ cast_signed w64 raw
+cast-back v raw e fits = ap (λ z. cast_signed w64 (cast_unsigned w64 z)) e ∙ ap (cast_signed w64) (of_z-to_z w64 raw fits)
+
+pub coordinate-short : (x : ℤ) {a : Left} {f : IndexFault} → IsShort 8 a f → IsWrong (coordinate x) a f
+coordinate-short x s = short-at (coordinate x) 8 refl s
+
+pub order-wrong : (part : Part) (row : ℕ) (holds : Bool) (a : Left) → holds ≡ false → IsWrong (order part row holds) a (fault.NotSorted part row)
+order-wrong part row holds a h = wrong [] a.rest (fault.NotSorted part row) refl refl (fault-is holds _ h)
+
+-- ---- letters and versions
+
+abbrev letters : List ℕ
+letters = codes "LOCINDEX"
+
+pub magic-read : (held : List ℕ) {a b : Left} → IsTaken 8 held a b → bytes_eq held (codes "LOCINDEX") ≡ true → IsRead (magic (codes "LOCINDEX") ∷ []) a b
+magic-read held t e = read-at (magic letters) 8 held t (sym ((bytes_eq-Decides held letters).0 e)) refl
+
+pub magic-wrong : (held : List ℕ) {a b : Left} → IsTaken 8 held a b → bytes_eq held (codes "LOCINDEX") ≡ false → IsWrong (magic (codes "LOCINDEX")) a fault.Magic
+magic-wrong held t e = wrong-at (magic letters) 8 held fault.Magic refl t (fault-is _ _ e)
+
+pub version-read : (found : ℕ) (held : List ℕ) {a b : Left} → IsTaken 4 held a b → AreBytes held → found ≡ from_be_bytes w32 held → found ≡ 1 → IsRead (version 1 ∷ []) a b
+version-read found held t small is one = read-at (version 1) 4 held t (be_bytes_4 held 1 t.as_many small (sym one ∙ is)) refl
+
+pub version-wrong : (found : ℕ) (held : List ℕ) {a b : Left} → IsTaken 4 held a b → AreBytes held → found ≡ from_be_bytes w32 held → (found ≡ 1 → ⊥) → starts_with nat_eq a.rest (0 ∷ 0 ∷ 0 ∷ 2 ∷ []) ≡ false → IsWrong (version 1) a (fault.Version found)
+version-wrong found held {a} {b} t small is other first =
+    wrong-at (version 1) 4 held (fault.Version found) refl t (ap (λ v. unless (is_version v) (fault.Version v)) (sym is) ∙ fault-is _ _ (neither (found == 1) (found == 2) refl refl))
+  where
+    second : found ≡ 2 → ⊥
+    second two = true≢false (sym (ap (λ r. starts_with nat_eq r (0 ∷ 0 ∷ 0 ∷ 2 ∷ [])) (t.taken ∙ ap (λ h. h ++ b.rest) (sym (be_bytes_4 held 2 t.as_many small (sym two ∙ is))))) ∙ first)
+
+    neither : (p q : Bool) → (found == 1) ≡ p → (found == 2) ≡ q → (p || q) ≡ false
+    neither true q hp hq = absurd (other (eqb-true found 1 hp))
+    neither false true hp hq = absurd (second (eqb-true found 2 hq))
+    neither false false hp hq = refl
+
+-- the letters are followed by the version
+pub past_magic : {a b : Left} → IsRead (magic (codes "LOCINDEX") ∷ []) a b → starts_with nat_eq a.rest (76 ∷ 79 ∷ 67 ∷ 73 ∷ 78 ∷ 68 ∷ 69 ∷ 88 ∷ 0 ∷ 0 ∷ 0 ∷ 2 ∷ []) ≡ false → starts_with nat_eq b.rest (0 ∷ 0 ∷ 0 ∷ 2 ∷ []) ≡ false
+past_magic {a} {b} read other = ap (λ r. starts_with nat_eq r (76 ∷ 79 ∷ 67 ∷ 73 ∷ 78 ∷ 68 ∷ 69 ∷ 88 ∷ 0 ∷ 0 ∷ 0 ∷ 2 ∷ [])) (sym read.spelled) ∙ other
+
+-- ---- points
+
+back : (x : ℤ) → OnGrid x → cast_signed w64 (cast_unsigned w64 x) ≡ x
+back x on = to_z-of_z w64 x (fits x on)
+  where
+    fits : (x : ℤ) → OnGrid x → FitsSigned w64 x
+    fits (pos n) on = let hi = on.1 in record { sfits = omega (arith, ints) }
+    fits (negsuc n) on = let lo = on.0 in record { sfits = omega (arith, ints) }
+
+pub point-read : (p : Point) (x y : ℤ) {a b c : Left} → OnGrid x → OnGrid y → p ≡ point_at (cast_signed w64 (cast_unsigned w64 x)) (cast_signed w64 (cast_unsigned w64 y)) → IsRead (coordinate x ∷ []) a b → IsRead (coordinate y ∷ []) b c → IsRead (coordinate p.x ∷ coordinate p.y ∷ []) a c
+point-read p x y {a} {b} {c} on_x on_y made read_x read_y =
+    read-next _ _ (read-along coordinate (sym (ap (λ (q : Point). q.x) made ∙ back x on_x)) read_x) (read-along coordinate (sym (ap (λ (q : Point). q.y) made ∙ back y on_y)) read_y)

@@ -1,0 +1,29 @@
+-- Bytes are refused by one fault at most, and those of a file by none.
+use Rattle.std.proofs.Common.{◌≡◌, ◌≢◌, ℕ, Bool, true, false, List, [], ◌∷◌, ◌++◌, refl, sym, ◌∙◌, ap}
+use Rattle.std.specs.Prelude.{not, IsTrue, length}
+use Rattle.std.proofs.lemmas.Bool.{both_ways, true≢false, not-true}
+use Rattle.loc_spec_index.specs.declared.IndexFault.{IndexFault}
+use Rattle.loc_spec_index.specs.declared.IndexFault.TheVariants as fault
+use Rattle.loc_spec_index.specs.Content.{Content}
+use Rattle.loc_spec_index.specs.IndexFile.{IsFileOf, HasFault, header_fields, spelled_all}
+use Rattle.loc_laws_index.proofs.AgreeTable.{body, fields-body}
+use Rattle.loc_laws_index.proofs.OneReading.{one_fault, no_fault_in_file}
+use Rattle.loc_file.specs.Refused.{is_second, IsRefused, faulty, second, unheld, OneRefusal, NoRefusalOfFile}
+
+pub one_refusal : OneRefusal
+one_refusal bytes f g (faulty _ a h) (faulty _ b k) some other = one_fault bytes f g h k
+one_refusal bytes f g (faulty _ a h) (second b) some other = absurd (both_ways (is_second bytes) (not-true (is_second bytes) a) b)
+one_refusal bytes f g (second a) (faulty _ b k) some other = absurd (both_ways (is_second bytes) (not-true (is_second bytes) b) a)
+one_refusal bytes f g (second a) (second b) some other = refl
+one_refusal bytes f g unheld k some other = absurd (some refl)
+one_refusal bytes f g (faulty _ a h) unheld some other = absurd (other refl)
+one_refusal bytes f g (second a) unheld some other = absurd (other refl)
+
+-- a file of the first version does not begin as one of the second
+first : (bytes : List ℕ) (c : Content) → IsFileOf 1 c bytes → is_second bytes ≡ false
+first bytes c file = ap is_second (file.spelled ∙ ap spelled_all (fields-body 1 c))
+
+pub no_refusal : NoRefusalOfFile
+no_refusal bytes c f file (faulty _ a h) = absurd (no_fault_in_file bytes 1 c f file h)
+no_refusal bytes c f file (second a) = absurd (both_ways (is_second bytes) (first bytes c file) a)
+no_refusal bytes c f file unheld = refl

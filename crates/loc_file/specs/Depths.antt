@@ -1,0 +1,26 @@
+-- How many steps a search in a held file takes at most. The words:
+--   depth_from   how many nodes the paths from a node have at most, with room for so many
+--   is_level     no path of any version is longer than those of a red-black tree of all edges
+--   most_of      the tree's bound where the file is level, else all corners and 42 nodes
+use Rattle.std.specs.Prelude.{ℕ, zero, suc, ◌+◌, ◌^◌, max, Bool, List, length, if◌then◌else◌, nat_le}
+use Rattle.std.specs.List.{list_all}
+use Rattle.loc_spec_plane.specs.Lists.{numbers}
+use Rattle.loc_spec_plane.specs.Tables.{Table}
+use Rattle.loc_spec_index.specs.declared.NodeRow.{NodeRow}
+use Rattle.loc_spec_index.specs.Nodes.{Left, Right, child_of}
+use Rattle.loc_spec_index.specs.Content.{Content, root_of}
+use Rattle.loc_treeidx.specs.Steps.{version_bound, most_steps}
+
+-- the nodes of the longest path from node n in a version, or the room where it is longer
+unfoldable pub depth_from : List NodeRow → ℕ → ℕ → ℕ → ℕ
+depth_from rows version zero n = 0
+depth_from rows version (suc room) zero = 0
+depth_from rows version (suc room) (suc n) = suc (max (depth_from rows version room (child_of rows version (suc n) Left)) (depth_from rows version room (child_of rows version (suc n) Right)))
+
+-- two to the nodes of each path is within the bound of all edges
+unfoldable pub is_level : Content → Bool
+is_level c = list_all (λ i. nat_le (2 ^ depth_from c.nodes i 42 (root_of c i)) (version_bound (length c.edges))) (numbers (length c.corners))
+
+-- a true index is level
+abbrev pub most_of : Content → Table → ℕ
+most_of c t = if is_level c then most_steps t else length t.corners + 42

@@ -1,0 +1,61 @@
+// The parts of the floors and of the roots.
+
+ghost use Rattle.std.specs.Prelude.{◌+◌, ◌<◌, ◌^◌, IfOk, IfErr};
+ghost use Rattle.loc_file.specs.Readings.{IsRead, IsRowStop, AreRows, IsRowsStop};
+ghost use Rattle.loc_file.specs.Rows.{alone, floor_row, number_row};
+
+use crate::cursor::Cursor;
+use crate::rows::keep;
+use loc_spec_index::IndexFault;
+use std::alloc::Global;
+
+// The floor of a corner, or none.
+fn next_floor(cursor: &mut Cursor<'_>, edges: u32) -> Result<Option<u32>, IndexFault>
+    requires { edges < 2 ^ 31 }
+    ensures ok { IfOk result (λ floor. IsRead (floor_row edges floor) cursor.old cursor.new) }
+    ensures err { IfErr result (IsRowStop (floor_row edges) cursor.old) }
+{
+    let number = cursor.number(edges + 1)?;
+    if number == 0 {
+        Ok(None)
+    } else {
+        Ok(Some(number - 1))
+    }
+}
+
+// The floors of the corners.
+pub(crate) fn read_floors(
+    alloc: Global,
+    cursor: &mut Cursor<'_>,
+    edges: u32,
+    count: u32,
+) -> Result<Vec<Option<u32>>, IndexFault>
+    requires { edges < 2 ^ 31 }
+    ensures ok { IfOk result (λ floors. AreRows (alone (floor_row edges)) count floors.items cursor.old cursor.new) }
+    ensures err { IfErr result (IsRowsStop (alone (floor_row edges)) count cursor.old) }
+{
+    let mut floors = Vec::new(alloc);
+    for _row in 0..count {
+        let floor = next_floor(cursor, edges)?;
+        keep(&mut floors, floor)?;
+    }
+    Ok(floors)
+}
+
+// The roots of the versions.
+pub(crate) fn read_roots(
+    alloc: Global,
+    cursor: &mut Cursor<'_>,
+    bound: u32,
+    count: u32,
+) -> Result<Vec<u32>, IndexFault>
+    ensures ok { IfOk result (λ roots. AreRows (alone (number_row bound)) count roots.items cursor.old cursor.new) }
+    ensures err { IfErr result (IsRowsStop (alone (number_row bound)) count cursor.old) }
+{
+    let mut roots = Vec::new(alloc);
+    for _row in 0..count {
+        let root = cursor.number(bound)?;
+        keep(&mut roots, root)?;
+    }
+    Ok(roots)
+}

@@ -1,0 +1,173 @@
+// An index file that was read, and the reader.
+
+ghost use Rattle.std.specs.Prelude.{◌≡◌, ◌≤◌, ◌<◌, ◌^◌, length, map, IfOk, IfErr};
+ghost use Rattle.loc_spec_index.specs.Content.{table_in, cover_numbers, root_of};
+ghost use Rattle.loc_spec_index.specs.IndexFile.{IsFileOf, bytes_of};
+ghost use Rattle.loc_spec_index.specs.Nodes.{row_of};
+ghost use Rattle.loc_cover.specs.Legends.{FitsTable};
+ghost use Rattle.loc_file.specs.declared.edges.EdgeOf.{EdgeOf as Edge};
+ghost use Rattle.loc_file.specs.Contents.{content_in};
+ghost use Rattle.loc_file.specs.Refused.{IsRefused};
+ghost use Rattle.loc_file.specs.Searches.{IsNodeIn};
+
+use crate::cursor::Cursor;
+use crate::edges::EdgeOf;
+use crate::parts::{Parts, read_parts};
+use loc_cover::Legend;
+use loc_edges::EdgeTable;
+use loc_spec_index::{IndexFault, NodeRow};
+use std::alloc::{AllocError, Global};
+use std::marker::Model;
+
+// How a file of the second version begins.
+const SECOND: &[u8] = b"LOCINDEX\x00\x00\x00\x02";
+
+// How many bytes may be left behind the last part.
+const MOST_LEFT: u64 = 0;
+
+/// What an index file holds. Nothing is said of it but that its bytes were a file: its table, its legend and its nodes may be those of no
+/// layer.
+#[derive(Drop)]
+pub struct Held {
+    scale: u8,
+    table: EdgeTable,
+    legend: Legend,
+    roots: Vec<u32>,
+    nodes: Vec<NodeRow>,
+}
+
+impl Model for Held {
+    ghost use Rattle.loc_spec_index.specs.Content.{Content};
+    ghost use Rattle.loc_file.specs.Keeping.{content_of, IsHeld};
+
+    ghost Value = { Content };
+
+    ghost view = { λ h. content_of h.scale h.table h.legend h.roots.items h.nodes.items };
+
+    ghost invariant = { λ h. IsHeld (content_of h.scale h.table h.legend h.roots.items h.nodes.items) h.table h.legend };
+}
+
+// The ends of edges.
+fn ends_of(alloc: Global, edges: &[EdgeOf]) -> Result<Vec<(u32, u32)>, AllocError>
+    ensures { IfOk result (λ ends. ends.items ≡ map (λ (e : Edge). e.ends) edges.now) }
+{
+    edges.iter().map(|edge| edge.ends).collect(alloc)
+}
+
+// The numbers of the cover lists of edges.
+fn covers_of(alloc: Global, edges: &[EdgeOf]) -> Result<Vec<u32>, AllocError>
+    ensures { IfOk result (λ covers. covers.items ≡ map (λ (e : Edge). e.cover) edges.now) }
+{
+    edges.iter().map(|edge| edge.cover).collect(alloc)
+}
+
+// The parts of a file, held.
+fn hold(alloc: Global, parts: Parts) -> Result<Held, AllocError>
+    requires { IsFileOf 1 (content_in parts) (bytes_of 1 (content_in parts)) }
+    ensures { IfOk result (λ held. held ≡ content_in parts) }
+{
+    let Parts {
+        scale,
+        ids,
+        corners,
+        edges,
+        marks,
+        covers,
+        floors,
+        roots,
+        nodes,
+    } = parts;
+    let ends = ends_of(alloc, edges.as_slice())?;
+    let cover_of = covers_of(alloc, edges.as_slice())?;
+    let table = EdgeTable::of_parts(alloc, corners, ends, marks)?;
+    let legend = Legend::of_parts(alloc, &table, ids, covers, cover_of, floors)?;
+    Ok(Held {
+        scale: scale as u8,
+        table,
+        legend,
+        roots,
+        nodes,
+    })
+}
+
+/// Reads the bytes of an index file. What is held is the one content whose bytes they are; bytes that are no file of the first version are
+/// refused by their first fault. Memory is taken only for what the bytes were seen to hold.
+pub fn read_index(alloc: Global, bytes: &[u8]) -> Result<Held, IndexFault>
+    requires { length bytes.now ≤ 2 ^ 31 }
+    ensures ok { IfOk result (λ held. IsFileOf 1 held bytes.now) }
+    ensures err { IfErr result (IsRefused bytes.now) }
+{
+    if bytes.starts_with(SECOND) {
+        return Err(IndexFault::Version { found: 2 });
+    }
+    let mut cursor = Cursor::new(bytes);
+    let parts = read_parts(alloc, &mut cursor)?;
+    let rest = cursor.len();
+    if rest > MOST_LEFT {
+        return Err(IndexFault::Long { rest });
+    }
+    match hold(alloc, parts) {
+        Ok(held) => Ok(held),
+        Err(_) => Err(IndexFault::NoMemory),
+    }
+}
+
+impl Held {
+    /// What is true of all that is held, as a call that does no work: it is the content of a file.
+    pub fn law(&self)
+        ensures { IsFileOf 1 self.now (bytes_of 1 self.now) }
+    {
+        let _scale = self.scale;
+    }
+
+    /// The corners, edges and marks.
+    pub fn table(&self) -> &EdgeTable
+        ensures { result.now ≡ table_in self.now }
+    {
+        &self.table
+    }
+
+    /// The ids, the cover lists and the floors; the features that touch corners and edges are those of the marks.
+    pub fn legend(&self) -> &Legend
+        ensures ids { result.now.ids ≡ self.now.ids }
+        ensures covers { result.now.lists ≡ self.now.covers }
+        ensures cover_of { result.now.above ≡ cover_numbers self.now }
+        ensures floors { result.now.floors ≡ self.now.floors }
+        ensures fits { FitsTable (table_in self.now) result.now }
+    {
+        &self.legend
+    }
+
+    /// How many decimals a coordinate may have.
+    pub fn scale(&self) -> u8
+        ensures value { result ≡ self.now.scale }
+        ensures within { result ≤ 15 }
+    {
+        self.scale
+    }
+
+    /// How many nodes there are.
+    pub fn nodes(&self) -> u32
+        ensures { result ≡ length self.now.nodes }
+    {
+        self.nodes.len() as u32
+    }
+
+    /// The root of a version, or 0 where it has none.
+    pub fn root(&self, version: u32) -> u32
+        requires { version < length self.now.corners }
+        ensures value { result ≡ root_of self.now version }
+        ensures within { result ≤ length self.now.nodes }
+    {
+        self.roots[version as usize]
+    }
+
+    /// The row of the node with this number, which counts from 1.
+    pub fn row(&self, number: u32) -> NodeRow
+        requires { (1 ≤ number) × (number ≤ length self.now.nodes) }
+        ensures value { result ≡ row_of self.now.nodes number }
+        ensures within { IsNodeIn (length self.now.edges) (length self.now.nodes) result }
+    {
+        self.nodes[number as usize - 1]
+    }
+}

@@ -1,0 +1,23 @@
+//! The index as a file: its bytes are read as exactly the content that they hold, or refused by their first fault, and what was read is
+//! asked for the places of points. Nobody has to trust the bytes.
+#![tactic(auto)]
+
+mod corners;
+mod covers;
+mod cursor;
+mod edges;
+mod floors;
+mod header;
+mod held;
+mod ids;
+pub mod laws;
+mod marks;
+mod nodes;
+mod parts;
+mod rows;
+mod search;
+#[cfg(test)]
+mod tests;
+
+pub use held::{Held, read_index};
+pub use loc_spec_index::{IndexFault, NodeRow, Part};

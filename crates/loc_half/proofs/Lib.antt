@@ -1,0 +1,9 @@
+pub mod Corners
+pub mod Going
+pub mod Halves
+pub mod Linked
+pub mod Marking
+pub mod Orbits
+pub mod Permuting
+pub mod Trails
+pub mod Turning

@@ -1,0 +1,3 @@
+pub mod HalfEdgeLists
+pub mod Rounds
+pub mod Turns

@@ -1,0 +1,60 @@
+-- What asking an index file answers, in the words of its user: `Asks`.
+use Rattle.std.specs.Prelude.{◌≡◌, ◌⊎◌, ℕ, ◌<◌, ◌≤◌, List, length, map, Some, None, Ok, Err, codes, false}
+use Rattle.std.specs.Io.KnownBytes.{Appends}
+use Rattle.std.specs.List.{flat_map}
+use Rattle.loc_io.specs.Streams.{Stream}
+use Rattle.loc_io.specs.Meaning.{holds}
+use Rattle.loc_spec_text.specs.Answered.{answered}
+use Rattle.loc_spec_text.specs.Bytes.{lines}
+use Rattle.loc_spec_text.specs.Points.{ended}
+use Rattle.loc_spec_index.specs.declared.IndexFault.{IndexFault}
+use Rattle.loc_spec_index.specs.Content.{Content}
+use Rattle.loc_spec_index.specs.IndexFile.{IsFileOf}
+use Rattle.loc_spec_index.specs.TrueIndex.{IsIndexOf, IsTrueIndex}
+use Rattle.loc_laws_index.specs.IndexReading.{AreBytes, reading}
+use Rattle.loc_rings.specs.Values.{Feature, rings_of}
+use Rattle.loc_course.specs.Courses.{Text}
+use Rattle.loc_course.specs.Moments.{Moment}
+use Rattle.loc_course.specs.Sentences.{Steady, Wrote}
+use Rattle.loc_course.specs.Streams.{out_of}
+use Rattle.loc_maps.specs.MapCourses.{limit}
+use Rattle.loc_query.specs.Answered.{output_of}
+use Rattle.loc_indexed.specs.IndexedCourses.{answer_in, index_limit}
+use Rattle.loc_indexed.specs.IndexTexts.{index_fault_text}
+use Rattle.loc_indexed.specs.Marked.{marked_line}
+
+-- The files are told, and within their limits, and no read and no write failed.
+pub record AreAsked (index points : Text) (old new : Moment) (bytes text : Text) : Type 0 where
+  pub index_told : old.shelf.told index ≡ holds bytes
+  pub points_told : old.shelf.told points ≡ holds text
+  pub index_short : length bytes ≤ index_limit
+  pub points_short : length text ≤ limit
+  pub reads : Steady old.shelf.read_faults new.shelf.read_faults
+  pub out : Steady old.out.faults new.out.faults
+
+-- An answer may want memory: the status is 5 then, and nothing is on out.
+abbrev pub OrMemory : Moment → Moment → ℕ → Type 0 → Type 0
+OrMemory old new status Else = Else ⊎ ((status ≡ 5) × (new.out.written ≡ old.out.written))
+
+-- done, and out has grown by these answers
+abbrev pub IsDone : Moment → Moment → ℕ → Text → Type 0
+IsDone old new status answer = (status ≡ 0) × Appends old.out.written new.out.written answer
+
+pub record Asks (index points : Text) (old new : Moment) (n n' : Stream) (status : ℕ) : Type 0 where
+  -- Where the bytes are an index file of any content and the search of no point is given up, each line is answered by the search and the rows of the content.
+  pub answers : (bytes text : Text) (c : Content) → AreAsked index points old new bytes text → reading bytes ≡ Ok c → (answered (answer_in c) (lines text)).refusal ≡ None
+      → OrMemory old new status (IsDone old new status (out_of (answered (answer_in c) (lines text))))
+  -- Where a search is given up, the lines before it are answered, and the line on notes names the version.
+  pub gives_up : (bytes text line : Text) (c : Content) → AreAsked index points old new bytes text → reading bytes ≡ Ok c → (answered (answer_in c) (lines text)).refusal ≡ Some line
+      → OrMemory old new status ((status ≡ 1) × Appends old.out.written new.out.written (out_of (answered (answer_in c) (lines text))) × Wrote n n' line)
+  -- The answers of a true index file are those by its marks,
+  pub of_true : (bytes text : Text) (c : Content) → AreAsked index points old new bytes text → AreBytes bytes → IsFileOf 1 c bytes → IsTrueIndex c
+      → OrMemory old new status (IsDone old new status (flat_map (marked_line c) (lines text)))
+  -- and where it is of a layer, those of a query of the layer.
+  pub of_layer : (bytes text : Text) (c : Content) (scale : ℕ) (layer : List Feature) → AreAsked index points old new bytes text → AreBytes bytes → IsFileOf 1 c bytes → IsTrueIndex c
+      → IsIndexOf scale (map (λ (f : Feature). f.id) layer) (map rings_of layer) c → OrMemory old new status (IsDone old new status (output_of false scale layer text))
+  -- Bytes that are too long or at fault are refused, and nothing is on out.
+  pub too_long : (bytes : Text) → old.shelf.told index ≡ holds bytes → index_limit < length bytes → Steady old.shelf.read_faults new.shelf.read_faults
+      → OrMemory old new status ((status ≡ 1) × (new.out.written ≡ old.out.written) × Wrote n n' (ended (codes "index: too long")))
+  pub at_fault : (bytes : Text) (fault : IndexFault) → old.shelf.told index ≡ holds bytes → length bytes ≤ index_limit → reading bytes ≡ Err fault → Steady old.shelf.read_faults new.shelf.read_faults
+      → OrMemory old new status ((status ≡ 1) × (new.out.written ≡ old.out.written) × Wrote n n' (ended (index_fault_text fault)))

@@ -1,0 +1,68 @@
+-- The courses of commands on an index file. The words:
+--   index_limit     the most bytes of an index file
+--   features_where  the marked features that pass a test
+--   rows_in         what answers are made of, as a content has it
+--   answer_in       what is answered to a line by the search of a content and by its rows
+--   index_in, index_course  bytes are read as an index, and a file is
+--   asked_course    the lines of a file are answered from a content
+--   ask_course      an index file is asked for the points of another
+use Rattle.std.specs.Prelude.{ℕ, Bool, List, map, filter, Result, Ok, Err, codes}
+use Rattle.loc_spec_plane.specs.Covers.{feature_count, has_at}
+use Rattle.loc_spec_plane.specs.Lists.{numbers}
+use Rattle.loc_spec_plane.specs.Tables.{Table, corner_numbers, edge_numbers, has}
+use Rattle.loc_spec_text.specs.Points.{ended}
+use Rattle.loc_spec_index.specs.declared.IndexFault.{IndexFault}
+use Rattle.loc_spec_index.specs.Content.{Content, cover_numbers, search_in, table_in}
+use Rattle.loc_laws_index.specs.IndexReading.{reading}
+use Rattle.loc_cover.specs.Legends.{LegendRows}
+use Rattle.loc_file.specs.Depths.{most_of}
+use Rattle.loc_file.specs.Searches.{answer_of}
+use Rattle.loc_batch.specs.Answering.{answer_by}
+use Rattle.loc_batch.specs.Faces.{unnumbered}
+use Rattle.loc_answering.specs.ByLine.{by_line}
+use Rattle.loc_course.specs.Courses.{Text, Course, answers, reads, refuses}
+use Rattle.loc_course.specs.Outcomes.{exactly}
+use Rattle.loc_course.specs.Stops.{source}
+use Rattle.loc_course.specs.Streams.{Answering}
+use Rattle.loc_maps.specs.MapCourses.{limit}
+use Rattle.loc_indexed.specs.IndexTexts.{index_fault_text}
+
+-- the most bytes of an index file
+abbrev pub index_limit : ℕ
+index_limit = 2147483648
+
+-- the features that are marked and pass a test, in order
+abbrev pub features_where : Table → (ℕ → Bool) → List ℕ
+features_where t test = filter test (numbers (feature_count t))
+
+-- What answers are made of: the features that touch a corner or an edge are those of the marks; all else is as the file has it.
+unfoldable pub rows_in : Content → LegendRows
+rows_in c = record {
+  ids = c.ids;
+  on_corner = map (λ n. features_where (table_in c) (has_at (table_in c) n)) (corner_numbers (table_in c));
+  on_edge = map (λ e. features_where (table_in c) (λ f. has (table_in c) f e)) (edge_numbers (table_in c));
+  lists = c.covers;
+  above = cover_numbers c;
+  floors = c.floors;
+}
+
+-- what is answered to a line: by what the search of its point finds, and by the file's own rows; or that the search was given up
+abbrev pub answer_in : Content → Answering
+answer_in c = by_line (answer_by c.scale (λ p. answer_of (search_in c p)) unnumbered (rows_in c))
+
+-- bytes are read as an index, or refused by the line of their first fault
+abbrev pub index_in : Result Content IndexFault → (Content → Course) → Course
+index_in (Ok c) next = next c
+index_in (Err fault) next = refuses (exactly (ended (index_fault_text fault)))
+
+-- an index file is read
+abbrev pub index_course : Text → (Content → Course) → Course
+index_course index next = reads (source index index_limit (ended (codes "index: too long"))) (λ bytes. index_in (reading bytes) next)
+
+-- the points' file is read in pieces, and its lines are answered from an index
+abbrev pub asked_course : Text → Content → Course
+asked_course points c = answers (source points limit (ended (codes "points: too long"))) (most_of c (table_in c)) (answer_in c)
+
+-- an index file is asked for the points of another
+abbrev pub ask_course : Text → Text → Course
+ask_course index points = index_course index (asked_course points)

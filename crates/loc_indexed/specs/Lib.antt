@@ -1,0 +1,4 @@
+pub mod Asks
+pub mod IndexedCourses
+pub mod IndexTexts
+pub mod Marked

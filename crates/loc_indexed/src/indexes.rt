@@ -1,0 +1,39 @@
+//! The index file.
+
+ghost use Rattle.std.specs.Prelude.{◌≤◌, length, ℕ};
+ghost use Rattle.loc_io.specs.Meaning.{Meaning};
+ghost use Rattle.loc_io.specs.Streams.{Stream};
+ghost use Rattle.loc_spec_index.specs.Content.{Content};
+ghost use Rattle.loc_laws_index.specs.IndexReading.{reading};
+ghost use Rattle.loc_course.specs.Courses.{Course};
+ghost use Rattle.loc_course.specs.Following.{Moment, moment};
+ghost use Rattle.loc_course.specs.Stops.{GoesOn};
+ghost use Rattle.loc_indexed.specs.IndexedCourses.{index_course, index_in, index_limit};
+
+use crate::lines::index_stop_of;
+use loc_course::{Stop, read_source};
+use loc_file::{Held, read_index};
+use loc_io::Shelf;
+use std::alloc::Global;
+
+// The most bytes of an index file.
+const LIMIT: usize = 2_147_483_648;
+
+// What bytes hold.
+fn read_index_in(alloc: Global, bytes: &[u8]) -> Result<Held, Stop>
+    requires { length bytes.now ≤ index_limit }
+    ensures { (next : Content → Course) (m : Moment) → GoesOn (index_in (reading bytes.now) next) m next m result }
+{
+    match read_index(alloc, bytes) {
+        Ok(held) => Ok(held),
+        Err(fault) => Err(index_stop_of(fault)),
+    }
+}
+
+/// Reads an index file. Its bytes are given back when they were read.
+pub fn read_index_file<F: Shelf>(alloc: Global, shelf: &mut F, name: &str) -> Result<Held, Stop>
+    ensures { (next : Content → Course) (o : Stream) (k : ℕ) → GoesOn (index_course name.now next) (moment (F.meaning shelf.old) o k) next (moment (F.meaning shelf.new) o k) result }
+{
+    let bytes = read_source(alloc, shelf, name, LIMIT, b"index: too long")?;
+    read_index_in(alloc, &bytes)
+}

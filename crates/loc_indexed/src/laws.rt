@@ -1,0 +1,33 @@
+//! What asking an index file comes to.
+
+ghost use Rattle.std.specs.Prelude.{◌≡◌, ◌⊎◌, ◌<◌, ◌≤◌, Err, List, Ok, codes, false, length, map, ℕ};
+ghost use Rattle.loc_io.specs.Meaning.{Told, holds};
+ghost use Rattle.loc_spec_plane.specs.declared.Index.TheVariants as by;
+ghost use Rattle.loc_spec_text.specs.Points.{ended};
+ghost use Rattle.loc_spec_index.specs.declared.IndexFault.{IndexFault as Fault};
+ghost use Rattle.loc_spec_index.specs.Content.{Content};
+ghost use Rattle.loc_spec_index.specs.IndexFile.{IsFileOf};
+ghost use Rattle.loc_spec_index.specs.TrueIndex.{IsIndexOf, IsTrueIndex};
+ghost use Rattle.loc_laws_index.specs.IndexReading.{AreBytes, reading};
+ghost use Rattle.loc_rings.specs.Values.{Feature, rings_of};
+ghost use Rattle.loc_answering.specs.ByLine.{deep_text};
+ghost use Rattle.loc_course.specs.Courses.{Text};
+ghost use Rattle.loc_course.specs.Outcomes.{exactly, outcome, refusal};
+ghost use Rattle.loc_course.specs.Sentences.{MakesNone, MayRefuseBehind};
+ghost use Rattle.loc_query.specs.QueryCourses.{points_course};
+ghost use Rattle.loc_indexed.specs.IndexedCourses.{ask_course, asked_course, index_limit};
+ghost use Rattle.loc_indexed.specs.IndexTexts.{index_fault_text};
+ghost use Rattle.loc_indexed.specs.Marked.{marked_course};
+
+/// An index file that is too long or at fault is refused by its line, and any other is asked: a true one as its marks say, and the index of a
+/// layer as a query of the layer with the tree. No file is made. The call does nothing: its contract is the law.
+pub fn ask_law()
+    ensures too_long { (told : Text → Told) (index points bytes : Text) → told index ≡ holds bytes → index_limit < length bytes → outcome told (ask_course index points) ≡ refusal (exactly (ended (codes "index: too long"))) }
+    ensures at_fault { (told : Text → Told) (index points bytes : Text) (fault : Fault) → told index ≡ holds bytes → length bytes ≤ index_limit → reading bytes ≡ Err fault → outcome told (ask_course index points) ≡ refusal (exactly (ended (index_fault_text fault))) }
+    ensures asked { (told : Text → Told) (index points bytes : Text) (c : Content) → told index ≡ holds bytes → length bytes ≤ index_limit → reading bytes ≡ Ok c → outcome told (ask_course index points) ≡ outcome told (asked_course points c) }
+    ensures reads { (bytes : Text) (c : Content) → AreBytes bytes → IsFileOf 1 c bytes → reading bytes ≡ Ok c }
+    ensures of_true { (points bytes : Text) (c : Content) → IsFileOf 1 c bytes → IsTrueIndex c → asked_course points c ≡ marked_course points c }
+    ensures of_layer { (points : Text) (scale : ℕ) (layer : List Feature) (c : Content) → IsIndexOf scale (map (λ (f : Feature). f.id) layer) (map rings_of layer) c → marked_course points c ≡ points_course by.Tree false scale points layer }
+    ensures makes_none { (index points : Text) → MakesNone (ask_course index points) }
+    ensures refuses_behind { (index points line : Text) → MayRefuseBehind (ask_course index points) line → (line ≡ ended (codes "points: too long")) ⊎ ((version : ℕ) × (line ≡ deep_text version)) }
+{}

@@ -1,0 +1,29 @@
+-- Digits of a line.
+use Rattle.std.proofs.Common.{◌≡◌, ℕ, zero, suc, ◌+◌, ◌*◌, ◌-◌, ◌<◌, min, Bool, true, cond, List, [], ◌∷◌, take, length, get_or, refl, sym, ◌∙◌, ap, subst, inl, inr, arith}
+use Rattle.std.specs.Char.{is_ascii_digit, digit_value}
+use Rattle.std.specs.List.{list_all, take_while, prefix_len}
+use Rattle.std.proofs.lemmas.Bool.Decides.{nat_tests}
+use Rattle.std.proofs.lemmas.Bool.{cases_Bool, and_parts, and_from}
+
+-- what is taken from the front while a test holds passes it
+pub all_taken : (p : ℕ → Bool) (xs : List ℕ) → list_all p (take_while p xs) ≡ true
+all_taken p [] = refl
+all_taken p (x ∷ xs) = elim (cases_Bool (p x)) [
+  | inl passes ↦ (let one : 1 + prefix_len p xs ≡ suc (prefix_len p xs) = omega arith in
+      subst (λ (ys : List ℕ). list_all p ys ≡ true) (sym (ap (λ b. take (cond b (1 + prefix_len p xs) 0) (x ∷ xs)) passes ∙ ap (λ n. take n (x ∷ xs)) one)) (and_from (p x) (list_all p (take_while p xs)) passes (all_taken p xs)))
+  | inr off ↦ subst (λ (ys : List ℕ). list_all p ys ≡ true) (sym (ap (λ b. take (cond b (1 + prefix_len p xs) 0) (x ∷ xs)) off)) refl
+]
+
+-- the value of a digit
+pub digit_is : (x : ℕ) → is_ascii_digit x ≡ true → digit_value x ≡ x - 48
+digit_is x h = grind (arith, nat_tests)
+
+-- each member passes
+pub member_passes : (p : ℕ → Bool) (xs : List ℕ) (i : ℕ) → i < length xs → list_all p xs ≡ true → p (get_or xs i 0) ≡ true
+member_passes p [] i less h = absurd (omega arith)
+member_passes p (x ∷ xs) zero less h = (and_parts (p x) (list_all p xs) h).0
+member_passes p (x ∷ xs) (suc i) less h = member_passes p xs i (omega arith) (and_parts (p x) (list_all p xs) h).1
+
+-- the cap holds at each step
+pub cap_more : (value digits digit cap : ℕ) → value ≡ min digits cap → min (value * 10 + digit) cap ≡ min (digits * 10 + digit) cap
+cap_more value digits digit cap is = omega arith

@@ -1,0 +1,19 @@
+use Rattle.std.proofs.Common.{◌≡◌, ℕ, ◌+◌, ◌≤◌, ◌<◌, ◌^◌, length, get_or}
+use Rattle.loc_trapdag.specs.Orders.{rows_from}
+use Rattle.loc_trapdag.proofs.Readings.{IsRead}
+use Rattle.loc_trapdag.proofs.reading.read_order.Given as goal
+
+-- the rows so far are read
+abbrev pub invariant-loop-line : goal.invariant-loop-line
+invariant-loop-line l = record {
+  read : IsRead l.edges (rows_from 1 l.text) (rows_from (l.number + 1) l.rest) l.line_of.items l.order.items;
+  lines : l.number + length l.rest ≤ length l.text;
+  small : length l.text ≤ 2 ^ 28;
+}
+
+abbrev pub decreases-loop-line : goal.decreases-loop-line
+decreases-loop-line l = length l.rest
+
+-- the edges so far have lines
+abbrev pub invariant-loop-edge : goal.invariant-loop-edge
+invariant-loop-edge l = (e : ℕ) → e < l.edge → get_or l.line_of.items e 0 ≡ 0 → ⊥

@@ -1,0 +1,92 @@
+-- Rows that are live no longer, and lists that grow.
+use Rattle.std.proofs.Common.{◌≡◌, ◌≢◌, ℕ, zero, suc, ◌+◌, ◌-◌, ◌<◌, ◌≤◌, Bool, true, false, not, ◌&&◌, ◌||◌, cond, List, [], ◌∷◌, ◌++◌, length, set, take, replicate, get_or, get_or-set_other, get_or-set_same, refl, sym, ◌∙◌, ap, subst, ◌⊎◌, inl, inr, arith}
+use Rattle.std.specs.Prelude.{Option, None, if◌then◌else◌, ◌==◌}
+use Rattle.std.proofs.lemmas.Bool.{cases_lt, cases_eq, eq-eqb, ne_eqb}
+use Rattle.std.proofs.lemmas.List.{take_more, take_all, get_or_past}
+use Rattle.std.proofs.lemmas.List.Sums.{sum_by-set}
+use Rattle.std.proofs.Math.ListN.{get_or-append}
+use Rattle.std.proofs.Math.Seq.{get_or-append_right}
+use Rattle.std.proofs.lemmas.List.Folds.{list_any-append}
+use Rattle.loc_spec_plane.specs.declared.Trap.{Trap}
+use Rattle.loc_laws_traps.specs.Maps.{Renames}
+use Rattle.loc_traps.specs.declared.map.Split.{Split}
+use Rattle.loc_traps.specs.Meaning.{live_of, live_count, named_of}
+use Rattle.loc_traps.specs.Splits.{split_of, is_cut_by}
+
+-- a row counts as one where it is live
+abbrev one_of : Bool → ℕ
+one_of b = cond b 1 0
+
+-- one live row less
+pub count_less : (xs : List Bool) (i : ℕ) → i < length xs → live_of xs i ≡ true → live_count (set xs i false) + 1 ≡ live_count xs
+count_less xs i real h =
+    let change = sum_by-set one_of xs i false false real in
+    let was : one_of (live_of xs i) ≡ one_of true = ap one_of h in
+    omega (arith, change, was)
+
+-- a test that also asks for one number less
+and_not_or : (a b c : Bool) → (a && not (b || c)) ≡ ((a && not b) && not c)
+and_not_or true true c = refl
+and_not_or true false c = refl
+and_not_or false b c = refl
+
+and_true : (a : Bool) → (a && true) ≡ a
+and_true true = refl
+and_true false = refl
+
+and_false : (a : Bool) → (a && false) ≡ false
+and_false true = refl
+and_false false = refl
+
+or_false : (a : Bool) → (a || false) ≡ a
+or_false true = refl
+or_false false = refl
+
+module _ (old : List Bool) (splits : List Split) (j : ℕ) (less : j < length splits) where
+  abbrev cut : ℕ
+  cut = (split_of splits j).cut
+
+  more_cut : (i : ℕ) → is_cut_by (take (j + 1) splits) i ≡ (is_cut_by (take j splits) i || (cut == i))
+  more_cut i =
+      ap (λ (s : List Split). is_cut_by s i) (take_more splits j (record { cut = 0; before = None; above = 0; below = 0; behind = None }) less)
+      ∙ (list_any-append (λ (s : Split). s.cut == i) (take j splits) (split_of splits j ∷ []) ∙ ap (λ b. is_cut_by (take j splits) i || b) (or_false (cut == i)))
+
+  pub bury_more : (now : List Bool) → cut < length now → ((i : ℕ) → live_of now i ≡ (live_of old i && not (is_cut_by (take j splits) i))) → (i : ℕ) → live_of (set now cut false) i ≡ (live_of old i && not (is_cut_by (take (j + 1) splits) i))
+  bury_more now real so_far i =
+      at_row i ∙ sym (ap (λ b. live_of old i && not b) (more_cut i) ∙ and_not_or (live_of old i) (is_cut_by (take j splits) i) (cut == i))
+    where
+      at_row : (i : ℕ) → live_of (set now cut false) i ≡ ((live_of old i && not (is_cut_by (take j splits) i)) && not (cut == i))
+      at_row i = elim (cases_eq cut i) [
+        | inl same ↦ subst (λ k. get_or (set now cut false) k false ≡ ((live_of old i && not (is_cut_by (take j splits) i)) && not (cut == i))) same
+            (get_or-set_same now cut false false real ∙ sym (ap (λ b. (live_of old i && not (is_cut_by (take j splits) i)) && not b) (eq-eqb cut i same) ∙ and_false (live_of old i && not (is_cut_by (take j splits) i))))
+        | inr other ↦ (let off : i ≢ cut = λ same. other (sym same) in
+            rw get_or-set_other (so_far i ∙ sym (ap (λ b. (live_of old i && not (is_cut_by (take j splits) i)) && not b) (ne_eqb cut i other) ∙ and_true (live_of old i && not (is_cut_by (take j splits) i)))))
+      ]
+
+-- the row of a split is not among those of the splits before it
+pub not_before : (splits : List Split) (j : ℕ) → j ≤ length splits → (i : ℕ) → ((k : ℕ) → k < j → (split_of splits k).cut ≡ i → ⊥) → is_cut_by (take j splits) i ≡ false
+not_before splits zero le i off = refl
+not_before [] (suc j) le i off = refl
+not_before (s ∷ splits) (suc j) le i off = elim (cases_eq s.cut i) [
+  | inl same ↦ absurd (off 0 (omega arith) same)
+  | inr other ↦ rw (ne_eqb s.cut i other) (not_before splits j (omega arith) i (λ k less same. off (suc k) (omega arith) same))
+]
+
+-- a list without names has no name
+none_in : (m k : ℕ) → named_of (replicate m None) k ≡ None
+none_in zero k = refl
+none_in (suc m) zero = refl
+none_in (suc m) (suc k) = none_in m k
+
+-- a list of names that has grown has the same names
+pub grown : (is_grown : Bool) (names : List (Option ℕ)) (n many : ℕ) → many ≡ length names → many ≤ n → (c : ℕ) → named_of (if is_grown then take n names ++ replicate (n - many) None else names) c ≡ named_of names c
+grown false names n many same le c = refl
+grown true names n many same le c = subst (λ xs. get_or (xs ++ replicate (n - many) None) c None ≡ get_or names c None) (sym (take_all n names (omega arith))) (at (cases_lt c (length names)))
+  where
+    at : (c < length names) ⊎ (length names ≤ c) → get_or (names ++ replicate (n - many) None) c None ≡ get_or names c None
+    at (inl less) = get_or-append names (replicate (n - many) None) None c less
+    at (inr past) = get_or-append_right names (replicate (n - many) None) c None past ∙ (none_in (n - many) (c - length names) ∙ sym (get_or_past names c None past))
+
+-- names from the same names
+pub renames_from : (n m : ℕ) (row : ℕ → Trap) (kind : ℕ → Trap → Bool) (named same renamed : ℕ → Option ℕ) → ((c : ℕ) → same c ≡ named c) → Renames n m row kind same renamed → Renames n m row kind named renamed
+renames_from n m row kind named same renamed is_same r = record { fresh = r.fresh; stay = λ c off. r.stay c off ∙ is_same c }

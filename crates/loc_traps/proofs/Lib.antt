@@ -1,0 +1,12 @@
+pub mod Starts
+pub mod Walking
+pub mod Ending
+pub mod Going
+pub mod Naming
+pub mod Numbering
+pub mod Burying
+pub mod Rows
+pub mod Joining
+pub mod Added
+pub mod Coded
+pub mod Started

@@ -1,0 +1,4 @@
+pub mod Meaning
+pub mod Names
+pub mod Splits
+pub mod Walks

@@ -1,0 +1,184 @@
+-- A number in decimal, as it is read: digits, which are one piece of a text, and the number itself.
+use Rattle.std.proofs.Common.{◌≡◌, ℕ, ◌*◌, ◌^◌, ◌<◌, ◌≤◌, ◌||◌, ◌&&◌, Bool, true, false, not, List, [], ◌∷◌, ◌++◌, length, take_all, drop_of_length-le, append-nil, refl, ◌∙◌, ap, ap₂, arith, one-add, take_while, nat_le}
+use Rattle.std.specs.Prelude.{◌==◌, codes, pos, if◌then◌else◌}
+use Rattle.std.specs.Char.{is_ascii_digit, is_ascii_alphabetic}
+use Rattle.std.specs.Fmt.{decimal}
+use Rattle.std.specs.Int.{IsInRange}
+use Rattle.std.specs.List.{list_all, list_any, before_first, after_first, position_or_len}
+use Rattle.std.specs.Str.Parse.{digits_value}
+use Rattle.std.proofs.lemmas.Bool.{and_parts, ne_eqb, leb-true, le-leb, lt-leb}
+use Rattle.std.proofs.lemmas.Fmt.{decimal_is_IsNumeral}
+use Rattle.std.proofs.lemmas.Str.Parse.{IsDigitsTest, numerals_by_value}
+use Rattle.loc_spec_text.specs.Bytes.{drop_while}
+use Rattle.loc_spec_text.specs.Geometry.{number, pieces, piece_of, ends_piece}
+use Rattle.loc_spec_text.specs.Number.{are_digits, exponent, fraction_digits, grid_value, has_exponent, is_exponent_mark, is_in_range as is_within, is_negative, is_number, is_on_grid, is_point, lowered, magnitude, raised, significand, unsigned, whole_digits}
+use Rattle.loc_spec_text.proofs.NumberLaws.{on_grid}
+use Rattle.loc_spec_text.proofs.PieceLaws.{drop_while-no, drop_while-yes, is_plain, pieces-longest}
+use Rattle.loc_wkt.proofs.PieceLemmas.{not_that}
+
+digit_bounds : (c : ℕ) → is_ascii_digit c ≡ true → IsInRange 48 57 c
+digit_bounds c h = let two = and_parts (nat_le 48 c) (nat_le c 57) h in (leb-true 48 c two.0, leb-true c 57 two.1)
+
+digit_within : (c : ℕ) → IsInRange 48 57 c → is_ascii_digit c ≡ true
+digit_within c h = let low = le-leb 48 c h.0 in let high = le-leb c 57 h.1 in simp (low, high)
+
+ascii_digits : IsDigitsTest (λ ds. list_all is_ascii_digit ds ≡ true)
+ascii_digits = record {
+  empty = refl;
+  parts = λ c cs h. let two = and_parts (is_ascii_digit c) (list_all is_ascii_digit cs) h in (digit_bounds c two.0, two.1);
+  more = λ c cs r h. let here = digit_within c r in simp (here, h);
+}
+
+-- the decimal of a number is digits, one at least
+pub decimal_digits : (n : ℕ) → n < 2 ^ 64 → list_all is_ascii_digit (decimal n) ≡ true
+decimal_digits n small = (numerals_by_value (λ ds. list_all is_ascii_digit ds ≡ true) ascii_digits).from (decimal n) (decimal_is_IsNumeral n small).0.1
+
+pub decimal_some : (n : ℕ) → n < 2 ^ 64 → 0 < length (decimal n)
+decimal_some n small = (decimal_is_IsNumeral n small).0.0
+
+decimal_value : (n : ℕ) → n < 2 ^ 64 → digits_value 10 (decimal n) ≡ n
+decimal_value n small = (decimal_is_IsNumeral n small).1
+
+-- what a digit is not
+not_byte : (c k : ℕ) → is_ascii_digit c ≡ true → (IsInRange 48 57 k → ⊥) → (c == k) ≡ false
+not_byte c k h other = ne_eqb c k (λ e. other (rw e at (digit_bounds c h)))
+
+plain_digit : (c : ℕ) → is_ascii_digit c ≡ true → is_plain c ≡ true
+plain_digit c h =
+    let r = digit_bounds c h in
+    let a : (c == 32) ≡ false = ne_eqb c 32 (λ e. omega (arith, r.0, e)) in
+    let b : (c == 9) ≡ false = ne_eqb c 9 (λ e. omega (arith, r.0, e)) in
+    let d : (c == 13) ≡ false = ne_eqb c 13 (λ e. omega (arith, r.0, e)) in
+    let f : (c == 10) ≡ false = ne_eqb c 10 (λ e. omega (arith, r.0, e)) in
+    let g : (c == 40) ≡ false = ne_eqb c 40 (λ e. omega (arith, r.0, e)) in
+    let i : (c == 41) ≡ false = ne_eqb c 41 (λ e. omega (arith, r.0, e)) in
+    let j : (c == 44) ≡ false = ne_eqb c 44 (λ e. omega (arith, r.0, e)) in
+    simp (a, b, d, f, g, i, j)
+
+-- digits in front of a break are taken whole
+taken : (ds rest : List ℕ) → list_all is_ascii_digit ds ≡ true → ends_piece rest ≡ true → (take_while is_plain (ds ++ rest) ≡ ds) × (drop_while is_plain (ds ++ rest) ≡ rest)
+taken [] [] digits ends = (refl, refl)
+taken [] (b ∷ rest) digits ends = let no : is_plain b ≡ false = simp ends in (simp no, drop_while-no is_plain b rest no)
+taken (c ∷ ds) rest digits ends =
+    let two = and_parts (is_ascii_digit c) (list_all is_ascii_digit ds) digits in
+    let yes = plain_digit c two.0 in
+    let more = taken ds rest two.1 ends in
+    (rw yes (rw one-add (ap (λ l. c ∷ l) more.0)), drop_while-yes is_plain c (ds ++ rest) yes ∙ more.1)
+
+-- none of them passes a test that no digit passes: nothing is cut off
+module _ (test : ℕ → Bool) (none : (c : ℕ) → is_ascii_digit c ≡ true → test c ≡ false) where
+  nowhere : (ds : List ℕ) → list_all is_ascii_digit ds ≡ true → (position_or_len test ds ≡ length ds) × (list_any test ds ≡ false)
+  nowhere [] digits = (refl, refl)
+  nowhere (c ∷ ds) digits =
+      let two = and_parts (is_ascii_digit c) (list_all is_ascii_digit ds) digits in
+      let here = none c two.0 in
+      let more = nowhere ds two.1 in
+      (rw here (omega (arith, more.0)), rw here more.1)
+
+  uncut : (ds : List ℕ) → list_all is_ascii_digit ds ≡ true → (before_first test ds ≡ ds) × (after_first test ds ≡ []) × (list_any test ds ≡ false)
+  uncut ds digits =
+      let all = nowhere ds digits in
+      (rw all.0 (take_all (length ds) ds (omega arith)), rw all.0 (drop_of_length-le ds (omega arith)), all.1)
+
+no_point : (c : ℕ) → is_ascii_digit c ≡ true → is_point c ≡ false
+no_point c h = not_byte c 46 h (λ r. omega (arith, r.0))
+
+no_mark : (c : ℕ) → is_ascii_digit c ≡ true → is_exponent_mark c ≡ false
+no_mark c h =
+    let e = not_byte c 101 h (λ r. omega (arith, r.1)) in
+    let f = not_byte c 69 h (λ r. omega (arith, r.1)) in
+    simp (e, f)
+
+-- the parts of digits as a number text
+pub record AreParts (ds : List ℕ) : Type 0 where
+  pub unsigned_is : unsigned ds ≡ ds
+  pub positive : is_negative ds ≡ false
+  pub whole : whole_digits ds ≡ ds
+  pub fraction : fraction_digits ds ≡ []
+  pub no_exponent : exponent ds ≡ []
+  pub no_mark : has_exponent ds ≡ false
+
+pub parts_of : (ds : List ℕ) → 0 < length ds → list_all is_ascii_digit ds ≡ true → AreParts ds
+parts_of [] some digits = absurd (omega (arith, some))
+parts_of (c ∷ cs) some digits =
+    let first = (and_parts (is_ascii_digit c) (list_all is_ascii_digit cs) digits).0 in
+    let plus = not_byte c 43 first (λ r. omega (arith, r.0)) in
+    let minus = not_byte c 45 first (λ r. omega (arith, r.0)) in
+    let bare : unsigned (c ∷ cs) ≡ c ∷ cs = simp (plus, minus) in
+    let marks = uncut is_exponent_mark no_mark (c ∷ cs) digits in
+    let points = uncut is_point no_point (c ∷ cs) digits in
+    record {
+      unsigned_is = bare;
+      positive = minus;
+      whole = ap (λ t. before_first is_point (before_first is_exponent_mark t)) bare ∙ ap (before_first is_point) marks.0 ∙ points.0;
+      fraction = ap (λ t. after_first is_point (before_first is_exponent_mark t)) bare ∙ ap (after_first is_point) marks.0 ∙ points.1;
+      no_exponent = ap (after_first is_exponent_mark) bare ∙ marks.1;
+      no_mark = ap (list_any is_exponent_mark) bare ∙ marks.2;
+    }
+
+-- digits are a number text
+pub digits_number : (ds : List ℕ) → 0 < length ds → list_all is_ascii_digit ds ≡ true → is_number ds ≡ true
+digits_number ds some digits =
+    let p = parts_of ds some digits in
+    let all : whole_digits ds ++ fraction_digits ds ≡ ds = ap₂ (λ a b. a ++ b) p.whole p.fraction ∙ append-nil ds in
+    let not_none : (length ds == 0) ≡ false = ne_eqb (length ds) 0 (λ e. omega (arith, e, some)) in
+    let here : are_digits ds ≡ true = simp (not_none, digits) in
+    ap₂ (λ a b. are_digits a && (not b || are_digits (unsigned (exponent ds)))) all p.no_mark ∙ rw here refl
+
+-- the value of a decimal that is within the range, at scale 0
+pub record IsRead (n : ℕ) : Type 0 where
+  pub on_the_grid : is_on_grid 0 (decimal n) ≡ true
+  pub within : is_within 0 (decimal n) ≡ true
+  pub value : grid_value 0 (decimal n) ≡ pos n
+
+pub decimal_read : (n : ℕ) → n ≤ 10 ^ 18 → IsRead n
+decimal_read n few =
+    let small : n < 2 ^ 64 = omega arith in
+    let digits = decimal_digits n small in
+    let p = parts_of (decimal n) (decimal_some n small) digits in
+    let value : significand (decimal n) ≡ n * 10 ^ 0 = ap₂ (λ a b. digits_value 10 (a ++ b)) p.whole p.fraction ∙ ap (digits_value 10) (append-nil (decimal n)) ∙ decimal_value n small ∙ omega arith in
+    let raised_is : raised (decimal n) ≡ 0 = ap (λ e. if is_negative e then 0 else digits_value 10 (unsigned e)) p.no_exponent in
+    let lowered_is : lowered (decimal n) ≡ 0 = ap (λ e. if is_negative e then digits_value 10 (unsigned e) else 0) p.no_exponent in
+    let fraction : length (fraction_digits (decimal n)) ≡ 0 = ap length p.fraction in
+    let g = on_grid 0 (decimal n) n 0 0 value (omega (arith, raised_is, lowered_is, fraction)) in
+    let whole : magnitude 0 (decimal n) ≡ n = g.1 ∙ omega arith in
+    record {
+      on_the_grid = g.0;
+      within = ap (λ m. nat_le m (10 ^ 18)) whole ∙ le-leb n (10 ^ 18) few;
+      value = rw (p.positive, whole) refl;
+    }
+
+-- it is a number of a text
+decimal_piece : (n : ℕ) → n < 2 ^ 64 → piece_of (decimal n) ≡ number (decimal n)
+decimal_piece n small =
+    let digits = decimal_digits n small in
+    let o = not_that (list_all is_ascii_digit) (decimal n) (codes "(") digits refl in
+    let c = not_that (list_all is_ascii_digit) (decimal n) (codes ")") digits refl in
+    let m = not_that (list_all is_ascii_digit) (decimal n) (codes ",") digits refl in
+    let w = no_letters (decimal n) (decimal_some n small) digits in
+    let d = digits_number (decimal n) (decimal_some n small) digits in
+    rw (o, c, m, w, d) refl
+  where
+    no_letters : (ds : List ℕ) → 0 < length ds → list_all is_ascii_digit ds ≡ true → list_all is_ascii_alphabetic ds ≡ false
+    no_letters [] some digits = absurd (omega (arith, some))
+    no_letters (c ∷ cs) some digits =
+        let r = digit_bounds c (and_parts (is_ascii_digit c) (list_all is_ascii_digit cs) digits).0 in
+        let low = lt-leb 65 c (omega (arith, r.1)) in
+        let high = lt-leb 97 c (omega (arith, r.1)) in
+        simp (low, high)
+
+-- the first piece of a text that begins with a decimal
+pub decimal_first : (n : ℕ) (rest : List ℕ) → n < 2 ^ 64 → ends_piece rest ≡ true → pieces (decimal n ++ rest) ≡ number (decimal n) ∷ pieces rest
+decimal_first n rest small ends = by (decimal n) (decimal_some n small) (decimal_digits n small) (decimal_piece n small)
+  where
+    by : (ds : List ℕ) → 0 < length ds → list_all is_ascii_digit ds ≡ true → piece_of ds ≡ number ds → pieces (ds ++ rest) ≡ number ds ∷ pieces rest
+    by [] some digits is = absurd (omega (arith, some))
+    by (c ∷ cs) some digits is =
+        let two = and_parts (is_ascii_digit c) (list_all is_ascii_digit cs) digits in
+        let all = taken cs rest two.1 ends in
+        pieces-longest c (cs ++ rest) (plain_digit c two.0) ∙ ap₂ (λ a b. piece_of (c ∷ a) ∷ pieces b) all.0 all.1 ∙ ap (λ p. p ∷ pieces rest) is
+
+-- two numbers with a space between them
+pub pair_first : (x y : ℕ) (rest : List ℕ) → x < 2 ^ 64 → y < 2 ^ 64 → ends_piece rest ≡ true
+    → pieces (decimal x ++ 32 ∷ (decimal y ++ rest)) ≡ number (decimal x) ∷ number (decimal y) ∷ pieces rest
+pair_first x y rest small_x small_y ends = decimal_first x (32 ∷ (decimal y ++ rest)) small_x refl ∙ ap (λ ps. number (decimal x) ∷ ps) (decimal_first y rest small_y ends)

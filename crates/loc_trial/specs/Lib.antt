@@ -1,0 +1,4 @@
+pub mod Asked
+pub mod Generated
+pub mod TrialCourses
+pub mod Trials

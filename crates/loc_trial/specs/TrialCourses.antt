@@ -1,0 +1,35 @@
+-- The courses of the commands on generated layers. The words: `past_text`, `sized_course`, `gen_course`, `tried_course`, `trial_course`.
+use Rattle.std.specs.Prelude.{ℕ, ◌*◌, List, ◌++◌, codes, nat_lt, if◌then◌else◌}
+use Rattle.std.specs.Fmt.{decimal}
+use Rattle.loc_spec_plane.specs.declared.Index.{Index}
+use Rattle.loc_spec_text.specs.Points.{ended}
+use Rattle.loc_rings.specs.Values.{Feature}
+use Rattle.loc_gen.specs.declared.kinds.Kind.{Kind}
+use Rattle.loc_gen.specs.Layers.{layer_text, limit_of}
+use Rattle.loc_course.specs.Courses.{Text, Course, refuses, searches, writes}
+use Rattle.loc_course.specs.Outcomes.{exactly}
+use Rattle.loc_maps.specs.Located.{table_in}
+use Rattle.loc_maps.specs.MapCourses.{accepted_course}
+use Rattle.loc_query.specs.QueryCourses.{steps_by}
+use Rattle.loc_trial.specs.Generated.{generated}
+use Rattle.loc_trial.specs.Trials.{is_trial_line}
+
+-- a size is past a limit
+abbrev pub past_text : ℕ → ℕ → Text
+past_text n limit = codes "gen: " ++ decimal n ++ codes " past " ++ decimal limit
+
+-- a size above the limit of its kind is refused
+abbrev pub sized_course : Kind → ℕ → Course → Course
+sized_course kind n next = if nat_lt (limit_of kind) n then refuses (exactly (ended (past_text n (limit_of kind)))) else next
+
+-- the layer's text is written
+abbrev pub gen_course : Kind → ℕ → ℕ → Course
+gen_course kind n shift = sized_course kind n (writes (exactly (layer_text kind n shift)))
+
+-- the points are searched, and their counts are written
+abbrev pub tried_course : Index → Kind → ℕ → ℕ → List Feature → Course
+tried_course index kind n shift layer = searches (n * steps_by index (table_in layer)) (writes (is_trial_line index kind n shift layer))
+
+-- a trial: the points behind the generated layer, which is judged as a layer that was read
+abbrev pub trial_course : Index → Kind → ℕ → ℕ → Course
+trial_course index kind n shift = sized_course kind n (accepted_course 0 (generated kind n shift) (tried_course index kind n shift (generated kind n shift)))

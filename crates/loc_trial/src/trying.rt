@@ -1,0 +1,194 @@
+//! A trial: the points of a generated layer, asked of an index.
+
+ghost use Rattle.std.specs.Prelude.{◌≡◌, ◌+◌, ◌*◌, ◌++◌, ◌≤◌, IfOk, length, map};
+ghost use Rattle.loc_io.specs.Meaning.{Meaning};
+ghost use Rattle.loc_spec_plane.specs.Lists.{numbers};
+ghost use Rattle.loc_spec_plane.specs.declared.Index.TheVariants as by;
+ghost use Rattle.loc_spec_text.specs.Answered.{answered};
+ghost use Rattle.loc_spec_text.specs.Points.{ended};
+ghost use Rattle.loc_batch.specs.Answering.{answer_by};
+ghost use Rattle.loc_batch.specs.Batches.{no_tally};
+ghost use Rattle.loc_batch.specs.Faces.{unnumbered};
+ghost use Rattle.loc_batch.specs.Streams.{tally_of as tally_of_answers};
+ghost use Rattle.loc_cover.specs.Legends.{FitsTable};
+ghost use Rattle.loc_gen.specs.Layers.{limit_of};
+ghost use Rattle.loc_course.specs.Courses.{searches, writes};
+ghost use Rattle.loc_course.specs.Following.{Follows, moment};
+ghost use Rattle.loc_course.specs.Outcomes.{exactly};
+ghost use Rattle.loc_course.specs.Stops.{end_of};
+ghost use Rattle.loc_maps.specs.MapCourses.{accepted_course};
+ghost use Rattle.loc_trial.specs.Asked.{AnswersAll};
+ghost use Rattle.loc_trial.specs.Generated.{generated, point_line};
+ghost use Rattle.loc_trial.specs.TrialCourses.{trial_course, tried_course};
+ghost use Rattle.loc_trial.specs.Trials.{nodes_text, sizes_text, tally_text};
+
+use crate::counts::line_of;
+use crate::layers::read_back;
+use crate::points::points_of;
+use loc_batch::{Batch, Tally, Unnumbered};
+use loc_course::{Scale, Stop, write_out};
+use loc_cover::Legend;
+use loc_edges::EdgeTable;
+use loc_gen::Kind;
+use loc_geom::Steps;
+use loc_io::{Sink, SteadySink};
+use loc_maps::judge;
+use loc_place::Locator;
+use loc_rings::Layer;
+use loc_scan::Scan;
+use loc_spec_plane::Index;
+use loc_status::VecStatus;
+use loc_treeidx::TreeIndex;
+use loc_treeidx::laws::swept_stands;
+use std::alloc::{AllocError, Global};
+use std::sync::ledger::Ledger;
+
+// The most bytes of a points text.
+const LIMIT: u64 = 268_435_456;
+
+// What a locator answers to the points of a layer of size n, counted.
+fn tally_of<I: Locator, L: Ledger>(
+    alloc: Global,
+    index: &I,
+    table: &EdgeTable,
+    legend: &Legend,
+    n: u64,
+    shift: u64,
+    steps: &mut Steps<L>,
+) -> Result<Tally, AllocError>
+    requires size { n ≤ 131072 }
+    requires fits { I.fits index.now table.now }
+    requires legend { FitsTable table.now legend.now }
+    requires always { AnswersAll (answer_by 0 (I.finds index.now table.now) unnumbered legend.now) }
+    ensures tally { IfOk result (λ t. t ≡ tally_of_answers no_tally (answered (answer_by 0 (I.finds index.now table.now) unnumbered legend.now) (map (point_line n shift) (numbers n))).answers) }
+    ensures counted { steps.old ≤ steps.new }
+    ensures within { steps.new ≤ steps.old + n * I.most index.now table.now }
+{
+    let points = points_of(alloc, n, shift)?;
+    let mut batch = Batch::make(alloc, 0, LIMIT)?;
+    let mut sink = SteadySink::new();
+    let views = table.views();
+    match batch.feed(
+        index,
+        &views,
+        legend,
+        &Unnumbered,
+        &points,
+        &mut sink,
+        steps,
+    ) {
+        Ok(()) => Ok(batch.tally()),
+        Err(_) => unreachable!(),
+    }
+}
+
+// The points of a layer of size n are asked of a locator, and the line of the counts is written.
+fn try_points<I: Locator, O: Sink, L: Ledger>(
+    alloc: Global,
+    index: &I,
+    table: &EdgeTable,
+    legend: &Legend,
+    kind: Kind,
+    n: u64,
+    shift: u64,
+    nodes: Option<u32>,
+    out: &mut O,
+    steps: &mut Steps<L>,
+) -> Result<(), Stop>
+    requires size { n ≤ 131072 }
+    requires fits { I.fits index.now table.now }
+    requires legend { FitsTable table.now legend.now }
+    requires always { AnswersAll (answer_by 0 (I.finds index.now table.now) unnumbered legend.now) }
+    ensures { (shelf : Meaning) → Follows (searches (n * I.most index.now table.now)
+        (writes (exactly (ended (sizes_text kind n shift (length table.now.corners) (length table.now.ends) ++ tally_text (tally_of_answers no_tally (answered (answer_by 0 (I.finds index.now table.now) unnumbered legend.now) (map (point_line n shift) (numbers n))).answers) ++ nodes_text nodes)))))
+        (moment shelf (O.meaning out.old) steps.old) (moment shelf (O.meaning out.new) steps.new) (end_of result) }
+{
+    let tally = tally_of(alloc, index, table, legend, n, shift, steps)?;
+    let corners = table.corner_count();
+    let edges = table.edge_count();
+    let line = line_of(alloc, kind, n, shift, corners, edges, tally, nodes)?;
+    write_out(out, &line)
+}
+
+// A trial by the plain look at every corner and edge. The layer is swept with a sorted list.
+fn try_scan<O: Sink, L: Ledger>(
+    alloc: Global,
+    layer: Layer,
+    kind: Kind,
+    n: u64,
+    shift: u64,
+    out: &mut O,
+    steps: &mut Steps<L>,
+) -> Result<(), Stop>
+    requires size { n ≤ 131072 }
+    requires features { length layer ≤ 131072 }
+    ensures { (shelf : Meaning) → Follows (accepted_course 0 layer (tried_course by.Scan kind n shift layer)) (moment shelf (O.meaning out.old) steps.old) (moment shelf (O.meaning out.new) steps.new) (end_of result) }
+{
+    let plane = judge(alloc, layer, Scale::new(0), VecStatus::new(alloc))?;
+    plane.table.law();
+    plane.legend.law();
+    try_points(
+        alloc,
+        &Scan,
+        &plane.table,
+        &plane.legend,
+        kind,
+        n,
+        shift,
+        None,
+        out,
+        steps,
+    )
+}
+
+// A trial by the tree of the versions that the sweep of the layer leaves.
+fn try_tree<O: Sink, L: Ledger>(
+    alloc: Global,
+    layer: Layer,
+    kind: Kind,
+    n: u64,
+    shift: u64,
+    out: &mut O,
+    steps: &mut Steps<L>,
+) -> Result<(), Stop>
+    requires size { n ≤ 131072 }
+    requires features { length layer ≤ 131072 }
+    ensures { (shelf : Meaning) → Follows (accepted_course 0 layer (tried_course by.Tree kind n shift layer)) (moment shelf (O.meaning out.old) steps.old) (moment shelf (O.meaning out.new) steps.new) (end_of result) }
+{
+    let plane = judge(alloc, layer, Scale::new(0), TreeIndex::new(alloc))?;
+    plane.legend.law();
+    swept_stands(&plane.table, &plane.status);
+    let nodes = plane.status.versions().nodes();
+    try_points(
+        alloc,
+        &plane.status,
+        &plane.table,
+        &plane.legend,
+        kind,
+        n,
+        shift,
+        Some(nodes),
+        out,
+        steps,
+    )
+}
+
+/// Makes a generated layer, reads it back, and asks an index for its points. The counts of the answers are written: all memory is taken
+/// before the first byte on `out`.
+pub fn trial<O: Sink, L: Ledger>(
+    alloc: Global,
+    kind: Kind,
+    n: u64,
+    shift: u64,
+    index: Index,
+    out: &mut O,
+    steps: &mut Steps<L>,
+) -> Result<(), Stop>
+    ensures { (shelf : Meaning) → Follows (trial_course index kind n shift) (moment shelf (O.meaning out.old) steps.old) (moment shelf (O.meaning out.new) steps.new) (end_of result) }
+{
+    let layer = read_back(alloc, kind, n, shift)?;
+    match index {
+        Index::Scan => try_scan(alloc, layer, kind, n, shift, out, steps),
+        Index::Tree => try_tree(alloc, layer, kind, n, shift, out, steps),
+    }
+}
