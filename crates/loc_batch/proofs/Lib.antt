@@ -2,7 +2,6 @@ pub mod Cutting
 pub mod Feeding
 pub mod Lines
 pub mod Named
-pub mod Pages
 pub mod Placed
 pub mod Points
 pub mod Streamed

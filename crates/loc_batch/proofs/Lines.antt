@@ -18,12 +18,12 @@ use Rattle.loc_cover.specs.Legends.{LegendRows}
 use Rattle.loc_batch.specs.Answering.{answer_by, found_answer}
 use Rattle.loc_batch.specs.Batches.{Answering, AnswersCut}
 use Rattle.loc_batch.specs.Desks.{PutsAll, PutsOne, SendsPage, WritesLines}
-use Rattle.loc_batch.specs.Puts.{IsSteady, Passes}
+use Rattle.loc_page.specs.Puts.{IsSteady, Passes}
 use Rattle.loc_batch.specs.Streams.{last_line, line_of, tally_of, text_of, with_one}
 use Rattle.loc_batch.specs.declared.tally.Tally.{Tally}
 use Rattle.loc_batch.specs.declared.faults.FeedFault.{FeedFault}
 use Rattle.loc_batch.specs.declared.faults.FeedFault.TheVariants as f
-use Rattle.loc_batch.proofs.Pages.{fails_then, front-behind, front-of, front-passes, nothing_passes, passes-both, steady_none, steady_then}
+use Rattle.loc_page.proofs.Pages.{fails_then, front-behind, front-of, front-passes, nothing_passes, passes-both, steady_none, steady_then}
 
 -- no answers
 abbrev pub no_answers : Answered Answer Deep

@@ -5,5 +5,4 @@ pub mod Desks
 pub mod Faces
 pub mod Faults
 pub mod Kept
-pub mod Puts
 pub mod Streams

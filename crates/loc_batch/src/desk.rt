@@ -18,13 +18,13 @@ ghost use Rattle.loc_batch.specs.Streams.{last_line, with_lists, with_one};
 
 use crate::answers::{above, is_among, list_at, list_of, on_corner, on_edge, put_answer};
 use crate::block::{Block, Found};
-use crate::page::Page;
 use crate::{FaceNumbers, FeedFault, Tally};
 use arrayvec::ArrayVec;
 use loc_cover::Legend;
 use loc_edges::Views;
 use loc_geom::Steps;
 use loc_io::Sink;
+use loc_page::Page;
 use loc_place::{Locator, Place};
 use loc_wkt::read_point;
 use std::alloc::{AllocError, Global};

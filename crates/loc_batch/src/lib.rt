@@ -9,7 +9,6 @@ mod desk;
 mod faces;
 mod faults;
 mod laws;
-mod page;
 mod tally;
 mod whole;
 

@@ -1,10 +1,10 @@
 -- The names, the files and the steps along a course.
-use Rattle.std.proofs.Common.{◌≡◌, ℕ, ◌+◌, ◌≤◌, [], ◌∷◌, ◌++◌, length, Option, Some, None, refl, sym, ◌∙◌, subst, ap, inl, arith, append_assoc, append-nil}
+use Rattle.std.proofs.Common.{◌≡◌, ◌≢◌, ℕ, ◌+◌, ◌≤◌, [], ◌∷◌, ◌++◌, length, Option, Some, None, refl, sym, ◌∙◌, subst, ap, inl, arith, append_assoc, append-nil}
 use Rattle.std.proofs.Math.Path.{fun_ext}
 use Rattle.loc_io.specs.Entries.{Entries}
 use Rattle.loc_io.specs.Meaning.{KeepsFiles, Told, untold, absent, holds}
 use Rattle.loc_course.specs.Courses.{Text, Source, Course, Stopped, refused, unread, unwritten, no_memory}
-use Rattle.loc_course.specs.Following.{Moment, IsToldAtMost, Follows, lacks, refuses_by, reads_not, reads_by, searches_by, answers_by, writes_by, makes_by}
+use Rattle.loc_course.specs.Following.{FileWritesAreCounted, Moment, IsToldAtMost, Follows, lacks, refuses_by, reads_not, reads_by, searches_by, answers_by, writes_by, makes_by}
 use Rattle.loc_course.specs.Moments.{IsToldText}
 use Rattle.loc_course.specs.Streams.{Answering, AnswersTo}
 use Rattle.loc_course.specs.Sentences.{status_of, HasLength, AreWhole, Hands, hands_none, hands_last, hands_on, hands_answered, hands_searched, Names, MayMake, MakesNone, Files, WithinSteps, SearchesNothing, Counts, InTimes}
@@ -87,8 +87,27 @@ steady (answers_by done) no_maker = done.making.write_faults
 steady (writes_by text out is w) no_maker = refl
 steady (makes_by {name = made} text shelf is it) no_maker = absurd (no_maker made refl)
 
-pub files : {c : Course} {m n : Moment} {end : Option Stopped} → Follows c m n end → Files c m n
-files follows = record { others = others follows; all = all follows; steady = steady follows }
+-- a file was made, or a write failed
+unmade : (stop : Option Stopped) (f f' : ℕ) → FileWritesAreCounted f f' stop → status_of stop ≢ 0 → status_of stop ≢ 4 → ⊥
+unmade None f f' counts zero four = zero refl
+unmade (Some unwritten) f f' counts zero four = four refl
+unmade (Some (refused line)) f f' counts zero four = counts
+unmade (Some unread) f f' counts zero four = counts
+unmade (Some no_memory) f f' counts zero four = counts
+
+-- unless the command was done or a write failed, all files are told as before
+kept : {c : Course} {m n : Moment} {end : Option Stopped} → Follows c m n end → status_of end ≢ 0 → status_of end ≢ 4 → KeepsFiles m.shelf n.shelf
+kept lacks zero four name = refl
+kept (refuses_by line passes) zero four name = refl
+kept (reads_not shelf read) zero four name = read.files name
+kept (reads_by text shelf read rest) zero four name = kept rest zero four name ∙ read.files name
+kept (searches_by steps up within rest) zero four name = kept rest zero four name
+kept (answers_by done) zero four name = done.files name
+kept (writes_by text out is w) zero four name = refl
+kept (makes_by {m = m} {came = came} text shelf is made) zero four name = absurd (unmade came m.shelf.write_faults shelf.write_faults made.counts zero four)
+
+pub files : {c : Course} {m n : Moment} {end : Option Stopped} → Follows c m n end → Files c m n (status_of end)
+files follows = record { others = others follows; all = all follows; steady = steady follows; kept = kept follows }
 
 up : {c : Course} {m n : Moment} {end : Option Stopped} → Follows c m n end → m.steps ≤ n.steps
 up lacks = omega arith

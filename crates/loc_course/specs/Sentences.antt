@@ -1,4 +1,7 @@
--- What holds of every command that follows a course, in the words of its user.
+-- What holds of every command that follows a course, in the words of its user. The words: `status_of`, `note_of`, `Wrote`, `Noted`, `Notes`, `EndsSo`,
+-- `Done`, `RefusedOnly`, `MayMake`, `MakesNone`, `Steady`, `NoneFailed`, `IsDoing`, `Succeeds`, `Refuses`, `RefusesPartly`, `Misses`, `ReadsFail`,
+-- `WritesFail`, `NoCountRose`, `OutSo`, `AtOnce`, `MayRefuseBehind`, `OutGrows`, `Hands`, `HasLength`, `AreWhole`, `Names`, `Files`, `IsPlain`,
+-- `WithinSteps`, `SearchesNothing`, `Counts`, `InTimes`, `Ended`, `Sentences`.
 use Rattle.std.specs.Prelude.{◌≡◌, ◌≢◌, ◌⊎◌, ℕ, ◌+◌, ◌*◌, ◌-◌, ◌^◌, ◌<◌, ◌≤◌, Bool, [], ◌∷◌, ◌++◌, length, Option, Some, None, Result, Err, IsTrue, ⊤, codes}
 use Rattle.std.specs.Io.KnownBytes.{Keeps, Appends}
 use Rattle.loc_io.specs.Causes.{Rose}
@@ -211,11 +214,13 @@ pub record Names (c : Course) (old new : Moment) (status : ℕ) : Type 0 where
   pub handed : Hands old.shelf.told c added
   pub whole : status ≡ 0 → AreWhole old.shelf.told added
 
--- No file changes but one that the course may make. Others may no longer be told then, and where there is none, all are told as before.
-pub record Files (c : Course) (old new : Moment) : Type 0 where
+-- No file changes but one that the course may make. Others may no longer be told then, and where there is none, all are told as before: so they are
+-- unless the command was done or a write failed.
+pub record Files (c : Course) (old new : Moment) (status : ℕ) : Type 0 where
   pub others : (name : Text) → (MayMake c name → ⊥) → IsToldAtMost (old.shelf.told name) (new.shelf.told name)
   pub all : MakesNone c → KeepsFiles old.shelf new.shelf
   pub steady : MakesNone c → new.shelf.write_faults ≡ old.shelf.write_faults
+  pub kept : status ≢ 0 → status ≢ 4 → KeepsFiles old.shelf new.shelf
 
 -- a course writes at once, and makes no file
 pub record IsPlain (c : Course) : Type 0 where
@@ -271,7 +276,7 @@ pub record Sentences (c : Course) (old new : Moment) (n n' : Stream) (status : �
   pub no_count_rose : NoCountRose old new status
   pub out : OutGrows c old new n n' status
   pub names : Names c old new status
-  pub files : Files c old new
+  pub files : Files c old new status
   pub steps : Counts c old new
   pub in_time : InTimes old new
   pub notes : Notes n n' status

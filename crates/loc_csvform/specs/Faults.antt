@@ -1,4 +1,4 @@
--- What a fault of a layer says of its text.
+-- What a fault of a layer says of its text. The word: `IsFaultOf`.
 use Rattle.std.specs.Prelude.{◌≡◌, ◌≢◌, Result, Err, ⊤}
 use Rattle.loc_spec_text.specs.declared.TextFault.TheVariants as t
 use Rattle.loc_csvform.specs.declared.faults.LayerFault.{LayerFault}

@@ -1,4 +1,5 @@
--- The layer of a text in either form, or its one fault.
+-- The layer of a text in either form, or its one fault. The words: `Row`, `RowRead`, `LayerRead`, `line_row`, `is_row_line`, `line_rows`, `column`, `field`,
+-- `row_id`, `row_of`, `csv_row`, `rows_under`, `csv_rows`, `rows_of`, `text_reading`, `with_feature`, `with_row`, `features_from`, `layer_of`.
 use Rattle.std.specs.Prelude.{ℕ, ◌+◌, ◌^◌, Bool, not, List, [], ◌∷◌, ◌++◌, map, length, codes, filter, nat_lt, nat_le, ◌==◌, if◌then◌else◌, Option, Some, None, option_map, unwrap_or, Result, Ok, Err, position, slice_index_or}
 use Rattle.std.specs.Fmt.{decimal}
 use Rattle.std.specs.List.{enumerate_from}

@@ -1,4 +1,4 @@
--- What a reader of a text in form csv has left.
+-- What a reader of a text in form csv has left. The words: `TextReader`, `bytes_of`, `records_of`, `IsReading`, `TookFront`, `Takes`.
 use Rattle.std.specs.Prelude.{◌≡◌, ℕ, ◌+◌, ◌<◌, ◌≤◌, Bool, true, false, List, [], ◌∷◌, length, Some, unwrap_or, All}
 use Rattle.std.specs.Borrow.{Bor}
 use Rattle.csv.specs.Machine.{ends_at_end}

@@ -1,4 +1,4 @@
--- Whether two edges of a list conflict.
+-- Whether two edges of a list conflict. The words: `edges_of`, `conflicts_with`, `has_conflict`.
 use Rattle.std.specs.Prelude.{Bool, List, map}
 use Rattle.std.specs.List.{list_any}
 use Rattle.loc_spec_plane.specs.Points.{Edge, conflict}

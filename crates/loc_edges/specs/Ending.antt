@@ -1,4 +1,4 @@
--- The edges that end at a corner and those that begin there.
+-- The edges that end at a corner and those that begin there. The words: `ending_among`, `row_of`, `IsFirstFrom`, `AreFirsts`, `IsBeginning`.
 use Rattle.std.specs.Prelude.{◌≡◌, ℕ, ◌+◌, ◌<◌, ◌≤◌, ◌==◌, ◌↔◌, List, length, map, filter, slice_index, slice_index_or}
 use Rattle.loc_spec_plane.specs.Lists.{numbers}
 use Rattle.loc_spec_plane.specs.Tables.{Table, lo_of}

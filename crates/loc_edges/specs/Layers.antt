@@ -1,4 +1,4 @@
--- A list of features as a layer.
+-- A list of features as a layer. The words: `layer_of`, `ends_of`.
 use Rattle.std.specs.Prelude.{List, [], ◌∷◌, map}
 use Rattle.std.specs.List.{flat_map}
 use Rattle.loc_spec_plane.specs.Points.{Point, Edge}

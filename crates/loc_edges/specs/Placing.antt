@@ -1,4 +1,4 @@
--- How an edge b stands to an edge a that the sweep line at b's lower end meets.
+-- How an edge b stands to an edge a that the sweep line at b's lower end meets. The words: `hits`, `deciding_end`, `IsPlacing`, `OnHits`.
 use Rattle.std.specs.Prelude.{Bool, not, ◌&&◌, ◌||◌, if◌then◌else◌, IsTrue}
 use Rattle.loc_spec_plane.specs.Points.{Point, Edge, same_point, is_above, is_on, is_below, inside}
 use Rattle.loc_edges.specs.declared.ranks.Placing.{Placing}

@@ -1,4 +1,4 @@
--- Rows that lie one behind another in one list.
+-- Rows that lie one behind another in one list. The words: `start_of`, `row_at`, `rows_of`, `AreStarts`.
 use Rattle.std.specs.Prelude.{ℕ, ◌+◌, ◌≤◌, List, length, map, slice_index_or}
 use Rattle.std.specs.List.{between}
 use Rattle.loc_spec_plane.specs.Lists.{numbers}

@@ -1,4 +1,4 @@
--- Segments with the numbers of their features.
+-- Segments with the numbers of their features. The words: `tagged_by`, `tagged_from`, `segments_in`, `features_of`, `with_mark`, `marks_of`.
 use Rattle.std.specs.Prelude.{ℕ, ◌==◌, not, true, List, [], ◌∷◌, map, filter, if◌then◌else◌}
 use Rattle.std.specs.List.{flat_map, enumerate_from}
 use Rattle.loc_spec_plane.specs.declared.Mark.{Mark}

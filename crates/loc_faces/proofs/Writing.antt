@@ -12,7 +12,7 @@ use Rattle.loc_io.specs.declared.sink.WriteFault.{WriteFault}
 use Rattle.loc_io.specs.Causes.{HasCause}
 use Rattle.loc_io.specs.Streams.{Stream, TakesAll}
 use Rattle.loc_io.proofs.Appending.{Appends-more, in_time_after}
-use Rattle.loc_batch.proofs.Pages.{appends-none, front-behind, front-of}
+use Rattle.loc_page.proofs.Pages.{appends-none, front-behind, front-of}
 
 -- what a write that takes no more than a text came to
 abbrev pub Answer : Type 0

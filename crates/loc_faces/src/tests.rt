@@ -31,6 +31,13 @@ const TOUCHING: &[Ring] = &[
     &[(0, 0), (6, 1), (6, 2), (0, 0)],
 ];
 
+// Two squares touch a square from inside, each with one corner, at a corner in the middle of a side.
+const SQUARES: &[Ring] = &[
+    &[(0, 0), (4, 0), (8, 0), (8, 8), (0, 8), (0, 4), (0, 0)],
+    &[(4, 0), (5, 1), (4, 2), (3, 1), (4, 0)],
+    &[(0, 4), (1, 3), (2, 4), (1, 5), (0, 4)],
+];
+
 const BACK: &[Ring] = &[&[(4, -1), (0, 0), (0, 0), (4, -1)]];
 
 const NESTED: &[Ring] = &[
@@ -46,7 +53,7 @@ const ISLANDS: &[Ring] = &[
 ];
 
 // The rings of the features, the scale, and the texts of all faces, one behind the other.
-const ROWS: [(&[Ring], u8, &str); 6] = [
+const ROWS: [(&[Ring], u8, &str); 7] = [
     (&[], 0, "face 0\n"),
     (
         HOLED,
@@ -57,6 +64,11 @@ const ROWS: [(&[Ring], u8, &str); 6] = [
         TOUCHING,
         0,
         "face 0\ninner 0 0, 0 8, 8 8, 8 0\nface 1\nouter 0 8, 0 0, 1 2, 2 1, 0 0, 6 2, 6 1, 0 0, 8 0, 8 8\nface 2\nouter 1 2, 0 0, 2 1\nface 3\nouter 0 0, 6 1, 6 2\n",
+    ),
+    (
+        SQUARES,
+        0,
+        "face 0\ninner 0 0, 0 4, 0 8, 8 8, 8 0, 4 0\nface 1\nouter 0 4, 0 0, 4 0, 3 1, 4 2, 5 1, 4 0, 8 0, 8 8, 0 8, 0 4, 1 5, 2 4, 1 3\nface 2\nouter 0 4, 1 3, 2 4, 1 5\nface 3\nouter 3 1, 4 0, 5 1, 4 2\n",
     ),
     (BACK, 0, "face 0\ninner 0 0, 4 -1\n"),
     (

@@ -14,6 +14,7 @@ use Rattle.loc_laws_index.proofs.HeldTable.{file_holds_table}
 use Rattle.loc_file.specs.declared.edges.EdgeOf.{EdgeOf}
 use Rattle.loc_file.specs.Rows.{own}
 use Rattle.loc_file.specs.Keeping.{edge_rows, marks_from, content_of, IsHeld}
+use Rattle.loc_write.proofs.Held.{covers-of}
 use Rattle.loc_file.proofs.RightRows.{IsEdgeIn}
 use Rattle.loc_edges.specs.Ending.{row_of}
 use Rattle.loc_spec_index.specs.declared.NodeRow.{NodeRow}
@@ -25,15 +26,8 @@ own-ends : (es : List EdgeOf) → map (λ (e : EdgeRow). e.ends) (map own es) �
 own-ends [] = refl
 own-ends (e ∷ es) = ap (λ l. e.ends ∷ l) (own-ends es)
 
--- the covers of edges that were zipped
-pub covers-zipped : (ends : List (ℕ × ℕ)) (above : List ℕ) → length above ≡ length ends → map (λ (e : EdgeRow). e.cover) (edge_rows ends above) ≡ above
-covers-zipped [] [] l = refl
-covers-zipped [] (n ∷ above) l = absurd (omega (arith, l))
-covers-zipped (p ∷ ends) [] l = absurd (omega (arith, l))
-covers-zipped (p ∷ ends) (n ∷ above) l = ap (λ ns. n ∷ ns) (covers-zipped ends above (omega (arith, l)))
-
 pub cover_numbers-held : (c : Content) (ends : List (ℕ × ℕ)) (above : List ℕ) → edge_rows ends above ≡ c.edges → length above ≡ length ends → above ≡ cover_numbers c
-cover_numbers-held c ends above e l = sym (covers-zipped ends above l) ∙ ap (λ es. map (λ (e : EdgeRow). e.cover) es) e
+cover_numbers-held c ends above e l = sym (covers-of ends above l) ∙ ap (λ es. map (λ (e : EdgeRow). e.cover) es) e
 
 -- a root of a file
 pub root-within : (c d : Content) (v x : ℕ) → c ≡ d → IsFileOf 1 c (bytes_of 1 c) → v < length d.corners → x ≡ get_or c.roots v x → x ≤ length d.nodes

@@ -1,14 +1,11 @@
 -- Bytes are refused by one fault at most, and those of a file by none.
-use Rattle.std.proofs.Common.{◌≡◌, ◌≢◌, ℕ, Bool, true, false, List, [], ◌∷◌, ◌++◌, refl, sym, ◌∙◌, ap}
-use Rattle.std.specs.Prelude.{not, IsTrue, length}
-use Rattle.std.proofs.lemmas.Bool.{both_ways, true≢false, not-true}
-use Rattle.loc_spec_index.specs.declared.IndexFault.{IndexFault}
-use Rattle.loc_spec_index.specs.declared.IndexFault.TheVariants as fault
+use Rattle.std.proofs.Common.{◌≡◌, ℕ, false, List, refl, ◌∙◌, ap}
+use Rattle.std.proofs.lemmas.Bool.{both_ways, not-true}
 use Rattle.loc_spec_index.specs.Content.{Content}
-use Rattle.loc_spec_index.specs.IndexFile.{IsFileOf, HasFault, header_fields, spelled_all}
-use Rattle.loc_laws_index.proofs.AgreeTable.{body, fields-body}
+use Rattle.loc_spec_index.specs.IndexFile.{IsFileOf, spelled_all}
+use Rattle.loc_laws_index.proofs.AgreeTable.{fields-body}
 use Rattle.loc_laws_index.proofs.OneReading.{one_fault, no_fault_in_file}
-use Rattle.loc_file.specs.Refused.{is_second, IsRefused, faulty, second, unheld, OneRefusal, NoRefusalOfFile}
+use Rattle.loc_file.specs.Refused.{is_second, faulty, second, unheld, OneRefusal, NoRefusalOfFile}
 
 pub one_refusal : OneRefusal
 one_refusal bytes f g (faulty _ a h) (faulty _ b k) some other = one_fault bytes f g h k

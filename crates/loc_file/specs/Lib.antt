@@ -6,3 +6,4 @@ pub mod Refused
 pub mod Rows
 pub mod Searches
 pub mod Standing
+pub mod Written

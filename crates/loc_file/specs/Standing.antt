@@ -1,4 +1,5 @@
--- Where a held file stands, as laws: no edges of its table conflict (index_apart), and what it finds is the place of the point (index_finds).
+-- Where a held file stands, as laws: no edges of its table conflict (index_apart), and what it finds is the place of the point (index_finds). The words:
+-- `index_apart`, `index_finds`.
 use Rattle.std.specs.Prelude.{IsOkAnd}
 use Rattle.std.proofs.Common.{sym, subst}
 use Rattle.loc_spec_plane.specs.Points.{Point}

@@ -21,3 +21,4 @@ mod tests;
 
 pub use held::{Held, read_index};
 pub use loc_spec_index::{IndexFault, NodeRow, Part};
+pub use loc_write::{WriteFault, write_index};

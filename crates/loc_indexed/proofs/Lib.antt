@@ -1,5 +1,10 @@
+pub mod BuildRows
 pub mod Outcomes
 pub mod Behind
+pub mod IndexFiles
+pub mod MadeCourses
 pub mod MarkedAnswers
 pub mod OwnRows
 pub mod ReadBack
+pub mod Truly
+pub mod WrittenIndex

@@ -7,7 +7,7 @@ use Rattle.std.proofs.lemmas.Bool.{and_left, and_parts, and_right, cases_lt, fal
 use Rattle.std.proofs.lemmas.List.{length-map}
 use Rattle.std.proofs.lemmas.List.Elements.{filter_agree}
 use Rattle.std.proofs.lemmas.List.FromFn.{get_or-map-range_with_len, length-map-range_with_len}
-use Rattle.loc_spec_plane.specs.declared.Index.TheVariants.{Tree}
+use Rattle.loc_spec_asked.specs.declared.Index.TheVariants.{Tree}
 use Rattle.loc_spec_plane.specs.declared.Place.{Place}
 use Rattle.loc_spec_plane.specs.declared.Place.TheVariants.{Corner, Border, Area}
 use Rattle.loc_spec_plane.specs.Covers.{IsCoverOf, cover_above, cover_of_floor, feature_count, has_at}

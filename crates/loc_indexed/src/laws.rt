@@ -1,8 +1,9 @@
 //! What asking an index file comes to.
 
-ghost use Rattle.std.specs.Prelude.{◌≡◌, ◌⊎◌, ◌<◌, ◌≤◌, Err, List, Ok, codes, false, length, map, ℕ};
+ghost use Rattle.std.specs.Prelude.{◌≡◌, ◌≢◌, ◌⊎◌, ◌<◌, ◌≤◌, Err, List, Ok, codes, false, length, map, ℕ};
 ghost use Rattle.loc_io.specs.Meaning.{Told, holds};
-ghost use Rattle.loc_spec_plane.specs.declared.Index.TheVariants as by;
+ghost use Rattle.loc_io.specs.Streams.{Stream};
+ghost use Rattle.loc_spec_asked.specs.declared.Index.TheVariants as by;
 ghost use Rattle.loc_spec_text.specs.Points.{ended};
 ghost use Rattle.loc_spec_index.specs.declared.IndexFault.{IndexFault as Fault};
 ghost use Rattle.loc_spec_index.specs.Content.{Content};
@@ -12,9 +13,13 @@ ghost use Rattle.loc_laws_index.specs.IndexReading.{AreBytes, reading};
 ghost use Rattle.loc_rings.specs.Values.{Feature, rings_of};
 ghost use Rattle.loc_answering.specs.ByLine.{deep_text};
 ghost use Rattle.loc_course.specs.Courses.{Text};
+ghost use Rattle.loc_course.specs.Moments.{Moment};
 ghost use Rattle.loc_course.specs.Outcomes.{exactly, outcome, refusal};
-ghost use Rattle.loc_course.specs.Sentences.{MakesNone, MayRefuseBehind};
+ghost use Rattle.loc_course.specs.Sentences.{AtOnce, Ended, MakesNone, MayMake, MayRefuseBehind, SearchesNothing};
 ghost use Rattle.loc_query.specs.QueryCourses.{points_course};
+ghost use Rattle.loc_maps.specs.MapCourses.{LayerFile};
+ghost use Rattle.loc_indexed.specs.Building.{build_course};
+ghost use Rattle.loc_indexed.specs.Builds.{Builds, Built};
 ghost use Rattle.loc_indexed.specs.IndexedCourses.{ask_course, asked_course, index_limit};
 ghost use Rattle.loc_indexed.specs.IndexTexts.{index_fault_text};
 ghost use Rattle.loc_indexed.specs.Marked.{marked_course};
@@ -30,4 +35,13 @@ pub fn ask_law()
     ensures of_layer { (points : Text) (scale : ℕ) (layer : List Feature) (c : Content) → IsIndexOf scale (map (λ (f : Feature). f.id) layer) (map rings_of layer) c → marked_course points c ≡ points_course by.Tree false scale points layer }
     ensures makes_none { (index points : Text) → MakesNone (ask_course index points) }
     ensures refuses_behind { (index points line : Text) → MayRefuseBehind (ask_course index points) line → (line ≡ ended (codes "points: too long")) ⊎ ((version : ℕ) × (line ≡ deep_text version)) }
+{}
+
+/// What making the index file of a layer leaves, from the course that was followed and from what was built. No file but the index is made, nothing
+/// is written on an output, and no steps are counted. The call does nothing: its contract is the law.
+pub fn build_law()
+    ensures builds { (file : LayerFile) (index : Text) (old new : Moment) (n n' : Stream) (status : ℕ) → Ended (build_course file index) old new n n' status → Built file index old.shelf new.shelf status → Builds file index old new n n' status }
+    ensures at_once { (file : LayerFile) (index : Text) → AtOnce (build_course file index) }
+    ensures makes_one { (file : LayerFile) (index name : Text) → name ≢ index → MayMake (build_course file index) name → ⊥ }
+    ensures searches_nothing { (file : LayerFile) (index : Text) → SearchesNothing (build_course file index) }
 {}

@@ -1,4 +1,4 @@
--- The names handed to a shelf, each with the number of bytes taken under it.
+-- The names handed to a shelf, each with the number of bytes taken under it. The words: `Entries`, `handed`, `taken`, `noted`.
 use Rattle.std.specs.Prelude.{ℕ, ◌+◌, List, [], ◌∷◌, ◌++◌}
 
 -- the names in the order in which they were handed over

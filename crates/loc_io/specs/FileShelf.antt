@@ -1,4 +1,4 @@
--- What the real files mean as a shelf.
+-- What the real files mean as a shelf. The words: `file_meaning`, `file_in_making`.
 use Rattle.std.specs.Prelude.{Option, None, is_some}
 use Rattle.loc_io.specs.Meaning.{Meaning, untold}
 use Rattle.loc_io.specs.declared.file_shelf.FileShelf.{FileShelf}

@@ -1,4 +1,4 @@
--- What the writing of a whole piece comes to where it fails.
+-- What the writing of a whole piece comes to where it fails. The word: `WroteFront`.
 use Rattle.std.specs.Prelude.{◌≡◌, ℕ, List, ◌++◌, Option}
 use Rattle.std.specs.Io.KnownBytes.{Appends}
 

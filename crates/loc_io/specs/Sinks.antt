@@ -1,4 +1,4 @@
--- What the sinks tell.
+-- What the sinks tell. The words: `mem_stream`, `failing_writes`, `writes_made`, `stream_of`, `std_stream`.
 use Rattle.std.specs.Prelude.{ℕ, List, Some, None}
 use Rattle.loc_io.specs.Streams.{Stream, stream}
 use Rattle.loc_io.specs.declared.mem_sink.MemSink.{MemSink}

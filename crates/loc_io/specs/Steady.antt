@@ -1,4 +1,4 @@
--- A file by its place.
+-- A file by its place. The word: `bytes_at`.
 use Rattle.std.specs.Prelude.{ℕ, List, [], Option, Some, None, slice_get}
 use Rattle.std.specs.Option.{option_map_or}
 use Rattle.loc_io.specs.declared.mem_file.MemFile.{MemFile}

@@ -1,4 +1,4 @@
--- What a steady shelf means.
+-- What a steady shelf means. The word: `steady_meaning`.
 use Rattle.std.specs.Prelude.{drop, [], Some, None, if◌then◌else◌, unwrap_or}
 use Rattle.loc_io.specs.Meaning.{Meaning, untold, holds}
 use Rattle.loc_io.specs.Files.{file_of}

@@ -1,4 +1,4 @@
--- What a sink means, and what a write on it does to that.
+-- What a sink means, and what a write on it does to that. The words: `Stream`, `stream`, `Takes`, `InTime`, `TakesAll`.
 use Rattle.std.specs.Prelude.{◌≡◌, ℕ, ◌<◌, ◌≤◌, List, length, nat_lt, Option, Result, IfOk, OnOk, OnErr}
 use Rattle.std.specs.Io.KnownBytes.{Appends, WriteAppends}
 use Rattle.loc_io.specs.Causes.{CountsLate, HasCause}

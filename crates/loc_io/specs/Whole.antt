@@ -1,4 +1,4 @@
--- What reading a whole file comes to.
+-- What reading a whole file comes to. The words: `Whole`, `FaultIsTold`, `LengthIsTold`, `BytesAreTold`, `IsUnread`, `ReadsAll`.
 use Rattle.std.specs.Prelude.{◌≡◌, ℕ, ◌<◌, ◌≤◌, List, [], ◌∷◌, ◌++◌, length, Option, Some, None, Result, Ok, Err, Vec, ⊤}
 use Rattle.std.specs.declared.alloc.Global.{Global}
 use Rattle.loc_io.specs.Causes.{Rose}

@@ -1,4 +1,5 @@
--- Laws of the vertical order, as statements that the contracts of public functions cite.
+-- Laws of the vertical order, as statements that the contracts of public functions cite. The words: `IsSweep`, `SweepLaw`, `ListIsChain`, `ChainIsList`,
+-- `OneList`, `OneNext`, `later_or`, `last_that`, `FloorOfList`.
 use Rattle.std.specs.Prelude.{◌≡◌, ℕ, ◌<◌, Bool, true, false, List, [], ◌∷◌, length, map, Option, Some, None}
 use Rattle.loc_spec_plane.specs.Lists.{is_in}
 use Rattle.loc_spec_plane.specs.Points.{Point, is_above}

@@ -1,6 +1,6 @@
--- The map of a layer: its table, and the legend of the answers. The words: `has_many_covers`, `IsMapOf`.
-use Rattle.std.specs.Prelude.{◌≡◌, Bool, List, map, nat_lt}
-use Rattle.loc_spec_plane.specs.Covers.{cover_sum}
+-- The map of a layer: its table, and the legend of the answers. The words: `has_many_covers`, `IsTableOf`, `IsMapOf`.
+use Rattle.std.specs.Prelude.{◌≡◌, ◌≤◌, Bool, List, length, map, nat_lt}
+use Rattle.loc_spec_plane.specs.Covers.{cover_sum, feature_count}
 use Rattle.loc_spec_plane.specs.Tables.{Table, AllEnds, AllEven, NoConflict}
 use Rattle.loc_rings.specs.Values.{Feature}
 use Rattle.loc_cover.specs.Legends.{LegendRows, FitsTable, IsTrueLegend}
@@ -9,6 +9,13 @@ use Rattle.loc_maps.specs.Located.{table_in}
 -- the distinct cover lists have more members together than a legend holds
 abbrev pub has_many_covers : Table → Bool
 has_many_covers t = nat_lt 16777216 (cover_sum t)
+
+-- the table is that of the layer, every corner is an end, marks are even, and they name features of the layer
+pub record IsTableOf (layer : List Feature) (t : Table) : Type 0 where
+  pub table : t ≡ table_in layer
+  pub ended : AllEnds t
+  pub even : AllEven t
+  pub features : feature_count t ≤ length layer
 
 -- the table is that of the layer, every corner is an end, marks are even, no two edges conflict, and the legend is true of the table and has the ids
 -- of the layer

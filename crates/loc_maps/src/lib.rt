@@ -10,4 +10,4 @@ mod plane;
 pub use checking::check;
 pub use laws::check_law;
 pub use maps::read_layer_file;
-pub use plane::{Plane, judge};
+pub use plane::{Plane, judge, judge_table, layer_table};

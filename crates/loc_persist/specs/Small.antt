@@ -1,4 +1,4 @@
--- What the tests keep from step to step.
+-- What the tests keep from step to step. The word: `IsSmall`.
 use Rattle.std.specs.Prelude.{ℕ, ◌≤◌, length}
 use Rattle.loc_persist.specs.Meaning.{VersionsMeaning}
 

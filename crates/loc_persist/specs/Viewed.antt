@@ -1,4 +1,4 @@
--- The store as contracts see it.
+-- The store as contracts see it. The word: `stored`.
 use Rattle.std.specs.Prelude.{ℕ, List, Option}
 use Rattle.loc_pool.specs.declared.Link.{Link}
 use Rattle.loc_persist.specs.declared.present.Present.{Present}

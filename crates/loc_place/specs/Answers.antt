@@ -1,4 +1,4 @@
--- What a locator answers.
+-- What a locator answers. The words: `Answer`, `IsInRange`.
 use Rattle.std.specs.Prelude.{◌<◌, length, Some, None, Result}
 use Rattle.loc_spec_plane.specs.declared.Place.{Place}
 use Rattle.loc_spec_plane.specs.declared.Place.TheVariants.{Corner, Border, Area}

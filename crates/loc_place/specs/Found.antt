@@ -1,4 +1,5 @@
--- The place of a point, found by a look at every corner and every edge of a table.
+-- The place of a point, found by a look at every corner and every edge of a table. The words: `is_under`, `higher_of`, `with_edge`, `first_place`,
+-- `place_at`.
 use Rattle.std.specs.Prelude.{ℕ, Bool, ◌&&◌, Option, Some, None, if◌then◌else◌, find, fold}
 use Rattle.loc_spec_plane.specs.declared.Place.{Place}
 use Rattle.loc_spec_plane.specs.declared.Place.TheVariants.{Corner, Border, Area}

@@ -1,4 +1,5 @@
--- The nodes in memory by their links, and the rows that they stand for.
+-- The nodes in memory by their links, and the rows that they stand for. The words: `blank_node`, `node_at`, `if_there`, `mark_of`, `extra_of`, `row_of`,
+-- `rows_of`, `IsNumbered`, `IsPool`.
 use Rattle.std.specs.Prelude.{◌≡◌, ℕ, ◌+◌, ◌^◌, ◌<◌, ◌≤◌, Bool, true, false, List, [], ◌∷◌, Option, None, Some}
 use Rattle.loc_pool.specs.declared.Link.{Link}
 use Rattle.loc_pool.specs.declared.Extra.{Extra}

@@ -1,4 +1,4 @@
--- What the nodes own and lend.
+-- What the nodes own and lend. The words: `cell_own`, `cells_own`, `cells_lent`.
 use Rattle.std.specs.Prelude.{[], ◌∷◌}
 use base.Fml.{Lft, Fml, ftrue, fsep}
 use denote.Sharing.{nothing, beside}

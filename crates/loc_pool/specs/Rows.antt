@@ -1,4 +1,5 @@
--- A pool as contracts see it: the rows of its nodes by their links, and the room for more.
+-- A pool as contracts see it: the rows of its nodes by their links, and the room for more. The words: `Row`, `Nodes`, `no_link`, `blank`, `row`, `new_row`,
+-- `plain_child`, `with_child`, `same_turn`, `child_by`, `child_at`, `stamped`, `IsFree`, `AreNames`, `IsNew`, `IsPlace`.
 use Rattle.std.specs.Prelude.{◌≡◌, ◌≢◌, ℕ, ◌-◌, ◌≤◌, ◌&&◌, ◌⊎◌, Bool, true, false, cond, nat_le, List, [], ◌∷◌, Option, None, Some, slice_get}
 use denote.RawPtr.{null_ptr}
 use Rattle.loc_pool.specs.declared.Link.{Link}

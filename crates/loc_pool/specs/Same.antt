@@ -1,4 +1,4 @@
--- Whether two links are the same.
+-- Whether two links are the same. The words: `same_address`, `same`.
 use Rattle.std.specs.Prelude.{Bool, true, false, ◌&&◌, ◌==◌}
 use denote.RawPtr.{Ptr, block_ptr, null_ptr}
 use Rattle.loc_pool.specs.declared.Link.{Link}

@@ -1,19 +1,19 @@
 -- The headline, by what the told files come to.
-use Rattle.std.proofs.Common.{◌≡◌, ◌⊎◌, ℕ, ◌*◌, ◌≤◌, Bool, true, false, List, length, Option, None, Ok, Err, refl, sym, subst, inl, inr, arith, le_trans, mul-le-mul_right}
+use Rattle.std.proofs.Common.{◌≡◌, ◌⊎◌, ℕ, ◌*◌, ◌<◌, ◌≤◌, Bool, true, false, List, length, Option, Some, None, Result, Ok, Err, refl, sym, subst, inl, inr, arith, le_trans, mul-le-mul_right}
 use Rattle.std.specs.Prelude.{IsTrue, codes, not}
 use Rattle.std.specs.Io.KnownBytes.{Appends}
 use Rattle.std.proofs.lemmas.Bool.{cases_lt}
 use Rattle.loc_io.specs.Streams.{Stream}
 use Rattle.loc_io.specs.Meaning.{Told, holds}
 use Rattle.loc_spec_plane.specs.Covers.{cover_sum}
-use Rattle.loc_spec_plane.specs.declared.Index.{Index}
+use Rattle.loc_spec_asked.specs.declared.Index.{Index}
 use Rattle.loc_spec_text.specs.Bytes.{lines}
 use Rattle.loc_spec_text.specs.Points.{ended}
 use Rattle.loc_spec_text.proofs.LineLaws.{lines-front}
 use Rattle.loc_rings.specs.Values.{Feature}
 use Rattle.loc_csvform.specs.Layer.{LayerRead, layer_of}
 use Rattle.loc_edges.specs.Conflicts.{has_conflict}
-use Rattle.loc_course.specs.Courses.{Text, Course, refuses}
+use Rattle.loc_course.specs.Courses.{Text, Source, Course, reads as reads_from, refuses}
 use Rattle.loc_course.specs.Moments.{Moment, IsToldText}
 use Rattle.loc_course.specs.Outcomes.{Outcome, refusal, output, exactly, outcome}
 use Rattle.loc_course.specs.Sentences.{EndsSo, IsDoing, MakesNone, MayRefuseBehind, NoneFailed, OutSo, Sentences, Steady, WithinSteps, Wrote}
@@ -25,69 +25,101 @@ use Rattle.loc_maps.specs.LineTexts.{layer_fault_text}
 use Rattle.loc_maps.specs.Located.{edges_of, table_in}
 use Rattle.loc_maps.specs.MapCourses.{LayerFile, accepted_course, layer_in, limit}
 use Rattle.loc_maps.proofs.Judged.{accepted_all, layer_all}
+use Rattle.loc_trapdag.specs.Orders.{order_of}
+use Rattle.loc_trapdag.specs.declared.order.OrderFault.{OrderFault}
+use Rattle.loc_orders.specs.OrderTexts.{order_fault_text}
+use Rattle.loc_orders.proofs.Asked.{asked_all}
 use Rattle.loc_query.specs.Answered.{output_of, output_within}
-use Rattle.loc_query.specs.Headline.{Headline, IsAccepted, steps_in}
-use Rattle.loc_query.specs.QueryCourses.{points_course, query_course, steps_by}
+use Rattle.loc_query.specs.Headline.{Headline, IsAccepted, IsInOrder, IsOrderTold, edge_count, steps_in}
+use Rattle.loc_query.specs.QueryCourses.{asked_layer, points_course, query_course, steps_by}
 use Rattle.loc_query.proofs.Rows as rows
 
--- what holds of refusals and behind an accepted layer holds of a query
-query_all : (P : Course → Type 0) → ((passes : Text → Bool) → P (refuses passes)) → (index : Index) (faces : Bool) (file : LayerFile) (points text : Text)
-    → ((layer : List Feature) → P (points_course index faces file.scale points layer)) → P (layer_in file.form (layer_of file.form file.scale text) (λ l. accepted_course file.scale l (points_course index faces file.scale points l)))
-query_all P refused_so index faces file points text behind = layer_all P refused_so file.form (layer_of file.form file.scale text) (λ l. accepted_course file.scale l (points_course index faces file.scale points l))
-    (λ l. accepted_all P refused_so file.scale l (points_course index faces file.scale points l) (behind l))
+-- what holds of refusals, of files that are read, and behind an accepted layer holds of a query
+query_all : (P : Course → Type 0) → ((passes : Text → Bool) → P (refuses passes)) → ((s : Source) (next : Text → Course) → ((text : Text) → P (next text)) → P (reads_from s next))
+    → (index : Index) (order : Option Text) (faces : Bool) (file : LayerFile) (points : Text) → ((layer : List Feature) → P (points_course index faces file.scale points layer)) → P (query_course index order faces file points)
+query_all P refused_so reads_so index order faces file points behind = reads_so _ _ (λ text. layer_all P refused_so file.form (layer_of file.form file.scale text) (λ l. asked_layer index order faces file.scale points l)
+    (λ l. asked_all P refused_so reads_so order (edge_count l) (λ _. accepted_course file.scale l (points_course index faces file.scale points l))
+    (λ _. accepted_all P refused_so file.scale l (points_course index faces file.scale points l) (behind l))))
 
 -- a query makes no file
-pub query_makes_none : (index : Index) (faces : Bool) (file : LayerFile) (points : Text) → MakesNone (query_course index faces file points)
-query_makes_none index faces file points name maker = query_all MakesNone (λ passes name maker. maker) index faces file points maker.0 (λ layer name maker. maker) name maker.1
+pub query_makes_none : (index : Index) (order : Option Text) (faces : Bool) (file : LayerFile) (points : Text) → MakesNone (query_course index order faces file points)
+query_makes_none index order faces file points = query_all MakesNone (λ passes name maker. maker) (λ s next none name maker. none maker.0 name maker.1) index order faces file points (λ layer name maker. maker)
 
 -- and no line of its points is refused
-pub query_refuses_behind : (index : Index) (faces : Bool) (file : LayerFile) (points line : Text) → MayRefuseBehind (query_course index faces file points) line → line ≡ ended (codes "points: too long")
-query_refuses_behind index faces file points line by = query_all (λ c. MayRefuseBehind c line → line ≡ ended (codes "points: too long")) (λ passes by. absurd by) index faces file points by.0 (λ layer by. here layer by) by.1
+pub query_refuses_behind : (index : Index) (order : Option Text) (faces : Bool) (file : LayerFile) (points line : Text) → MayRefuseBehind (query_course index order faces file points) line → line ≡ ended (codes "points: too long")
+query_refuses_behind index order faces file points line = query_all (λ c. MayRefuseBehind c line → line ≡ ended (codes "points: too long")) (λ passes by. absurd by) (λ s next is by. is by.0 by.1) index order faces file points here
   where
     here : (layer : List Feature) → MayRefuseBehind (points_course index faces file.scale points layer) line → line ≡ ended (codes "points: too long")
     here layer (inl is) = is
     here layer (inr asked) = absurd (cc asked.1)
 
+-- the text of a named order is too long, or at fault, or an order
+abbrev FailsSo : ℕ → Text → Type 0
+FailsSo edges text = (limit < length text) ⊎ ((length text ≤ limit) × (fault : OrderFault) × (order_of edges text ≡ Err fault))
+
+order_cases : (told : Text → Told) (order : Option Text) (edges : ℕ) → IsOrderTold told order
+    → IsInOrder told order edges ⊎ ((name text : Text) × (order ≡ Some name) × (told name ≡ holds text) × FailsSo edges text)
+order_cases told None edges is_told = inl tt
+order_cases told (Some name) edges is_told = elim (long_or_short limit is_told.0) [
+  | inl long ↦ inr (name, is_told.0, refl, is_told.1, inl long.0)
+  | inr short ↦ by_read short.0 (order_of edges is_told.0) refl
+]
+  where
+    by_read : length is_told.0 ≤ limit → (r : Result (List ℕ) OrderFault) → order_of edges is_told.0 ≡ r
+        → IsInOrder told (Some name) edges ⊎ ((other text : Text) × (Some name ≡ Some other) × (told other ≡ holds text) × FailsSo edges text)
+    by_read few (Ok order) reads = inl (is_told.0, is_told.1, few, order, reads)
+    by_read few (Err fault) reads = inr (name, is_told.0, refl, is_told.1, inr (few, fault, reads))
+
 -- a refusal is no output
 not_done : (o by : Outcome) (before : Option Text) (new : Moment) → o ≡ by → (EndsSo by before new None → ⊥) → EndsSo o before new None → ⊥
 not_done o by before new is none ends = none (subst (λ (x : Outcome). EndsSo x before new None) is ends)
 
-module _ (told : Text → Told) (index : Index) (faces : Bool) (file : LayerFile) (points layer text : Text) (is : told file.name ≡ holds layer) (also : told points ≡ holds text) where
-  -- where a query was done, its layer is accepted and its points are not too long
-  accepted : (before : Option Text) (new : Moment) → EndsSo (outcome told (query_course index faces file points)) before new None → (features : List Feature) × IsAccepted file layer features × (length text ≤ limit)
-  accepted before new ends = elim (long_or_short limit layer) [
-    | inl long ↦ absurd (not_done _ _ before new (rows.layer_long told index faces file points layer is long.0) (λ e. e) ends)
+module _ (told : Text → Told) (index : Index) (order : Option Text) (faces : Bool) (file : LayerFile) (points layer text : Text) (is : told file.name ≡ holds layer) (also : told points ≡ holds text) where
+  -- where a query was done, its layer is accepted, its order is one of the edges, and its points are not too long
+  abbrev WasAccepted : Type 0
+  WasAccepted = (features : List Feature) × IsAccepted file layer features × IsInOrder told order (edge_count features) × (length text ≤ limit)
+
+  accepted : IsOrderTold told order → (before : Option Text) (new : Moment) → EndsSo (outcome told (query_course index order faces file points)) before new None → WasAccepted
+  accepted order_told before new ends = elim (long_or_short limit layer) [
+    | inl long ↦ absurd (not_done _ _ before new (rows.layer_long told index order faces file points layer is long.0) (λ e. e) ends)
     | inr short ↦ by_read short.0 (layer_of file.form file.scale layer) refl
   ]
     where
-      by_points : (features : List Feature) → IsAccepted file layer features → (features : List Feature) × IsAccepted file layer features × (length text ≤ limit)
-      by_points features a = elim (long_or_short limit text) [
-        | inl long ↦ absurd (not_done _ _ before new (rows.points_long told index faces file points layer is features a.within a.reads a.apart a.few_covers text also long.0) (λ e. e) ends)
-        | inr short ↦ (features, a, short.0)
+      by_points : (features : List Feature) → IsAccepted file layer features → IsInOrder told order (edge_count features) → WasAccepted
+      by_points features a o = elim (long_or_short limit text) [
+        | inl long ↦ absurd (not_done _ _ before new (rows.points_long told index order faces file points layer is features a.within a.reads o a.apart a.few_covers text also long.0) (λ e. e) ends)
+        | inr short ↦ (features, a, o, short.0)
       ]
 
-      by_covers : (features : List Feature) → length layer ≤ limit → layer_of file.form file.scale layer ≡ Ok features → Accepts features → (features : List Feature) × IsAccepted file layer features × (length text ≤ limit)
-      by_covers features few reads apart = elim (cases_lt 16777216 (cover_sum (table_in features))) [
-        | inl many ↦ absurd (not_done _ _ before new (rows.covers told index faces file points layer is features few reads apart many) (λ e. e) ends)
-        | inr less ↦ by_points features (record { within = few; reads = reads; apart = apart; few_covers = less })
+      by_covers : (features : List Feature) → length layer ≤ limit → layer_of file.form file.scale layer ≡ Ok features → IsInOrder told order (edge_count features) → Accepts features → WasAccepted
+      by_covers features few reads o apart = elim (cases_lt 16777216 (cover_sum (table_in features))) [
+        | inl many ↦ absurd (not_done _ _ before new (rows.covers told index order faces file points layer is features few reads o apart many) (λ e. e) ends)
+        | inr less ↦ by_points features (record { within = few; reads = reads; apart = apart; few_covers = less }) o
       ]
 
-      by_conflict : (features : List Feature) → length layer ≤ limit → layer_of file.form file.scale layer ≡ Ok features → (b : Bool) → has_conflict (edges_of features) ≡ b → (features : List Feature) × IsAccepted file layer features × (length text ≤ limit)
-      by_conflict features few reads true has = absurd (not_done _ _ before new (rows.conflict told index faces file points layer is features few reads has) (λ e. e) ends)
-      by_conflict features few reads false has = by_covers features few reads (subst (λ (b : Bool). IsTrue (not b)) (sym has) refl)
+      by_conflict : (features : List Feature) → length layer ≤ limit → layer_of file.form file.scale layer ≡ Ok features → IsInOrder told order (edge_count features) → (b : Bool) → has_conflict (edges_of features) ≡ b → WasAccepted
+      by_conflict features few reads o true has = absurd (not_done _ _ before new (rows.conflict told index order faces file points layer is features few reads o has) (λ e. e) ends)
+      by_conflict features few reads o false has = by_covers features few reads o (subst (λ (b : Bool). IsTrue (not b)) (sym has) refl)
 
-      by_read : length layer ≤ limit → (r : LayerRead) → layer_of file.form file.scale layer ≡ r → (features : List Feature) × IsAccepted file layer features × (length text ≤ limit)
-      by_read few (Err fault) reads = absurd (not_done _ _ before new (rows.layer_line told index faces file points layer is fault few reads) (λ e. e) ends)
-      by_read few (Ok features) reads = by_conflict features few reads (has_conflict (edges_of features)) refl
+      by_failure : (features : List Feature) → length layer ≤ limit → layer_of file.form file.scale layer ≡ Ok features → (name text : Text) → order ≡ Some name → told name ≡ holds text → FailsSo (edge_count features) text → WasAccepted
+      by_failure features few reads name text named holds_it (inl long) = absurd (not_done _ _ before new (rows.order_long told index order faces file points layer is features few reads name text named holds_it long) (λ e. e) ends)
+      by_failure features few reads name text named holds_it (inr fails) = absurd (not_done _ _ before new (rows.order_line told index order faces file points layer is features few reads name text fails.1 named holds_it fails.0 fails.2) (λ e. e) ends)
+
+      by_read : length layer ≤ limit → (r : LayerRead) → layer_of file.form file.scale layer ≡ r → WasAccepted
+      by_read few (Err fault) reads = absurd (not_done _ _ before new (rows.layer_line told index order faces file points layer is fault few reads) (λ e. e) ends)
+      by_read few (Ok features) reads = elim (order_cases told order (edge_count features) order_told) [
+        | inl o ↦ by_conflict features few reads o (has_conflict (edges_of features)) refl
+        | inr fails ↦ by_failure features few reads fails.0 fails.1 fails.2 fails.3 fails.4
+      ]
 
   -- an accepted layer and points that are not too long come to the answers
-  comes_to : (features : List Feature) → IsAccepted file layer features → length text ≤ limit → outcome told (query_course index faces file points) ≡ output (exactly (output_of faces file.scale features text))
-  comes_to features a short = rows.answered_all told index faces file points layer is features a.within a.reads a.apart a.few_covers text also short
+  comes_to : (features : List Feature) → IsAccepted file layer features → IsInOrder told order (edge_count features) → length text ≤ limit → outcome told (query_course index order faces file points) ≡ output (exactly (output_of faces file.scale features text))
+  comes_to features a o short = rows.answered_all told index order faces file points layer is features a.within a.reads o a.apart a.few_covers text also short
 
-  steps_within : (k : ℕ) → length (lines text) * steps_in index (layer_of file.form file.scale layer) ≤ k → WithinSteps told (query_course index faces file points) k
+  steps_within : (k : ℕ) → length (lines text) * steps_in index (layer_of file.form file.scale layer) ≤ k → WithinSteps told (query_course index order faces file points) k
   steps_within k most other few told_so =
       let same : other ≡ layer = subst (λ (t : Told). IsToldText t other) is told_so in
-      subst (λ (t : Text). WithinSteps told (layer_in file.form (layer_of file.form file.scale t) (λ l. accepted_course file.scale l (points_course index faces file.scale points l))) k) (sym same)
+      subst (λ (t : Text). WithinSteps told (layer_in file.form (layer_of file.form file.scale t) (λ l. asked_layer index order faces file.scale points l)) k) (sym same)
       (by_read (layer_of file.form file.scale layer) most)
     where
       by_points : (features : List Feature) → length (lines text) * steps_by index (table_in features) ≤ k → WithinSteps told (points_course index faces file.scale points features) k
@@ -96,24 +128,26 @@ module _ (told : Text → Told) (index : Index) (faces : Bool) (file : LayerFile
           let fewer : length (lines more) ≤ length (lines text) = subst (λ (t : Text). length (lines more) ≤ length (lines t)) (sym front.1) (lines-front more front.0) in
           le_trans (mul-le-mul_right (steps_by index (table_in features)) fewer) most
 
-      by_read : (r : LayerRead) → length (lines text) * steps_in index r ≤ k → WithinSteps told (layer_in file.form r (λ l. accepted_course file.scale l (points_course index faces file.scale points l))) k
+      by_read : (r : LayerRead) → length (lines text) * steps_in index r ≤ k → WithinSteps told (layer_in file.form r (λ l. asked_layer index order faces file.scale points l)) k
       by_read (Err fault) most = tt
-      by_read (Ok features) most = accepted_all (λ (c : Course). WithinSteps told c k) (λ passes. tt) file.scale features (points_course index faces file.scale points features) (by_points features most)
+      by_read (Ok features) most = asked_all (λ (c : Course). WithinSteps told c k) (λ passes. tt) (λ s next within text few told_so. within text) order (edge_count features)
+          (λ _. accepted_course file.scale features (points_course index faces file.scale points features))
+          (λ _. accepted_all (λ (c : Course). WithinSteps told c k) (λ passes. tt) file.scale features (points_course index faces file.scale points features) (by_points features most))
 
-module _ (index : Index) (faces : Bool) (file : LayerFile) (points : Text) (old new : Moment) (n n' : Stream) (status : ℕ) (s : Sentences (query_course index faces file points) old new n n' status) where
-  none_failed : Steady old.shelf.read_faults new.shelf.read_faults → Steady old.out.faults new.out.faults → NoneFailed (query_course index faces file points) old new
-  none_failed reads out = record { reads = reads; out = out; files = λ name maker. absurd (query_makes_none index faces file points name maker) }
+module _ (index : Index) (order : Option Text) (faces : Bool) (file : LayerFile) (points : Text) (old new : Moment) (n n' : Stream) (status : ℕ) (s : Sentences (query_course index order faces file points) old new n n' status) where
+  none_failed : Steady old.shelf.read_faults new.shelf.read_faults → Steady old.out.faults new.out.faults → NoneFailed (query_course index order faces file points) old new
+  none_failed reads out = record { reads = reads; out = out; files = λ name maker. absurd (query_makes_none index order faces file points name maker) }
 
   memory : status ≡ 5 → (status ≡ 5) × (new.out.written ≡ old.out.written)
   memory five = (five, s.out.memory five)
 
-  grown : (answer : Text) → outcome old.shelf.told (query_course index faces file points) ≡ output (exactly answer) → status ≡ 0 → Appends old.out.written new.out.written answer
+  grown : (answer : Text) → outcome old.shelf.told (query_course index order faces file points) ≡ output (exactly answer) → status ≡ 0 → Appends old.out.written new.out.written answer
   grown answer is zero =
       let done = subst (λ (o : Outcome). EndsSo o old.out.written new None) is (s.done zero) in
       subst (λ (t : Text). Appends old.out.written new.out.written t) (it_exactly answer done.0 done.1) done.2
 
   -- a refusal by a line that passes
-  refused : (passes : Text → Bool) → outcome old.shelf.told (query_course index faces file points) ≡ refusal passes → Steady old.shelf.read_faults new.shelf.read_faults
+  refused : (passes : Text → Bool) → outcome old.shelf.told (query_course index order faces file points) ≡ refusal passes → Steady old.shelf.read_faults new.shelf.read_faults
       → ((status ≡ 1) × (new.out.written ≡ old.out.written) × (line : Text) × IsTrue (passes line) × Wrote n n' line) ⊎ ((status ≡ 5) × (new.out.written ≡ old.out.written))
   refused passes is steady = elim (s.refuses passes is steady) [
     | inl one ↦ inl (one.0, subst (λ (o : Outcome). OutSo o old.out.written new.out.written) is s.out.grows, one.1, one.2, one.3)
@@ -121,7 +155,7 @@ module _ (index : Index) (faces : Bool) (file : LayerFile) (points : Text) (old 
   ]
 
   -- a refusal by this line
-  refused_by : (line : Text) → outcome old.shelf.told (query_course index faces file points) ≡ refusal (exactly line) → Steady old.shelf.read_faults new.shelf.read_faults
+  refused_by : (line : Text) → outcome old.shelf.told (query_course index order faces file points) ≡ refusal (exactly line) → Steady old.shelf.read_faults new.shelf.read_faults
       → ((status ≡ 1) × (new.out.written ≡ old.out.written) × Wrote n n' line) ⊎ ((status ≡ 5) × (new.out.written ≡ old.out.written))
   refused_by line is steady = elim (refused (exactly line) is steady) [
     | inl one ↦ inl (one.0, one.1, subst (λ (t : Text). Wrote n n' t) (it_exactly line one.2 one.3) one.4)
@@ -129,26 +163,30 @@ module _ (index : Index) (faces : Bool) (file : LayerFile) (points : Text) (old 
   ]
 
   -- what a query answers
-  pub headline : Headline index faces file points old new n n' status
+  pub headline : Headline index order faces file points old new n n' status
   headline = record {
-    done = λ layer text is also zero.
-        let a = accepted old.shelf.told index faces file points layer text is also old.out.written new (s.done zero) in
-        (a.0, a.1, a.2, grown (output_of faces file.scale a.0 text) (comes_to old.shelf.told index faces file points layer text is also a.0 a.1 a.2) zero);
-    answers = λ layer text features is also a short reads out.
-        let to = comes_to old.shelf.told index faces file points layer text is also features a short in
+    done = λ layer text is also order_told zero.
+        let a = accepted old.shelf.told index order faces file points layer text is also order_told old.out.written new (s.done zero) in
+        (a.0, a.1, a.2, a.3, grown (output_of faces file.scale a.0 text) (comes_to old.shelf.told index order faces file points layer text is also a.0 a.1 a.2 a.3) zero);
+    answers = λ layer text features is also a o short reads out.
+        let to = comes_to old.shelf.told index order faces file points layer text is also features a o short in
         elim (s.succeeds (subst IsDoing (sym to) tt) (none_failed reads out)) [
           | inl zero ↦ inl (zero, grown (output_of faces file.scale features text) to zero)
           | inr five ↦ inr (memory five)
         ];
-    layer_long = λ layer is long steady. refused_by (ended (codes "layer: too long")) (rows.layer_long old.shelf.told index faces file points layer is long) steady;
-    layer_fault = λ layer fault is few reads steady. refused_by (ended (layer_fault_text file.form fault)) (rows.layer_line old.shelf.told index faces file points layer is fault few reads) steady;
-    conflict = λ layer features is few reads has steady. refused (names_conflict file.scale (edges_of features)) (rows.conflict old.shelf.told index faces file points layer is features few reads has) steady;
-    covers = λ layer features is few reads apart many steady. refused_by (ended (codes "layer: covers past 16777216")) (rows.covers old.shelf.told index faces file points layer is features few reads apart many) steady;
-    points_long = λ layer text features is also a long reads out.
+    layer_long = λ layer is long steady. refused_by (ended (codes "layer: too long")) (rows.layer_long old.shelf.told index order faces file points layer is long) steady;
+    layer_fault = λ layer fault is few reads steady. refused_by (ended (layer_fault_text file.form fault)) (rows.layer_line old.shelf.told index order faces file points layer is fault few reads) steady;
+    order_long = λ layer text name features named is few reads holds_it long steady.
+        refused_by (ended (codes "order: too long")) (rows.order_long old.shelf.told index order faces file points layer is features few reads name text named holds_it long) steady;
+    order_fault = λ layer text name features fault named is few reads holds_it short faulty steady.
+        refused_by (ended (order_fault_text fault)) (rows.order_line old.shelf.told index order faces file points layer is features few reads name text fault named holds_it short faulty) steady;
+    conflict = λ layer features is few reads o has steady. refused (names_conflict file.scale (edges_of features)) (rows.conflict old.shelf.told index order faces file points layer is features few reads o has) steady;
+    covers = λ layer features is few reads o apart many steady. refused_by (ended (codes "layer: covers past 16777216")) (rows.covers old.shelf.told index order faces file points layer is features few reads o apart many) steady;
+    points_long = λ layer text features is also a o long reads out.
         elim (s.refuses_partly (output_within limit faces file.scale features text) (ended (codes "points: too long"))
-        (rows.points_long old.shelf.told index faces file points layer is features a.within a.reads a.apart a.few_covers text also long) (none_failed reads out)) [
+        (rows.points_long old.shelf.told index order faces file points layer is features a.within a.reads o a.apart a.few_covers text also long) (none_failed reads out)) [
           | inl one ↦ inl one
           | inr five ↦ inr (memory five)
         ];
-    steps = λ layer text is also. s.steps.within _ (steps_within old.shelf.told index faces file points layer text is also _ (omega arith));
+    steps = λ layer text is also. s.steps.within _ (steps_within old.shelf.told index order faces file points layer text is also _ (omega arith));
   }

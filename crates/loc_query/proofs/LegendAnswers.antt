@@ -5,7 +5,7 @@ use Rattle.std.specs.List.{range_with_len}
 use Rattle.std.proofs.Math.Path.{fun_ext}
 use Rattle.std.proofs.lemmas.Bool.{and_left, and_parts, cases_Bool, cases_lt, cond-true, cond-false, ltb-true}
 use Rattle.std.proofs.lemmas.List.{get_or_past, length-map}
-use Rattle.loc_spec_plane.specs.declared.Index.{Index}
+use Rattle.loc_spec_asked.specs.declared.Index.{Index}
 use Rattle.loc_spec_plane.specs.declared.Place.{Place}
 use Rattle.loc_spec_plane.specs.declared.Place.TheVariants.{Corner, Border, Area}
 use Rattle.loc_spec_plane.specs.Lists.{is_in, is_rising, numbers}

@@ -1,3 +1,4 @@
+mod Asking
 mod Examples
 pub mod Headlines
 pub mod LegendAnswers

@@ -1,12 +1,12 @@
 -- The refusals of a query and its output, as rows: what the told files come to.
-use Rattle.std.proofs.Common.{◌≡◌, ◌<◌, ◌≤◌, Bool, List, [], ◌∷◌, ◌++◌, length, map, take, None, Ok, Err, refl, ◌∙◌, ap, arith, true, codes}
+use Rattle.std.proofs.Common.{◌≡◌, ℕ, ◌<◌, ◌≤◌, Bool, List, [], ◌∷◌, ◌++◌, length, map, take, Option, Some, None, Result, Ok, Err, refl, ◌∙◌, ap, arith, true, codes}
 use Rattle.std.specs.Prelude.{nat_lt}
 use Rattle.std.specs.List.{flat_map}
 use Rattle.std.proofs.lemmas.Bool.{cond-true, cond-false, false_from_ne_true}
 use Rattle.std.proofs.lemmas.Bool.Decides.{Decides-ltb}
 use Rattle.loc_io.specs.Meaning.{Told, holds}
 use Rattle.loc_spec_plane.specs.Covers.{cover_sum}
-use Rattle.loc_spec_plane.specs.declared.Index.{Index}
+use Rattle.loc_spec_asked.specs.declared.Index.{Index}
 use Rattle.loc_spec_text.specs.Answered.{Answered, answered, with_answer}
 use Rattle.loc_spec_text.specs.Bytes.{ended_lines, lines}
 use Rattle.loc_spec_text.specs.Points.{ended}
@@ -14,7 +14,7 @@ use Rattle.loc_rings.specs.Values.{Feature}
 use Rattle.loc_csvform.specs.Layer.{LayerRead, layer_of}
 use Rattle.loc_csvform.specs.declared.faults.LayerFault.{LayerFault}
 use Rattle.loc_edges.specs.Conflicts.{has_conflict}
-use Rattle.loc_course.specs.Courses.{Text, Source, refuses}
+use Rattle.loc_course.specs.Courses.{Text, Source, Course, refuses}
 use Rattle.loc_course.specs.Outcomes.{Outcome, refusal, output, partly, by_text, by_lines, by_refusal, exactly, outcome}
 use Rattle.loc_course.specs.Stops.{source}
 use Rattle.loc_course.specs.Streams.{Answering, answered_long, out_of}
@@ -25,8 +25,13 @@ use Rattle.loc_maps.specs.Located.{edges_of, table_in}
 use Rattle.loc_maps.specs.MapCourses.{LayerFile, accepted_course, covers_course, layer_in, limit}
 use Rattle.loc_maps.specs.Maps.{has_many_covers}
 use Rattle.loc_maps.proofs.Judged.{on_apart, on_few_covers}
+use Rattle.loc_trapdag.specs.Orders.{order_of}
+use Rattle.loc_trapdag.specs.declared.order.OrderFault.{OrderFault}
+use Rattle.loc_orders.specs.OrderCourses.{asked_course, order_in}
+use Rattle.loc_orders.specs.OrderTexts.{order_fault_text}
 use Rattle.loc_query.specs.Answered.{answer_line, output_of, output_within}
-use Rattle.loc_query.specs.QueryCourses.{points_course, query_course}
+use Rattle.loc_query.specs.Headline.{IsInOrder, edge_count}
+use Rattle.loc_query.specs.QueryCourses.{asked_layer, points_course, query_course}
 
 long : (s : Source) (o : Text → Outcome) (told : Told) (text : Text) → told ≡ holds text → s.limit < length text → by_text s o told ≡ refusal (exactly s.too_long)
 long s o told text is more = ap (by_text s o) is ∙ cond-true (nat_lt s.limit (length text)) (refusal (exactly s.too_long)) (o text) ((Decides-ltb s.limit (length text)).1 more)
@@ -47,9 +52,18 @@ joined : (f : Text → Text) (ls : List Text) → flat_map (λ line. line) (map 
 joined f [] = refl
 joined f (line ∷ ls) = ap (λ text. f line ++ text) (joined f ls)
 
-module _ (told : Text → Told) (index : Index) (faces : Bool) (file : LayerFile) (points layer : Text) (is : told file.name ≡ holds layer) where
+-- a named order's file, and a course behind one that is an order
+abbrev order_source : Text → Source
+order_source name = source name limit (ended (codes "order: too long"))
+
+in_order : (told : Text → Told) (order : Option Text) (edges : ℕ) (next : Course) → IsInOrder told order edges → outcome told (asked_course order edges (λ _. next)) ≡ outcome told next
+in_order told None edges next o = refl
+in_order told (Some name) edges next o = short (order_source name) (λ text. outcome told (order_in (order_of edges text) (λ _. next))) (told name) o.0 o.1 o.2
+    ∙ ap (λ (r : Result (List ℕ) OrderFault). outcome told (order_in r (λ _. next))) o.4
+
+module _ (told : Text → Told) (index : Index) (order : Option Text) (faces : Bool) (file : LayerFile) (points layer : Text) (is : told file.name ≡ holds layer) where
   abbrev behind : LayerRead → Outcome
-  behind r = outcome told (layer_in file.form r (λ l. accepted_course file.scale l (points_course index faces file.scale points l)))
+  behind r = outcome told (layer_in file.form r (λ l. asked_layer index order faces file.scale points l))
 
   abbrev by_layer : Text → Outcome
   by_layer text = behind (layer_of file.form file.scale text)
@@ -63,42 +77,63 @@ module _ (told : Text → Told) (index : Index) (faces : Bool) (file : LayerFile
   abbrev answering : List Feature → Answering
   answering features line = Ok (answer_line faces file.scale features line)
 
-  pub layer_long : limit < length layer → outcome told (query_course index faces file points) ≡ refusal (exactly (ended (codes "layer: too long")))
+  pub layer_long : limit < length layer → outcome told (query_course index order faces file points) ≡ refusal (exactly (ended (codes "layer: too long")))
   layer_long more = long of_layer by_layer (told file.name) layer is more
 
-  read : length layer ≤ limit → (r : LayerRead) → layer_of file.form file.scale layer ≡ r → outcome told (query_course index faces file points) ≡ behind r
+  read : length layer ≤ limit → (r : LayerRead) → layer_of file.form file.scale layer ≡ r → outcome told (query_course index order faces file points) ≡ behind r
   read few r reads = short of_layer by_layer (told file.name) layer is few ∙ ap behind reads
 
-  pub layer_line : (fault : LayerFault) → length layer ≤ limit → layer_of file.form file.scale layer ≡ Err fault → outcome told (query_course index faces file points) ≡ refusal (exactly (ended (layer_fault_text file.form fault)))
+  pub layer_line : (fault : LayerFault) → length layer ≤ limit → layer_of file.form file.scale layer ≡ Err fault → outcome told (query_course index order faces file points) ≡ refusal (exactly (ended (layer_fault_text file.form fault)))
   layer_line fault few reads = read few (Err fault) reads
 
   module _ (features : List Feature) (few : length layer ≤ limit) (reads : layer_of file.form file.scale layer ≡ Ok features) where
-    pub conflict : has_conflict (edges_of features) ≡ true → outcome told (query_course index faces file points) ≡ refusal (names_conflict file.scale (edges_of features))
-    conflict has = read few (Ok features) reads
+    abbrev behind_order : Course
+    behind_order = accepted_course file.scale features (points_course index faces file.scale points features)
+
+    abbrev by_order : Text → Outcome
+    by_order text = outcome told (order_in (order_of (edge_count features) text) (λ _. behind_order))
+
+    named : (name : Text) → order ≡ Some name → outcome told (query_course index order faces file points) ≡ by_text (order_source name) by_order (told name)
+    named name is_named = read few (Ok features) reads ∙ ap (λ (o : Option Text). outcome told (asked_layer index o faces file.scale points features)) is_named
+
+    pub order_long : (name text : Text) → order ≡ Some name → told name ≡ holds text → limit < length text → outcome told (query_course index order faces file points) ≡ refusal (exactly (ended (codes "order: too long")))
+    order_long name text is_named also more = named name is_named ∙ long (order_source name) by_order (told name) text also more
+
+    pub order_line : (name text : Text) (fault : OrderFault) → order ≡ Some name → told name ≡ holds text → length text ≤ limit → order_of (edge_count features) text ≡ Err fault
+        → outcome told (query_course index order faces file points) ≡ refusal (exactly (ended (order_fault_text fault)))
+    order_line name text fault is_named also less faulty = named name is_named ∙ (short (order_source name) by_order (told name) text also less
+        ∙ ap (λ (r : Result (List ℕ) OrderFault). outcome told (order_in r (λ _. behind_order))) faulty)
+
+    -- an order of the edges does not show
+    ordered : IsInOrder told order (edge_count features) → outcome told (query_course index order faces file points) ≡ outcome told behind_order
+    ordered o = read few (Ok features) reads ∙ in_order told order (edge_count features) behind_order o
+
+    pub conflict : IsInOrder told order (edge_count features) → has_conflict (edges_of features) ≡ true → outcome told (query_course index order faces file points) ≡ refusal (names_conflict file.scale (edges_of features))
+    conflict o has = ordered o
         ∙ ap (outcome told) (cond-true (has_conflict (edges_of features)) (refuses (names_conflict file.scale (edges_of features))) (covers_course (table_in features) (points_course index faces file.scale points features)) has)
 
-    pub covers : Accepts features → 16777216 < cover_sum (table_in features) → outcome told (query_course index faces file points) ≡ refusal (exactly (ended (codes "layer: covers past 16777216")))
-    covers apart many = read few (Ok features) reads
+    pub covers : IsInOrder told order (edge_count features) → Accepts features → 16777216 < cover_sum (table_in features) → outcome told (query_course index order faces file points) ≡ refusal (exactly (ended (codes "layer: covers past 16777216")))
+    covers o apart many = ordered o
         ∙ (ap (outcome told) (on_apart file.scale (edges_of features) (covers_course (table_in features) (points_course index faces file.scale points features)) apart)
         ∙ ap (outcome told) (cond-true (has_many_covers (table_in features)) (refuses (exactly (ended (codes "layer: covers past 16777216")))) (points_course index faces file.scale points features) ((Decides-ltb 16777216 (cover_sum (table_in features))).1 many)))
 
-    accepted : Accepts features → cover_sum (table_in features) ≤ 16777216 → outcome told (query_course index faces file points) ≡ by_lines of_points (answering features) (told points)
-    accepted apart few_covers = read few (Ok features) reads
+    accepted : IsInOrder told order (edge_count features) → Accepts features → cover_sum (table_in features) ≤ 16777216 → outcome told (query_course index order faces file points) ≡ by_lines of_points (answering features) (told points)
+    accepted o apart few_covers = ordered o
         ∙ (ap (outcome told) (on_apart file.scale (edges_of features) (covers_course (table_in features) (points_course index faces file.scale points features)) apart)
         ∙ ap (outcome told) (on_few_covers (table_in features) (points_course index faces file.scale points features) few_covers))
 
-    module _ (apart : Accepts features) (few_covers : cover_sum (table_in features) ≤ 16777216) (text : Text) (also : told points ≡ holds text) where
-      pub points_long : limit < length text → outcome told (query_course index faces file points) ≡ partly (output_within limit faces file.scale features text) (ended (codes "points: too long"))
+    module _ (o : IsInOrder told order (edge_count features)) (apart : Accepts features) (few_covers : cover_sum (table_in features) ≤ 16777216) (text : Text) (also : told points ≡ holds text) where
+      pub points_long : limit < length text → outcome told (query_course index order faces file points) ≡ partly (output_within limit faces file.scale features text) (ended (codes "points: too long"))
       points_long more =
           let first = ended_lines (take limit text) in
           let is_long = cond-true (nat_lt limit (length text)) (answered_long of_points.too_long (answered (answering features) first)) (answered (answering features) (lines text)) ((Decides-ltb limit (length text)).1 more) in
-          accepted apart few_covers ∙ (ap (by_lines of_points (answering features)) also
+          accepted o apart few_covers ∙ (ap (by_lines of_points (answering features)) also
           ∙ (ap (λ (a : Answered Text Text). by_refusal (out_of a) a.refusal) (is_long ∙ ap (answered_long of_points.too_long) (all_answered (answer_line faces file.scale features) first))
           ∙ ap (λ out. partly out of_points.too_long) (joined (answer_line faces file.scale features) first)))
 
-      pub answered_all : length text ≤ limit → outcome told (query_course index faces file points) ≡ output (exactly (output_of faces file.scale features text))
+      pub answered_all : length text ≤ limit → outcome told (query_course index order faces file points) ≡ output (exactly (output_of faces file.scale features text))
       unfolding output_of
       answered_all less =
-          accepted apart few_covers ∙ (ap (by_lines of_points (answering features)) also
+          accepted o apart few_covers ∙ (ap (by_lines of_points (answering features)) also
           ∙ (ap (λ (a : Answered Text Text). by_refusal (out_of a) a.refusal) (of_whole of_points (answering features) text less ∙ all_answered (answer_line faces file.scale features) (lines text))
           ∙ ap (λ out. output (exactly out)) (joined (answer_line faces file.scale features) (lines text))))

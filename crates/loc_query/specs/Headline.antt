@@ -1,10 +1,11 @@
--- The headline of the program, in the words of its user: what a query whose files are told answers.
-use Rattle.std.specs.Prelude.{◌≡◌, ◌⊎◌, ℕ, ◌+◌, ◌*◌, ◌<◌, ◌≤◌, Bool, List, length, Ok, Err, IsTrue, codes}
+-- The headline of the program, in the words of its user: what a query whose files are told answers. The words: `IsAccepted`, `IsOrderTold`, `IsInOrder`,
+-- `edge_count`, `steps_in`, `Headline`.
+use Rattle.std.specs.Prelude.{◌≡◌, ◌⊎◌, ℕ, ◌+◌, ◌*◌, ◌<◌, ◌≤◌, Bool, List, length, Option, Some, None, Ok, Err, IsTrue, ⊤, codes}
 use Rattle.std.specs.Io.KnownBytes.{Appends}
 use Rattle.loc_io.specs.Streams.{Stream}
-use Rattle.loc_io.specs.Meaning.{holds}
+use Rattle.loc_io.specs.Meaning.{Told, holds}
 use Rattle.loc_spec_plane.specs.Covers.{cover_sum}
-use Rattle.loc_spec_plane.specs.declared.Index.{Index}
+use Rattle.loc_spec_asked.specs.declared.Index.{Index}
 use Rattle.loc_spec_text.specs.Bytes.{lines}
 use Rattle.loc_spec_text.specs.Points.{ended}
 use Rattle.loc_rings.specs.Values.{Feature}
@@ -18,6 +19,9 @@ use Rattle.loc_maps.specs.Conflicts.{Accepts, names_conflict}
 use Rattle.loc_maps.specs.LineTexts.{layer_fault_text}
 use Rattle.loc_maps.specs.Located.{edges_of, table_in}
 use Rattle.loc_maps.specs.MapCourses.{LayerFile, limit}
+use Rattle.loc_trapdag.specs.Orders.{order_of}
+use Rattle.loc_trapdag.specs.declared.order.OrderFault.{OrderFault}
+use Rattle.loc_orders.specs.OrderTexts.{order_fault_text}
 use Rattle.loc_query.specs.Answered.{output_of, output_within}
 use Rattle.loc_query.specs.QueryCourses.{steps_by}
 
@@ -28,19 +32,33 @@ pub record IsAccepted (file : LayerFile) (layer : Text) (features : List Feature
   pub apart : Accepts features
   pub few_covers : cover_sum (table_in features) ≤ 16777216
 
+-- the text of the order's file is told, if one is named
+abbrev pub IsOrderTold : (Text → Told) → Option Text → Type 0
+IsOrderTold told None = ⊤
+IsOrderTold told (Some name) = (text : Text) × (told name ≡ holds text)
+
+-- the text of the order's file, if one is named, is told and within the limit, and has each of so many edges in one line
+abbrev pub IsInOrder : (Text → Told) → Option Text → ℕ → Type 0
+IsInOrder told None edges = ⊤
+IsInOrder told (Some name) edges = (text : Text) × (told name ≡ holds text) × (length text ≤ limit) × (order : List ℕ) × (order_of edges text ≡ Ok order)
+
+-- the edges of a layer
+abbrev pub edge_count : List Feature → ℕ
+edge_count features = length (table_in features).ends
+
 -- the steps of an answer at most, where the layer reads
 abbrev pub steps_in : Index → LayerRead → ℕ
 steps_in index (Ok features) = steps_by index (table_in features)
 steps_in index (Err fault) = 0
 
--- The texts of the layer and of the points are those told of their files. With `faces` the answers name the number of each open face. An answer may want memory: the status is 5 then, and nothing is on out.
-pub record Headline (index : Index) (faces : Bool) (file : LayerFile) (points : Text) (old new : Moment) (n n' : Stream) (status : ℕ) : Type 0 where
-  -- With status 0 the layer is accepted, the points are within the limit, and out has grown by exactly the defined answers.
-  pub done : (layer text : Text) → old.shelf.told file.name ≡ holds layer → old.shelf.told points ≡ holds text → status ≡ 0
-      → (features : List Feature) × IsAccepted file layer features × (length text ≤ limit) × Appends old.out.written new.out.written (output_of faces file.scale features text)
-  -- The status is 0 for every accepted layer and points within the limit, unless a read or a write failed.
+-- The texts of the layer, of the order and of the points are those told of their files. With `faces` the answers name the number of each open face. An answer may want memory: the status is 5 then, and nothing is on out.
+pub record Headline (index : Index) (order : Option Text) (faces : Bool) (file : LayerFile) (points : Text) (old new : Moment) (n n' : Stream) (status : ℕ) : Type 0 where
+  -- With status 0 the layer is accepted, the order is one of its edges, the points are within the limit, and out has grown by exactly the defined answers.
+  pub done : (layer text : Text) → old.shelf.told file.name ≡ holds layer → old.shelf.told points ≡ holds text → IsOrderTold old.shelf.told order → status ≡ 0
+      → (features : List Feature) × IsAccepted file layer features × IsInOrder old.shelf.told order (edge_count features) × (length text ≤ limit) × Appends old.out.written new.out.written (output_of faces file.scale features text)
+  -- The status is 0 for every accepted layer, order of its edges and points within the limit, unless a read or a write failed.
   pub answers : (layer text : Text) (features : List Feature) → old.shelf.told file.name ≡ holds layer → old.shelf.told points ≡ holds text
-      → IsAccepted file layer features → length text ≤ limit → Steady old.shelf.read_faults new.shelf.read_faults → Steady old.out.faults new.out.faults
+      → IsAccepted file layer features → IsInOrder old.shelf.told order (edge_count features) → length text ≤ limit → Steady old.shelf.read_faults new.shelf.read_faults → Steady old.out.faults new.out.faults
       → ((status ≡ 0) × Appends old.out.written new.out.written (output_of faces file.scale features text)) ⊎ ((status ≡ 5) × (new.out.written ≡ old.out.written))
   -- Else, unless a read failed, it is 1, nothing is on out, and the line on notes is that of the cause: the layer is too long,
   pub layer_long : (layer : Text) → old.shelf.told file.name ≡ holds layer → limit < length layer → Steady old.shelf.read_faults new.shelf.read_faults
@@ -48,17 +66,25 @@ pub record Headline (index : Index) (faces : Bool) (file : LayerFile) (points : 
   -- or is at fault,
   pub layer_fault : (layer : Text) (fault : LayerFault) → old.shelf.told file.name ≡ holds layer → length layer ≤ limit → layer_of file.form file.scale layer ≡ Err fault → Steady old.shelf.read_faults new.shelf.read_faults
       → ((status ≡ 1) × (new.out.written ≡ old.out.written) × Wrote n n' (ended (layer_fault_text file.form fault))) ⊎ ((status ≡ 5) × (new.out.written ≡ old.out.written))
-  -- or two of its edges conflict, and the line names two that do,
+  -- or it reads, and the order is too long,
+  pub order_long : (layer text name : Text) (features : List Feature) → order ≡ Some name → old.shelf.told file.name ≡ holds layer → length layer ≤ limit → layer_of file.form file.scale layer ≡ Ok features
+      → old.shelf.told name ≡ holds text → limit < length text → Steady old.shelf.read_faults new.shelf.read_faults
+      → ((status ≡ 1) × (new.out.written ≡ old.out.written) × Wrote n n' (ended (codes "order: too long"))) ⊎ ((status ≡ 5) × (new.out.written ≡ old.out.written))
+  -- or is at fault,
+  pub order_fault : (layer text name : Text) (features : List Feature) (fault : OrderFault) → order ≡ Some name → old.shelf.told file.name ≡ holds layer → length layer ≤ limit → layer_of file.form file.scale layer ≡ Ok features
+      → old.shelf.told name ≡ holds text → length text ≤ limit → order_of (edge_count features) text ≡ Err fault → Steady old.shelf.read_faults new.shelf.read_faults
+      → ((status ≡ 1) × (new.out.written ≡ old.out.written) × Wrote n n' (ended (order_fault_text fault))) ⊎ ((status ≡ 5) × (new.out.written ≡ old.out.written))
+  -- or two edges of the layer conflict, and the line names two that do,
   pub conflict : (layer : Text) (features : List Feature) → old.shelf.told file.name ≡ holds layer → length layer ≤ limit → layer_of file.form file.scale layer ≡ Ok features
-      → IsTrue (has_conflict (edges_of features)) → Steady old.shelf.read_faults new.shelf.read_faults
+      → IsInOrder old.shelf.told order (edge_count features) → IsTrue (has_conflict (edges_of features)) → Steady old.shelf.read_faults new.shelf.read_faults
       → ((status ≡ 1) × (new.out.written ≡ old.out.written) × (line : Text) × IsTrue (names_conflict file.scale (edges_of features) line) × Wrote n n' line) ⊎ ((status ≡ 5) × (new.out.written ≡ old.out.written))
   -- or its distinct cover lists have too many members together,
   pub covers : (layer : Text) (features : List Feature) → old.shelf.told file.name ≡ holds layer → length layer ≤ limit → layer_of file.form file.scale layer ≡ Ok features
-      → Accepts features → 16777216 < cover_sum (table_in features) → Steady old.shelf.read_faults new.shelf.read_faults
+      → IsInOrder old.shelf.told order (edge_count features) → Accepts features → 16777216 < cover_sum (table_in features) → Steady old.shelf.read_faults new.shelf.read_faults
       → ((status ≡ 1) × (new.out.written ≡ old.out.written) × Wrote n n' (ended (codes "layer: covers past 16777216"))) ⊎ ((status ≡ 5) × (new.out.written ≡ old.out.written))
   -- or the layer is accepted and the points are too long: then the lines that end within the limit are answered, unless a write failed.
   pub points_long : (layer text : Text) (features : List Feature) → old.shelf.told file.name ≡ holds layer → old.shelf.told points ≡ holds text
-      → IsAccepted file layer features → limit < length text → Steady old.shelf.read_faults new.shelf.read_faults → Steady old.out.faults new.out.faults
+      → IsAccepted file layer features → IsInOrder old.shelf.told order (edge_count features) → limit < length text → Steady old.shelf.read_faults new.shelf.read_faults → Steady old.out.faults new.out.faults
       → ((status ≡ 1) × Appends old.out.written new.out.written (output_within limit faces file.scale features text) × Wrote n n' (ended (codes "points: too long"))) ⊎ ((status ≡ 5) × (new.out.written ≡ old.out.written))
   -- So many steps were counted at most for each line of the points.
   pub steps : (layer text : Text) → old.shelf.told file.name ≡ holds layer → old.shelf.told points ≡ holds text

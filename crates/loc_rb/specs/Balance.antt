@@ -1,4 +1,4 @@
--- Red-black trees and their depth.
+-- Red-black trees and their depth. The words: `IsBlackTop`, `MayHang`, `black`, `HasBlackHeight`, `IsRedBlack`, `depth`, `MayBe`, `Takes`, `Awaits`.
 use Rattle.std.specs.Prelude.{◌≡◌, ℕ, ◌+◌, max, List, [], ◌∷◌}
 use Rattle.loc_pool.specs.declared.Colour.{Colour}
 use Rattle.loc_pool.specs.declared.Colour.TheVariants.{Red, Black}

@@ -1,4 +1,5 @@
--- What the nodes are, and what each call does to them.
+-- What the nodes are, and what each call does to them. The words: `Nodes`, `live`, `HasRow`, `IsLive`, `IsLiveOrNone`, `IsOld`, `KeepsItems`, `Makes`,
+-- `Colours`, `Roots`, `IsFrom`, `CanChange`, `StandsFor`, `StandFor`, `Exchanges`, `Changes`, `Within`.
 use Rattle.std.specs.Prelude.{◌≡◌, ◌≢◌, ◌⊎◌, ℕ, Bool, true, List, [], ◌∷◌, Option, None, Some, cond, ◌+◌, ◌*◌, ◌≤◌}
 use Rattle.std.specs.List.{AllByRecursion}
 use Rattle.loc_pool.specs.declared.Link.{Link}

@@ -1,4 +1,4 @@
--- The list of the nodes, and places in it.
+-- The list of the nodes, and places in it. The words: `Spot`, `Holds`, `LeadsToGap`, `LeadsTo`, `Walk`, `Found`.
 use Rattle.std.specs.Prelude.{◌≡◌, ℕ, List, ◌∷◌, ◌++◌, Option, None, Some}
 use Rattle.loc_pool.specs.declared.Link.{Link}
 use Rattle.loc_pool.specs.declared.Turn.{Turn}

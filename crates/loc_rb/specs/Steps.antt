@@ -1,4 +1,5 @@
--- What the steps inside an insertion or a removal start from and lead to.
+-- What the steps inside an insertion or a removal start from and lead to. The words: `CanTransplant`, `ToRotate`, `NodeAt`, `Replaced`, `IsRedTop`,
+-- `RedViolation`, `RedPair`, `OuterPair`, `LacksBlack`, `Uneven`, `Siblings`, `MissesChild`, `remaining`, `ToSpliceOut`, `LeftmostPath`.
 use Rattle.std.specs.Prelude.{◌≡◌, ◌⊎◌, ℕ, ◌+◌, List, [], ◌∷◌, ◌++◌, Option, Some}
 use Rattle.loc_pool.specs.declared.Link.{Link}
 use Rattle.loc_pool.specs.declared.Turn.{Turn}

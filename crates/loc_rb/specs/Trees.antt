@@ -1,4 +1,6 @@
--- Trees over rows: which links stand where.
+-- Trees over rows: which links stand where. The words: `Row`, `Reading`, `with_child`, `child_of`, `flip`, `Tree`, `top`, `items`, `Fits`, `count`,
+-- `IsApart`, `Frame`, `node_at`, `under`, `plug`, `entries`, `SameButLinks`, `lower`, `higher`, `before`, `after`, `links_of`, `next`, `Once`, `Leads`,
+-- `Carried`.
 use Rattle.std.specs.Prelude.{◌≡◌, ◌≢◌, ℕ, List, [], ◌∷◌, ◌++◌, map, Option, None, Some, cond, ◌+◌, ◌≤◌}
 use Rattle.std.specs.List.{AllByRecursion}
 use Rattle.loc_pool.specs.declared.Link.{Link}

@@ -1,4 +1,4 @@
--- What is kept of polygons: their rings one after another, and for each polygon the number of its first ring.
+-- What is kept of polygons: their rings one after another, and for each polygon the number of its first ring. The words: `RiseTo`, `BeginAtZero`, `AreKept`.
 use Rattle.std.specs.Prelude.{◌≡◌, ℕ, ◌≤◌, ◌^◌, List, [], ◌∷◌, length, All}
 use Rattle.loc_spec_plane.specs.Rings.{Rings}
 use Rattle.loc_rings.specs.Values.{IsRing}

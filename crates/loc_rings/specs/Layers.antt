@@ -1,4 +1,4 @@
--- The features of a layer and its limits.
+-- The features of a layer and its limits. The words: `point_count`, `points_of`, `IsLayer`.
 use Rattle.std.specs.Prelude.{ℕ, ◌≤◌, ◌^◌, List, length, sum_by}
 use Rattle.loc_rings.specs.Values.{Feature, rings_of}
 

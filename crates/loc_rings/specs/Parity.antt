@@ -1,4 +1,4 @@
--- What one pass over segments answers.
+-- What one pass over segments answers. The word: `IsParity`.
 use Rattle.std.specs.Prelude.{◌≡◌, Bool, not, List, Option, Some, None, IsTrue}
 use Rattle.std.specs.List.{list_any}
 use Rattle.loc_spec_plane.specs.Points.{Point, Edge, lies_on}

@@ -1,4 +1,4 @@
--- Rings, polygons and features as values.
+-- Rings, polygons and features as values. The words: `IsRing`, `with_ring`, `rings_before`, `cut_into`, `Feature`, `rings_of`.
 use Rattle.std.specs.Prelude.{◌≡◌, ℕ, ◌-◌, ◌≤◌, List, [], ◌∷◌, ◌++◌, length, take, drop, slice_get}
 use Rattle.loc_spec_plane.specs.Rings.{Ring, Rings}
 use Rattle.loc_spec_text.specs.Reading.{Polygons, all_rings}

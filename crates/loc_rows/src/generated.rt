@@ -24,7 +24,7 @@ const NEST: &[u8] = b"POLYGON ((0 0, 8 0, 8 8, 0 8, 0 0))\nPOLYGON ((1 1, 7 1, 7
 
 const FIRST: &[u8] = b"POLYGON ((0 0, 8 0, 8 8, 0 8, 0 0))\n";
 
-const ROWS: [Row; 13] = [
+const ROWS: [Row; 14] = [
     (&["gen", "nest", "2", "0"], 0, 0, NEST, b""),
     (&["gen", "nest", "2", "0"], 2, 4, FIRST, b"write failed\n"),
     (&["gen", "strips", "0", "7"], 0, 0, b"", b""),
@@ -58,6 +58,13 @@ const ROWS: [Row; 13] = [
     ),
     (
         &["trial", "nest", "2", "0", "--index", "scan"],
+        0,
+        0,
+        b"trial nest 2 0 corners 8 edges 8 corner 2 border 0 face 0 on 2 in 1\n",
+        b"",
+    ),
+    (
+        &["trial", "nest", "2", "0", "--index", "trap"],
         0,
         0,
         b"trial nest 2 0 corners 8 edges 8 corner 2 border 0 face 0 on 2 in 1\n",
@@ -153,6 +160,19 @@ const STRIPS: [(u64, &str); 3] = [
 ];
 
 #[test]
+fn strips_by_trapezoids(rt: HostRuntime) -> Result<(), Fail> {
+    let alloc = rt.alloc();
+    let words = ["trial", "strips", "16384", "1", "--index", "trap"];
+    let outcome = outcome_of(alloc, &words, MemShelf::new(alloc, Vec::new(alloc)), 0, 0)?;
+    assert_eq!(rt; outcome.status, 0);
+    assert_eq!(rt;
+        outcome.out.bytes(),
+        b"trial strips 16384 1 corners 65536 edges 65536 corner 2 border 8182 face 8200 on 8184 in 0\n".as_slice()
+    );
+    Ok(())
+}
+
+#[test]
 fn nodes_of_strips(rt: HostRuntime) -> Result<(), Fail> {
     let alloc = rt.alloc();
     for (n, counts) in STRIPS {
@@ -209,5 +229,12 @@ fn points_many_times_over(rt: HostRuntime) -> Result<(), Fail> {
     for again in out.chunks(first.len()) {
         assert!(rt; again == first);
     }
+    let shelf = shelf_of(alloc, layer.bytes(), &points, 0)?;
+    let words = [
+        "query", "layer", "points", "--scale", "0", "--index", "trap",
+    ];
+    let by_trapezoids = outcome_of(alloc, &words, shelf, 0, 0)?;
+    assert_eq!(rt; by_trapezoids.status, 0);
+    assert!(rt; by_trapezoids.out.bytes() == out);
     Ok(())
 }

@@ -13,4 +13,6 @@ mod indexed;
 #[cfg(test)]
 mod legends;
 #[cfg(test)]
+mod orders;
+#[cfg(test)]
 mod tests;

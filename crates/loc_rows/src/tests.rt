@@ -9,7 +9,7 @@ use std::marker::Brand;
 use std::sync::ledger::{Blank, Ledger};
 use std::test::Fail;
 
-const SQUARE: &[u8] = b"POLYGON ((0 0, 4 0, 4 4, 0 4, 0 0))\n";
+pub(crate) const SQUARE: &[u8] = b"POLYGON ((0 0, 4 0, 4 4, 0 4, 0 0))\n";
 
 // Points inside, outside, at corners, on a border, and in the open face beside.
 pub(crate) const POINTS: &[u8] = b"2 2\n5 2\n0 0\n4 4\n4 2\n4 5\n0 -1\n-1 4\n5 0\n";
@@ -20,7 +20,7 @@ pub(crate) const ANSWERS: &[u8] =
 const BOW_TIE: &[u8] = b"POLYGON ((0 0, 4 4, 4 0, 0 4, 0 0))";
 
 // The layer, the points, the scale, the status, and what stands on out and on notes.
-type Row = (
+pub(crate) type Row = (
     &'static [u8],
     &'static [u8],
     &'static str,
@@ -29,7 +29,7 @@ type Row = (
     &'static [u8],
 );
 
-const ROWS: [Row; 31] = [
+pub(crate) const ROWS: [Row; 31] = [
     (SQUARE, POINTS, "0", 0, ANSWERS, b""),
     (
         b"POLYGON((0 0,2 -2,4 0,2 2,0 0))",
@@ -253,7 +253,7 @@ const ROWS: [Row; 31] = [
 ];
 
 pub(crate) const USAGE: &[u8] =
-    b"usage: locate query LAYER POINTS --scale K [--form lines|csv] [--index scan|tree] [--faces]\n       locate check LAYER --scale K [--form lines|csv]\n       locate ask INDEX POINTS\n       locate face LAYER POINT --scale K [--form lines|csv]\n       locate gen KIND N SHIFT\n       locate trial KIND N SHIFT [--index scan|tree]\n";
+    b"usage: locate query LAYER POINTS --scale K [--form lines|csv] [--index scan|tree|trap] [--order FILE | --shuffle N] [--faces]\n       locate check LAYER --scale K [--form lines|csv]\n       locate build LAYER INDEX --scale K [--form lines|csv]\n       locate ask INDEX POINTS\n       locate face LAYER POINT --scale K [--form lines|csv]\n       locate gen KIND N SHIFT\n       locate trial KIND N SHIFT [--index scan|tree|trap]\n";
 
 // Words that are no command.
 const REFUSED: [[&str; 5]; 6] = [
@@ -396,10 +396,11 @@ fn status<L: Ledger>(
     run(alloc, words, shelf, out, notes, &mut steps)
 }
 
-// What a run leaves: its status, and what stands on out and on notes.
+// What a run leaves: its status, its files, and what stands on out and on notes.
 #[derive(Drop)]
 pub(crate) struct Outcome {
     pub(crate) status: u8,
+    pub(crate) shelf: MemShelf,
     pub(crate) out: MemSink,
     pub(crate) notes: MemSink,
 }
@@ -423,14 +424,19 @@ pub(crate) fn outcome_of(
         &mut notes,
         Blank::new(1),
     );
-    Ok(Outcome { status, out, notes })
+    Ok(Outcome {
+        status,
+        shelf,
+        out,
+        notes,
+    })
 }
 
 #[test]
 fn worked_layers(rt: HostRuntime) -> Result<(), Fail> {
     let alloc = rt.alloc();
     for (layer, points, scale, status, out, notes) in ROWS {
-        for index in ["scan", "tree"] {
+        for index in ["scan", "tree", "trap"] {
             let shelf = shelf_of(alloc, layer, points, 0)?;
             let words = [
                 "query", "layer", "points", "--scale", scale, "--index", index,

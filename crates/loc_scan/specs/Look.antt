@@ -1,4 +1,4 @@
--- What a look at an edge shows.
+-- What a look at an edge shows. The word: `IsLook`.
 use Rattle.std.specs.Prelude.{ℕ, IsTrue, not}
 use Rattle.loc_spec_plane.specs.Points.{Point, lies_on}
 use Rattle.loc_spec_plane.specs.Tables.{Table, edge}

@@ -1,4 +1,5 @@
--- How far a sweep has come: what its status means between two corners, and what it has noted.
+-- How far a sweep has come: what its status means between two corners, and what it has noted. The words: `IsBefore`, `Leaves`, `Comes`, `AreNextBelow`,
+-- `IsNoted`, `HasSealed`.
 use Rattle.std.specs.Prelude.{◌≡◌, ◌≢◌, ℕ, ◌+◌, ◌-◌, ◌<◌, ◌≤◌, false, List, [], length, get_or, Option, None, IfSome}
 use Rattle.loc_spec_plane.specs.Points.{is_above}
 use Rattle.loc_spec_plane.specs.Tables.{Table, corner, edge, lo_of}

@@ -1,45 +1,55 @@
 -- What holds of a run, by the course of its words.
 use Rattle.std.proofs.Common.{◌≡◌, ◌≢◌, ◌⊎◌, ℕ, ◌≤◌, ap, Option, Some, None, refl, sym, ◌∙◌, subst, inl, inr, arith}
-use Rattle.std.specs.Prelude.{IfSome, option_map}
+use Rattle.std.specs.Prelude.{IfSome, option_and_then, option_map}
 use Rattle.loc_io.specs.Meaning.{KeepsFiles}
 use Rattle.loc_io.specs.Streams.{Stream}
-use Rattle.loc_words.specs.Words.{Asked, query, check, ask, face, gen, trial}
+use Rattle.loc_words.specs.Words.{Asked, query, check, build, ask, face, gen, trial}
 use Rattle.loc_course.specs.Courses.{Text, Course, no_memory}
 use Rattle.loc_course.specs.Following.{lacks}
 use Rattle.loc_course.specs.Moments.{Moment}
-use Rattle.loc_course.specs.Sentences.{InTimes, IsPlain, MakesNone, MayRefuseBehind, NoCountRose, Notes, ReadsFail, Sentences, Wrote, note_of}
+use Rattle.loc_course.specs.Sentences.{Ended, InTimes, IsPlain, MakesNone, MayMake, MayRefuseBehind, NoCountRose, Notes, ReadsFail, Sentences, Wrote, note_of}
 use Rattle.loc_course.proofs.Plain.{none_behind}
 use Rattle.loc_course.proofs.Statuses.{ended_so, in_range, never_two}
+use Rattle.loc_indexed.specs.Building.{build_course, is_index_text}
 use Rattle.loc_indexed.proofs.Behind.{ask_makes_none, ask_refuses_behind}
+use Rattle.loc_indexed.proofs.MadeCourses.{makes_one, writes_at_once}
 use Rattle.loc_maps.specs.MapCourses.{layer_file}
 use Rattle.loc_maps.proofs.Checked.{check_plain}
 use Rattle.loc_query.proofs.Headlines.{query_makes_none, query_refuses_behind}
 use Rattle.loc_face.proofs.Plainly.{face_plain}
 use Rattle.loc_trial.proofs.Plain.{gen_plain, trial_plain}
-use Rattle.loc_top.specs.Run.{OutFails, OutOf, Ran, RefusesPoints, RefusesWords, course_by}
+use Rattle.loc_top.specs.Run.{AWriteFailed, FilesOf, OutOf, Ran, RefusesPoints, RefusesWords, WritesFail, course_by, made_by}
 
--- no command makes a file, and by these lines alone it refuses a file whose lines it answers
-pub record IsAnswering (c : Course) : Type 0 where
-  pub makes_none : MakesNone c
+-- a command makes no file but this, and by these lines alone it refuses a file whose lines it answers
+pub record IsAnswering (made : Option Text) (c : Course) : Type 0 where
+  pub makes : (name : Text) → made ≢ Some name → MayMake c name → ⊥
   pub line : (line : Text) → MayRefuseBehind c line → RefusesPoints line
 
 -- a course that writes at once and makes no file does so
-plain_answering : (c : Course) → IsPlain c → IsAnswering c
-plain_answering c plain = record { makes_none = plain.makes_none; line = λ line by. absurd (none_behind c line plain.at_once by) }
+plain_answering : (made : Option Text) (c : Course) → IsPlain c → IsAnswering made c
+plain_answering made c plain = record { makes = λ name differ. plain.makes_none name; line = λ line by. absurd (none_behind c line plain.at_once by) }
 
-answering : (a : Asked) → IsAnswering (course_by a)
+answering : (a : Asked) → IsAnswering (made_by a) (course_by a)
 answering (query asked) =
     let file = layer_file asked.layer asked.form asked.scale in
-    record { makes_none = query_makes_none asked.index asked.faces file asked.points; line = λ line by. inl (query_refuses_behind asked.index asked.faces file asked.points line by) }
-answering (check asked) = plain_answering (course_by (check asked)) (check_plain (layer_file asked.layer asked.form asked.scale))
-answering (ask asked) = record { makes_none = ask_makes_none asked.index asked.points; line = ask_refuses_behind asked.index asked.points }
-answering (face asked) = plain_answering (course_by (face asked)) (face_plain (layer_file asked.layer asked.form asked.scale) asked.point)
-answering (gen asked) = plain_answering (course_by (gen asked)) (gen_plain asked.kind asked.n asked.shift)
-answering (trial asked) = plain_answering (course_by (trial asked)) (trial_plain asked.index asked.kind asked.n asked.shift)
+    record { makes = λ name differ. query_makes_none asked.index asked.order asked.faces file asked.points name; line = λ line by. inl (query_refuses_behind asked.index asked.order asked.faces file asked.points line by) }
+answering (check asked) = plain_answering None (course_by (check asked)) (check_plain (layer_file asked.layer asked.form asked.scale))
+answering (build asked) =
+    let file = layer_file asked.layer asked.form asked.scale in
+    let passes = is_index_text asked.scale in
+    record { makes = λ name differ. makes_one passes file asked.index name (λ same. differ (ap Some (sym same))); line = λ line by. absurd (none_behind (build_course file asked.index) line (writes_at_once passes file asked.index) by) }
+answering (ask asked) = record { makes = λ name differ. ask_makes_none asked.index asked.points name; line = ask_refuses_behind asked.index asked.points }
+answering (face asked) = plain_answering None (course_by (face asked)) (face_plain (layer_file asked.layer asked.form asked.scale) asked.point)
+answering (gen asked) = plain_answering None (course_by (gen asked)) (gen_plain asked.kind asked.n asked.shift)
+answering (trial asked) = plain_answering None (course_by (trial asked)) (trial_plain asked.index asked.kind asked.n asked.shift)
 
-answering_of : (o : Option Asked) (c : Course) → option_map course_by o ≡ Some c → IsAnswering c
+answering_of : (o : Option Asked) (c : Course) → option_map course_by o ≡ Some c → IsAnswering (option_and_then made_by o) c
 answering_of None c is = absurd (cc is)
-answering_of (Some a) c is = let same : course_by a ≡ c = cc is in subst IsAnswering same (answering a)
+answering_of (Some a) c is = let same : course_by a ≡ c = cc is in subst (IsAnswering (made_by a)) same (answering a)
+
+-- a course makes no file where its command names none
+makes_none : (made : Option Text) (c : Course) → IsAnswering made c → made ≡ None → MakesNone c
+makes_none made c p none name = p.makes name (λ some. let differ = none in cc (differ, some))
 
 -- memory was wanting for the words
 pub lacks_words : (o : Option Course) (old : Moment) (n n' : Stream) (status : ℕ) → status ≡ 5 → Wrote n n' (note_of no_memory) → Ran o old old n n' status
@@ -89,44 +99,53 @@ module _ (old new : Moment) (n n' : Stream) (status : ℕ) where
   range (Some c) ran = let k = in_range ran.end in let is = ran.status_is in omega (arith, k, is)
   range None ran = elim ran.noted [ inl words ↦ omega (arith, words.0) | inr memory ↦ omega (arith, memory.0) ]
 
-  -- the sentences of a course that the words are known to have
+  -- a course that the words are known to have was followed to the end
+  pub ended_of : (o : Option Course) → Ran o old new n n' status → (c : Course) → o ≡ Some c → Ended c old new n n' status
+  ended_of None ran c is = absurd (cc is)
+  ended_of (Some d) ran c is = let same : d ≡ c = cc is in subst (λ (x : Course). Ended x old new n n' status) same ran
+
+  -- and its sentences hold
   pub sentences_of : (o : Option Course) → Ran o old new n n' status → (c : Course) → o ≡ Some c → Sentences c old new n n' status
-  sentences_of None ran c is = absurd (cc is)
-  sentences_of (Some d) ran c is = let same : d ≡ c = cc is in subst (λ (x : Course). Sentences x old new n n' status) same (ended_so ran)
+  sentences_of o ran c is = ended_so (ended_of o ran c is)
 
   module _ (a : Option Asked) (ran : Ran (option_map course_by a) old new n n' status) where
-    kept : (o : Option Course) → option_map course_by a ≡ o → Ran o old new n n' status
-        → KeepsFiles old.shelf new.shelf × (new.shelf.write_faults ≡ old.shelf.write_faults) × OutOf o old new n n' status × OutFails old new status
+    kept : (o : Option Course) → option_map course_by a ≡ o → Ran o old new n n' status → FilesOf a old new status × OutOf o old new n n' status × WritesFail a old new status
     kept None is r =
         let same : new.out.faults ≡ old.out.faults = ap (λ (x : Moment). x.out.faults) r.same in
-        let two_or_five : (status ≡ 2) ⊎ (status ≡ 5) = elim r.noted [ inl words ↦ inl words.0 | inr memory ↦ inr memory.0 ] in (
-          λ name. ap (λ (x : Moment). x.shelf.told name) r.same,
-          ap (λ (x : Moment). x.shelf.write_faults) r.same,
+        let as_many : new.shelf.write_faults ≡ old.shelf.write_faults = ap (λ (x : Moment). x.shelf.write_faults) r.same in
+        let files : KeepsFiles old.shelf new.shelf = λ name. ap (λ (x : Moment). x.shelf.told name) r.same in
+        let two_or_five : (status ≡ 2) ⊎ (status ≡ 5) = elim r.noted [ inl words ↦ inl words.0 | inr memory ↦ inr memory.0 ] in
+        let never_four : status ≡ 4 → ⊥ = λ four. absurd (other 4 two_or_five (λ e. omega (arith, e)) (λ e. omega (arith, e)) four) in (
+          record { others = λ name _. inl (files name); kept = λ _ _. files; none = λ _. (files, as_many) },
           record { grows = tt; kept = λ _. ap (λ (x : Moment). x.out.written) r.same; refused = λ one. absurd (other 1 two_or_five (λ e. omega (arith, e)) (λ e. omega (arith, e)) one); at_once = tt },
-          λ below. (λ four. absurd (other 4 two_or_five (λ e. omega (arith, e)) (λ e. omega (arith, e)) four), λ rose. absurd (omega (arith, rose, same))),
+          record { rose = λ either. elim either [ inl rose ↦ absurd (omega (arith, rose, same)) | inr rose ↦ absurd (omega (arith, rose, as_many)) ]; only = λ four _ _. absurd (never_four four); only_out = λ _ four _. absurd (never_four four) },
         )
     kept (Some c) is r =
         let s = ended_so r in
         let p = answering_of a c is in (
-          s.files.all p.makes_none,
-          s.files.steady p.makes_none,
+          record {
+            others = λ name differ. s.files.others name (p.makes name differ);
+            kept = s.files.kept;
+            none = λ none. (s.files.all (makes_none _ c p none), s.files.steady (makes_none _ c p none));
+          },
           record {
             grows = s.out.grows;
             kept = λ either. elim either [ inl two ↦ absurd (never_two r.end (sym r.status_is ∙ two)) | inr five ↦ s.out.memory five ];
             refused = λ one. elim (s.out.refused one) [ inl same ↦ inl same | inr by ↦ inr (by.0, p.line by.0 by.1, by.2) ];
             at_once = s.out.kept;
           },
-          λ below. (λ four. elim (s.writes_fail.only four) [ inl rose ↦ omega (arith, rose, below) | inr by ↦ absurd (p.makes_none by.0 by.1) ], λ rose. s.writes_fail.rose (inl rose)),
+          record {
+            rose = s.writes_fail.rose;
+            only = λ four out files. elim (s.writes_fail.only four) [ inl rose ↦ inl (omega (arith, rose, out)) | inr by ↦ let rose = by.2 in inr (omega (arith, rose, files)) ];
+            only_out = λ none four out. elim (s.writes_fail.only four) [ inl rose ↦ omega (arith, rose, out) | inr by ↦ absurd (makes_none _ c p none by.0 by.1) ];
+          },
         )
 
-    pub keeps_files : KeepsFiles old.shelf new.shelf
-    keeps_files = (kept (option_map course_by a) refl ran).0
-
-    pub no_file_made : new.shelf.write_faults ≡ old.shelf.write_faults
-    no_file_made = (kept (option_map course_by a) refl ran).1
+    pub files_of : FilesOf a old new status
+    files_of = (kept (option_map course_by a) refl ran).0
 
     pub out_of : OutOf (option_map course_by a) old new n n' status
-    out_of = (kept (option_map course_by a) refl ran).2
+    out_of = (kept (option_map course_by a) refl ran).1
 
-    pub writes_fail : OutFails old new status
-    writes_fail = (kept (option_map course_by a) refl ran).3
+    pub writes_fail : WritesFail a old new status
+    writes_fail = (kept (option_map course_by a) refl ran).2

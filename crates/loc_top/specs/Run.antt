@@ -1,18 +1,24 @@
 -- What a run is, by its words. The words:
 --   course_by, course_of  the course of a command, and of words that are one
+--   made_by               the file that a command makes
 --   Untouched, Ran        what a run of words comes to
 --   RefusesWords          words that are no command
---   OutOf, OutFails       what stands on out, and when a write on it failed
-use Rattle.std.specs.Prelude.{◌≡◌, ◌≢◌, ◌⊎◌, ℕ, ◌-◌, ◌^◌, ◌<◌, List, Option, Some, None, IfSome, option_map, codes}
+--   OutOf                 what stands on out
+--   AWriteFailed, WritesFail  when a write failed
+--   FilesOf               which files change
+use Rattle.std.specs.Prelude.{◌≡◌, ◌≢◌, ◌⊎◌, ℕ, ◌-◌, ◌^◌, ◌<◌, List, Option, Some, None, IfSome, option_and_then, option_map, codes}
+use Rattle.loc_io.specs.Meaning.{KeepsFiles}
 use Rattle.loc_io.specs.Streams.{Stream}
 use Rattle.loc_spec_text.specs.Points.{ended}
 use Rattle.loc_words.specs.Usage.{usage_text}
-use Rattle.loc_words.specs.Words.{Asked, query, check, ask, face, gen, trial, command_of}
+use Rattle.loc_words.specs.Words.{Asked, query, check, build, ask, face, gen, trial, command_of}
 use Rattle.loc_course.specs.Courses.{Text, Course, no_memory}
+use Rattle.loc_course.specs.Following.{IsToldAtMost}
 use Rattle.loc_course.specs.Moments.{Moment}
 use Rattle.loc_course.specs.Outcomes.{outcome}
 use Rattle.loc_course.specs.Sentences.{AtOnce, Ended, OutSo, Wrote, note_of}
 use Rattle.loc_answering.specs.ByLine.{deep_text}
+use Rattle.loc_indexed.specs.Building.{build_course}
 use Rattle.loc_indexed.specs.IndexedCourses.{ask_course}
 use Rattle.loc_maps.specs.MapCourses.{check_course, layer_file}
 use Rattle.loc_query.specs.QueryCourses.{query_course}
@@ -21,12 +27,18 @@ use Rattle.loc_trial.specs.TrialCourses.{gen_course, trial_course}
 
 -- the course of a command
 abbrev pub course_by : Asked → Course
-course_by (query asked) = query_course asked.index asked.faces (layer_file asked.layer asked.form asked.scale) asked.points
+course_by (query asked) = query_course asked.index asked.order asked.faces (layer_file asked.layer asked.form asked.scale) asked.points
 course_by (check asked) = check_course (layer_file asked.layer asked.form asked.scale)
+course_by (build asked) = build_course (layer_file asked.layer asked.form asked.scale) asked.index
 course_by (ask asked) = ask_course asked.index asked.points
 course_by (face asked) = face_course (layer_file asked.layer asked.form asked.scale) asked.point
 course_by (gen asked) = gen_course asked.kind asked.n asked.shift
 course_by (trial asked) = trial_course asked.index asked.kind asked.n asked.shift
+
+-- the file that a command makes, if it makes one
+abbrev pub made_by : Asked → Option Text
+made_by (build asked) = Some asked.index
+made_by other = None
 
 -- the course of the words, if they are a command
 abbrev pub course_of : List Text → Option Course
@@ -60,6 +72,19 @@ pub record OutOf (course : Option Course) (old new : Moment) (n n' : Stream) (st
   pub refused : status ≡ 1 → (new.out.written ≡ old.out.written) ⊎ ((line : Text) × RefusesPoints line × Wrote n n' line)
   pub at_once : IfSome course (λ (c : Course). AtOnce c → status ≢ 0 → status ≢ 4 → new.out.written ≡ old.out.written)
 
--- Status 4 comes exactly where the count of out rose. No file is made.
-abbrev pub OutFails : Moment → Moment → ℕ → Type 0
-OutFails old new status = old.out.faults < 2 ^ 64 - 1 → (status ≡ 4 → old.out.faults < new.out.faults) × (old.out.faults < new.out.faults → status ≡ 4)
+-- a count of writes rose: that of out, or that of files
+abbrev pub AWriteFailed : Moment → Moment → Type 0
+AWriteFailed old new = (old.out.faults < new.out.faults) ⊎ (old.shelf.write_faults < new.shelf.write_faults)
+
+-- Status 4 comes exactly where a count of writes rose, and where the words make no file, exactly where that of out did.
+pub record WritesFail (asked : Option Asked) (old new : Moment) (status : ℕ) : Type 0 where
+  pub rose : AWriteFailed old new → status ≡ 4
+  pub only : status ≡ 4 → old.out.faults < 2 ^ 64 - 1 → old.shelf.write_faults < 2 ^ 64 - 1 → AWriteFailed old new
+  pub only_out : option_and_then made_by asked ≡ None → status ≡ 4 → old.out.faults < 2 ^ 64 - 1 → old.out.faults < new.out.faults
+
+-- No file changes but the one that the command makes; where it begins to make it, others may no longer be told. With another status than 0 and 4 all
+-- files are as before. Where the words are no command that makes a file, all are as before, and no write of a file failed.
+pub record FilesOf (asked : Option Asked) (old new : Moment) (status : ℕ) : Type 0 where
+  pub others : (name : Text) → option_and_then made_by asked ≢ Some name → IsToldAtMost (old.shelf.told name) (new.shelf.told name)
+  pub kept : status ≢ 0 → status ≢ 4 → KeepsFiles old.shelf new.shelf
+  pub none : option_and_then made_by asked ≡ None → KeepsFiles old.shelf new.shelf × (new.shelf.write_faults ≡ old.shelf.write_faults)

@@ -1,21 +1,21 @@
 //! The top call: the words, the command, the status and the line on notes.
 
 ghost use Rattle.std.specs.Prelude.{◌≡◌, ◌≤◌, IfSome, Some, map, string_bytes};
-ghost use Rattle.loc_io.specs.Meaning.{KeepsFiles};
 ghost use Rattle.loc_io.specs.Streams.{InTime};
-ghost use Rattle.loc_words.specs.Words.{AskedAsk, AskedQuery, ask, command_of, query};
+ghost use Rattle.loc_words.specs.Words.{AskedAsk, AskedBuild, AskedQuery, ask, build, command_of, query};
 ghost use Rattle.loc_course.specs.Courses.{Course};
 ghost use Rattle.loc_course.specs.Moments.{moment};
 ghost use Rattle.loc_course.specs.Sentences.{Counts, Done, InTimes, Misses, Names, NoCountRose, Notes, ReadsFail, RefusedOnly, Refuses, RefusesPartly, Succeeds};
 ghost use Rattle.loc_indexed.specs.Asks.{Asks};
+ghost use Rattle.loc_indexed.specs.Builds.{Builds, Built};
 ghost use Rattle.loc_maps.specs.MapCourses.{layer_file};
 ghost use Rattle.loc_query.specs.Headline.{Headline};
-ghost use Rattle.loc_top.specs.Run.{OutFails, OutOf, Ran, RefusesWords, course_of};
+ghost use Rattle.loc_top.specs.Run.{FilesOf, OutOf, Ran, RefusesWords, WritesFail, course_of};
 
 use loc_course::{Scale, Stop, report, write_text};
 use loc_face::face;
 use loc_geom::Steps;
-use loc_indexed::ask;
+use loc_indexed::{ask, build};
 use loc_io::{Shelf, Sink};
 use loc_maps::check;
 use loc_query::query;
@@ -34,6 +34,7 @@ fn run_course<F: Shelf, O: Sink, N: Sink, L: Ledger>(
     steps: &mut Steps<L>,
 ) -> u8
     ensures ran { Ran (course_of (map string_bytes words.now)) (moment (F.meaning shelf.old) (O.meaning out.old) steps.old) (moment (F.meaning shelf.new) (O.meaning out.new) steps.new) (N.meaning notes.old) (N.meaning notes.new) result }
+    ensures built { (asked : AskedBuild) → command_of (map string_bytes words.now) ≡ Some (build asked) → Built (layer_file asked.layer asked.form asked.scale) asked.index (F.meaning shelf.old) (F.meaning shelf.new) result }
     ensures notes_in_time { InTime (N.meaning notes.old) (N.meaning notes.new) }
 {
     match command_of(alloc, words) {
@@ -45,6 +46,8 @@ fn run_course<F: Shelf, O: Sink, N: Sink, L: Ledger>(
                 asked.form,
                 Scale::new(asked.scale),
                 asked.index,
+                asked.order,
+                asked.shuffle,
                 asked.faces,
                 shelf,
                 out,
@@ -55,6 +58,11 @@ fn run_course<F: Shelf, O: Sink, N: Sink, L: Ledger>(
         Ok(Command::Check(asked)) => {
             let scale = Scale::new(asked.scale);
             let outcome = check(alloc, asked.layer, asked.form, scale, shelf, out);
+            report(outcome, notes)
+        }
+        Ok(Command::Build(asked)) => {
+            let scale = Scale::new(asked.scale);
+            let outcome = build(alloc, asked.layer, asked.index, asked.form, scale, shelf);
             report(outcome, notes)
         }
         Ok(Command::Ask(asked)) => {
@@ -108,9 +116,11 @@ pub fn run<F: Shelf, O: Sink, N: Sink, L: Ledger>(
     steps: &mut Steps<L>,
 ) -> u8
     ensures headline { (asked : AskedQuery) → command_of (map string_bytes words.now) ≡ Some (query asked)
-        → Headline asked.index asked.faces (layer_file asked.layer asked.form asked.scale) asked.points (moment (F.meaning shelf.old) (O.meaning out.old) steps.old) (moment (F.meaning shelf.new) (O.meaning out.new) steps.new) (N.meaning notes.old) (N.meaning notes.new) result }
+        → Headline asked.index asked.order asked.faces (layer_file asked.layer asked.form asked.scale) asked.points (moment (F.meaning shelf.old) (O.meaning out.old) steps.old) (moment (F.meaning shelf.new) (O.meaning out.new) steps.new) (N.meaning notes.old) (N.meaning notes.new) result }
     ensures asks { (asked : AskedAsk) → command_of (map string_bytes words.now) ≡ Some (ask asked)
         → Asks asked.index asked.points (moment (F.meaning shelf.old) (O.meaning out.old) steps.old) (moment (F.meaning shelf.new) (O.meaning out.new) steps.new) (N.meaning notes.old) (N.meaning notes.new) result }
+    ensures builds { (asked : AskedBuild) → command_of (map string_bytes words.now) ≡ Some (build asked)
+        → Builds (layer_file asked.layer asked.form asked.scale) asked.index (moment (F.meaning shelf.old) (O.meaning out.old) steps.old) (moment (F.meaning shelf.new) (O.meaning out.new) steps.new) (N.meaning notes.old) (N.meaning notes.new) result }
     ensures ran { Ran (course_of (map string_bytes words.now)) (moment (F.meaning shelf.old) (O.meaning out.old) steps.old) (moment (F.meaning shelf.new) (O.meaning out.new) steps.new) (N.meaning notes.old) (N.meaning notes.new) result }
     ensures done { IfSome (course_of (map string_bytes words.now)) (λ (c : Course). Done c (moment (F.meaning shelf.old) (O.meaning out.old) steps.old) (moment (F.meaning shelf.new) (O.meaning out.new) steps.new) result) }
     ensures succeeds { IfSome (course_of (map string_bytes words.now)) (λ (c : Course). Succeeds c (moment (F.meaning shelf.old) (O.meaning out.old) steps.old) (moment (F.meaning shelf.new) (O.meaning out.new) steps.new) result) }
@@ -120,13 +130,12 @@ pub fn run<F: Shelf, O: Sink, N: Sink, L: Ledger>(
     ensures refuses_words { RefusesWords (course_of (map string_bytes words.now)) (moment (F.meaning shelf.old) (O.meaning out.old) steps.old) (moment (F.meaning shelf.new) (O.meaning out.new) steps.new) (N.meaning notes.old) (N.meaning notes.new) result }
     ensures misses { IfSome (course_of (map string_bytes words.now)) (λ (c : Course). Misses c (moment (F.meaning shelf.old) (O.meaning out.old) steps.old) result) }
     ensures reads_fail { ReadsFail (moment (F.meaning shelf.old) (O.meaning out.old) steps.old) (moment (F.meaning shelf.new) (O.meaning out.new) steps.new) result }
-    ensures writes_fail { OutFails (moment (F.meaning shelf.old) (O.meaning out.old) steps.old) (moment (F.meaning shelf.new) (O.meaning out.new) steps.new) result }
+    ensures writes_fail { WritesFail (command_of (map string_bytes words.now)) (moment (F.meaning shelf.old) (O.meaning out.old) steps.old) (moment (F.meaning shelf.new) (O.meaning out.new) steps.new) result }
     ensures no_count_rose { NoCountRose (moment (F.meaning shelf.old) (O.meaning out.old) steps.old) (moment (F.meaning shelf.new) (O.meaning out.new) steps.new) result }
     ensures out { OutOf (course_of (map string_bytes words.now)) (moment (F.meaning shelf.old) (O.meaning out.old) steps.old) (moment (F.meaning shelf.new) (O.meaning out.new) steps.new) (N.meaning notes.old) (N.meaning notes.new) result }
     ensures notes { Notes (N.meaning notes.old) (N.meaning notes.new) result }
     ensures names { IfSome (course_of (map string_bytes words.now)) (λ (c : Course). Names c (moment (F.meaning shelf.old) (O.meaning out.old) steps.old) (moment (F.meaning shelf.new) (O.meaning out.new) steps.new) result) }
-    ensures files { KeepsFiles (F.meaning shelf.old) (F.meaning shelf.new) }
-    ensures no_file_made { (F.meaning shelf.new).write_faults ≡ (F.meaning shelf.old).write_faults }
+    ensures files { FilesOf (command_of (map string_bytes words.now)) (moment (F.meaning shelf.old) (O.meaning out.old) steps.old) (moment (F.meaning shelf.new) (O.meaning out.new) steps.new) result }
     ensures steps { IfSome (course_of (map string_bytes words.now)) (λ (c : Course). Counts c (moment (F.meaning shelf.old) (O.meaning out.old) steps.old) (moment (F.meaning shelf.new) (O.meaning out.new) steps.new)) }
     ensures in_time { InTimes (moment (F.meaning shelf.old) (O.meaning out.old) steps.old) (moment (F.meaning shelf.new) (O.meaning out.new) steps.new) }
     ensures notes_in_time { InTime (N.meaning notes.old) (N.meaning notes.new) }

@@ -4,7 +4,7 @@ use Rattle.std.specs.Prelude.{nat_lt}
 use Rattle.std.proofs.lemmas.Bool.{cond-true, cond_both}
 use Rattle.std.proofs.lemmas.Bool.Decides.{Decides-ltb}
 use Rattle.loc_io.specs.Meaning.{Told}
-use Rattle.loc_spec_plane.specs.declared.Index.{Index}
+use Rattle.loc_spec_asked.specs.declared.Index.{Index}
 use Rattle.loc_spec_text.specs.Points.{ended}
 use Rattle.loc_gen.specs.declared.kinds.Kind.{Kind}
 use Rattle.loc_gen.specs.Layers.{layer_text, limit_of}

@@ -1,4 +1,4 @@
--- What is answered whatever the line.
+-- What is answered whatever the line. The word: `AnswersAll`.
 use Rattle.std.specs.Prelude.{◌≡◌, ℕ, List, Ok}
 use Rattle.loc_spec_text.specs.Points.{Answer}
 use Rattle.loc_batch.specs.Batches.{Answering}

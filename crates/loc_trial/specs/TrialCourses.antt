@@ -1,9 +1,15 @@
--- The courses of the commands on generated layers. The words: `past_text`, `sized_course`, `gen_course`, `tried_course`, `trial_course`.
-use Rattle.std.specs.Prelude.{ℕ, ◌*◌, List, ◌++◌, codes, nat_lt, if◌then◌else◌}
+-- The courses of the commands on generated layers. The words: `past_text`, `sized_course`, `gen_course`, `counted_course`,
+-- `tried_course`, `trial_course`.
+use Rattle.std.specs.Prelude.{ℕ, ◌*◌, List, ◌++◌, Option, codes, length, map, nat_lt, if◌then◌else◌}
 use Rattle.std.specs.Fmt.{decimal}
-use Rattle.loc_spec_plane.specs.declared.Index.{Index}
+use Rattle.loc_spec_asked.specs.declared.Index.{Index}
+use Rattle.loc_spec_plane.specs.Lists.{numbers}
+use Rattle.loc_spec_plane.specs.Tables.{Table}
+use Rattle.loc_spec_text.specs.Answered.{answered}
 use Rattle.loc_spec_text.specs.Points.{ended}
 use Rattle.loc_rings.specs.Values.{Feature}
+use Rattle.loc_batch.specs.Batches.{Answering, no_tally}
+use Rattle.loc_batch.specs.Streams.{tally_of}
 use Rattle.loc_gen.specs.declared.kinds.Kind.{Kind}
 use Rattle.loc_gen.specs.Layers.{layer_text, limit_of}
 use Rattle.loc_course.specs.Courses.{Text, Course, refuses, searches, writes}
@@ -11,8 +17,8 @@ use Rattle.loc_course.specs.Outcomes.{exactly}
 use Rattle.loc_maps.specs.Located.{table_in}
 use Rattle.loc_maps.specs.MapCourses.{accepted_course}
 use Rattle.loc_query.specs.QueryCourses.{steps_by}
-use Rattle.loc_trial.specs.Generated.{generated}
-use Rattle.loc_trial.specs.Trials.{is_trial_line}
+use Rattle.loc_trial.specs.Generated.{generated, point_line}
+use Rattle.loc_trial.specs.Trials.{is_trial_line, nodes_text, sizes_text, tally_text}
 
 -- a size is past a limit
 abbrev pub past_text : ℕ → ℕ → Text
@@ -25,6 +31,11 @@ sized_course kind n next = if nat_lt (limit_of kind) n then refuses (exactly (en
 -- the layer's text is written
 abbrev pub gen_course : Kind → ℕ → ℕ → Course
 gen_course kind n shift = sized_course kind n (writes (exactly (layer_text kind n shift)))
+
+-- the points are searched by at most so many steps each, and the counts of what is answered to their lines are written, with a number of nodes where it is told
+abbrev pub counted_course : ℕ → Answering → Kind → ℕ → ℕ → Table → Option ℕ → Course
+counted_course most answer kind n shift t nodes = searches (n * most) (writes (exactly (ended (sizes_text kind n shift (length t.corners) (length t.ends)
+    ++ tally_text (tally_of no_tally (answered answer (map (point_line n shift) (numbers n))).answers) ++ nodes_text nodes))))
 
 -- the points are searched, and their counts are written
 abbrev pub tried_course : Index → Kind → ℕ → ℕ → List Feature → Course

@@ -8,8 +8,8 @@
 use Rattle.std.specs.Prelude.{ℕ, ◌+◌, ◌*◌, Bool, true, false, List, [], ◌++◌, length, map, filter, codes, Option, Some, None}
 use Rattle.std.specs.Fmt.{decimal}
 use Rattle.std.specs.List.{list_any, range_with_len, sum_by}
-use Rattle.loc_spec_plane.specs.declared.Index.{Index}
-use Rattle.loc_spec_plane.specs.declared.Index.TheVariants.{Scan, Tree}
+use Rattle.loc_spec_asked.specs.declared.Index.{Index}
+use Rattle.loc_spec_asked.specs.declared.Index.TheVariants.{Scan, Tree, Trap}
 use Rattle.loc_spec_plane.specs.Lists.{numbers}
 use Rattle.loc_spec_text.specs.Points.{Answer, on_corner, on_border, in_face, no_point, ended}
 use Rattle.loc_rings.specs.Values.{Feature}
@@ -93,3 +93,4 @@ abbrev pub is_trial_line : Index → Kind → ℕ → ℕ → List Feature → T
 is_trial_line Scan kind n shift layer line = exactly (ended (trial_text kind n shift layer None)) line
 is_trial_line Tree kind n shift layer line = list_any (λ nodes. exactly (ended (trial_text kind n shift layer (Some nodes))) line)
     (range_with_len (length (table_in layer).ends) (23 * length (table_in layer).ends + 1))
+is_trial_line Trap kind n shift layer line = exactly (ended (trial_text kind n shift layer None)) line

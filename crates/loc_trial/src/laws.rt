@@ -2,7 +2,7 @@
 
 ghost use Rattle.std.specs.Prelude.{◌≡◌, ◌*◌, ◌<◌, ◌≤◌, Ok, Some, ℕ};
 ghost use Rattle.loc_io.specs.Meaning.{Told};
-ghost use Rattle.loc_spec_plane.specs.declared.Index.{Index as IndexOf};
+ghost use Rattle.loc_spec_asked.specs.declared.Index.{Index as IndexOf};
 ghost use Rattle.loc_spec_text.specs.Points.{ended, point_of};
 ghost use Rattle.loc_spec_text.specs.declared.Form.TheVariants.{Lines};
 ghost use Rattle.loc_csvform.specs.Layer.{layer_of};

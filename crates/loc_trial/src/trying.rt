@@ -1,26 +1,24 @@
 //! A trial: the points of a generated layer, asked of an index.
 
-ghost use Rattle.std.specs.Prelude.{◌≡◌, ◌+◌, ◌*◌, ◌++◌, ◌≤◌, IfOk, length, map};
+ghost use Rattle.std.specs.Prelude.{◌≡◌, ◌+◌, ◌*◌, ◌≤◌, IfOk, Ok, Some, length, map};
 ghost use Rattle.loc_io.specs.Meaning.{Meaning};
 ghost use Rattle.loc_spec_plane.specs.Lists.{numbers};
-ghost use Rattle.loc_spec_plane.specs.declared.Index.TheVariants as by;
+ghost use Rattle.loc_spec_asked.specs.declared.Index.TheVariants as by;
 ghost use Rattle.loc_spec_text.specs.Answered.{answered};
-ghost use Rattle.loc_spec_text.specs.Points.{ended};
 ghost use Rattle.loc_batch.specs.Answering.{answer_by};
 ghost use Rattle.loc_batch.specs.Batches.{no_tally};
 ghost use Rattle.loc_batch.specs.Faces.{unnumbered};
 ghost use Rattle.loc_batch.specs.Streams.{tally_of as tally_of_answers};
 ghost use Rattle.loc_cover.specs.Legends.{FitsTable};
-ghost use Rattle.loc_gen.specs.Layers.{limit_of};
-ghost use Rattle.loc_course.specs.Courses.{searches, writes};
+ghost use Rattle.loc_place.specs.Found.{place_at};
+ghost use Rattle.loc_treeidx.specs.Standing.{AreVersionsOf};
+ghost use Rattle.loc_treeidx.specs.Steps.{most_steps};
 ghost use Rattle.loc_course.specs.Following.{Follows, moment};
-ghost use Rattle.loc_course.specs.Outcomes.{exactly};
 ghost use Rattle.loc_course.specs.Stops.{end_of};
 ghost use Rattle.loc_maps.specs.MapCourses.{accepted_course};
 ghost use Rattle.loc_trial.specs.Asked.{AnswersAll};
 ghost use Rattle.loc_trial.specs.Generated.{generated, point_line};
-ghost use Rattle.loc_trial.specs.TrialCourses.{trial_course, tried_course};
-ghost use Rattle.loc_trial.specs.Trials.{nodes_text, sizes_text, tally_text};
+ghost use Rattle.loc_trial.specs.TrialCourses.{counted_course, trial_course, tried_course};
 
 use crate::counts::line_of;
 use crate::layers::read_back;
@@ -36,8 +34,9 @@ use loc_maps::judge;
 use loc_place::Locator;
 use loc_rings::Layer;
 use loc_scan::Scan;
-use loc_spec_plane::Index;
+use loc_spec_asked::Index;
 use loc_status::VecStatus;
+use loc_trapdag::{Order, TrapIndex};
 use loc_treeidx::TreeIndex;
 use loc_treeidx::laws::swept_stands;
 use std::alloc::{AllocError, Global};
@@ -45,6 +44,9 @@ use std::sync::ledger::Ledger;
 
 // The most bytes of a points text.
 const LIMIT: u64 = 268_435_456;
+
+// The number from which the edges are shuffled.
+const SHUFFLE: u64 = 1;
 
 // What a locator answers to the points of a layer of size n, counted.
 fn tally_of<I: Locator, L: Ledger>(
@@ -99,15 +101,46 @@ fn try_points<I: Locator, O: Sink, L: Ledger>(
     requires fits { I.fits index.now table.now }
     requires legend { FitsTable table.now legend.now }
     requires always { AnswersAll (answer_by 0 (I.finds index.now table.now) unnumbered legend.now) }
-    ensures { (shelf : Meaning) → Follows (searches (n * I.most index.now table.now)
-        (writes (exactly (ended (sizes_text kind n shift (length table.now.corners) (length table.now.ends) ++ tally_text (tally_of_answers no_tally (answered (answer_by 0 (I.finds index.now table.now) unnumbered legend.now) (map (point_line n shift) (numbers n))).answers) ++ nodes_text nodes)))))
-        (moment shelf (O.meaning out.old) steps.old) (moment shelf (O.meaning out.new) steps.new) (end_of result) }
+    ensures { (shelf : Meaning) → Follows (counted_course (I.most index.now table.now) (answer_by 0 (I.finds index.now table.now) unnumbered legend.now) kind n shift table.now nodes) (moment shelf (O.meaning out.old) steps.old) (moment shelf (O.meaning out.new) steps.new) (end_of result) }
 {
     let tally = tally_of(alloc, index, table, legend, n, shift, steps)?;
     let corners = table.corner_count();
     let edges = table.edge_count();
     let line = line_of(alloc, kind, n, shift, corners, edges, tally, nodes)?;
     write_out(out, &line)
+}
+
+// The same of a tree, and the line tells the number of its nodes.
+fn try_nodes<O: Sink, L: Ledger>(
+    alloc: Global,
+    index: &TreeIndex,
+    table: &EdgeTable,
+    legend: &Legend,
+    kind: Kind,
+    n: u64,
+    shift: u64,
+    out: &mut O,
+    steps: &mut Steps<L>,
+) -> Result<(), Stop>
+    requires size { n ≤ 131072 }
+    requires stands { AreVersionsOf table.now index.now }
+    requires legend { FitsTable table.now legend.now }
+    requires always { AnswersAll (answer_by 0 (λ p. Ok (place_at table.now p)) unnumbered legend.now) }
+    ensures nodes { (shelf : Meaning) → Follows (counted_course (most_steps table.now) (answer_by 0 (λ p. Ok (place_at table.now p)) unnumbered legend.now) kind n shift table.now (Some (length index.now.rows))) (moment shelf (O.meaning out.old) steps.old) (moment shelf (O.meaning out.new) steps.new) (end_of result) }
+{
+    let nodes = index.versions().nodes();
+    try_points(
+        alloc,
+        index,
+        table,
+        legend,
+        kind,
+        n,
+        shift,
+        Some(nodes),
+        out,
+        steps,
+    )
 }
 
 // A trial by the plain look at every corner and edge. The layer is swept with a sorted list.
@@ -158,8 +191,7 @@ fn try_tree<O: Sink, L: Ledger>(
     let plane = judge(alloc, layer, Scale::new(0), TreeIndex::new(alloc))?;
     plane.legend.law();
     swept_stands(&plane.table, &plane.status);
-    let nodes = plane.status.versions().nodes();
-    try_points(
+    try_nodes(
         alloc,
         &plane.status,
         &plane.table,
@@ -167,7 +199,38 @@ fn try_tree<O: Sink, L: Ledger>(
         kind,
         n,
         shift,
-        Some(nodes),
+        out,
+        steps,
+    )
+}
+
+// A trial by the trapezoids of the edges, which are added as they are shuffled from the number 1. The layer is swept with the tree.
+fn try_traps<O: Sink, L: Ledger>(
+    alloc: Global,
+    layer: Layer,
+    kind: Kind,
+    n: u64,
+    shift: u64,
+    out: &mut O,
+    steps: &mut Steps<L>,
+) -> Result<(), Stop>
+    requires size { n ≤ 131072 }
+    requires features { length layer ≤ 131072 }
+    ensures { (shelf : Meaning) → Follows (accepted_course 0 layer (tried_course by.Trap kind n shift layer)) (moment shelf (O.meaning out.old) steps.old) (moment shelf (O.meaning out.new) steps.new) (end_of result) }
+{
+    let plane = judge(alloc, layer, Scale::new(0), TreeIndex::new(alloc))?;
+    plane.legend.law();
+    let order = Order::shuffled(alloc, SHUFFLE, plane.table.edge_count())?;
+    let index = TrapIndex::build(alloc, &plane.table.ranks(), &order)?;
+    try_points(
+        alloc,
+        &index,
+        &plane.table,
+        &plane.legend,
+        kind,
+        n,
+        shift,
+        None,
         out,
         steps,
     )
@@ -190,5 +253,6 @@ pub fn trial<O: Sink, L: Ledger>(
     match index {
         Index::Scan => try_scan(alloc, layer, kind, n, shift, out, steps),
         Index::Tree => try_tree(alloc, layer, kind, n, shift, out, steps),
+        Index::Trap => try_traps(alloc, layer, kind, n, shift, out, steps),
     }
 }

@@ -1,4 +1,4 @@
--- What stands at the front of a text's pieces.
+-- What stands at the front of a text's pieces. The words: `mark_at`, `is_word`, `number_at`, `goes_on_at`, `open_at`, `empty_at`, `point_mark_at`, `is_end`.
 use Rattle.std.specs.Prelude.{ℕ, Bool, true, false, List, [], ◌∷◌, codes, if◌then◌else◌, Option, Some, None}
 use Rattle.std.specs.Str.{byte, bytes_eq}
 use Rattle.loc_spec_text.specs.Geometry.{Piece, word, number, open_mark, close_mark, comma}

@@ -1,4 +1,4 @@
--- Digits and number texts as they are kept while their place on a grid is decided.
+-- Digits and number texts as they are kept while their place on a grid is decided. The words: `Represents`, `IsDecimal`, `IsGridNumber`, `IsBounded`.
 use Rattle.std.specs.Prelude.{◌≡◌, ◌≢◌, ◌⊎◌, ℕ, ◌*◌, ◌%◌, ◌^◌, ◌<◌, ◌≤◌, true, false, List, length, min, MatchBool}
 use Rattle.loc_spec_plane.specs.Points.{OnGrid as IsGridValue}
 use Rattle.loc_spec_text.specs.Number.{fraction_digits, grid_value, is_in_range, is_on_grid, lowered, raised, significand}

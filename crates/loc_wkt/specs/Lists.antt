@@ -1,4 +1,5 @@
--- Lists in parentheses as they are read from the left, member by member.
+-- Lists in parentheses as they are read from the left, member by member. The words: `listed_at`, `wide_ring_at`, `wide_polygon_at`, `IsRead`, `IsUnread`,
+-- `IsFurther`.
 use Rattle.std.specs.Prelude.{◌≡◌, ◌≢◌, ℕ, false, List, length, Option, Some, None}
 use Rattle.loc_spec_text.specs.declared.TextFault.{TextFault}
 use Rattle.loc_spec_text.specs.declared.TextFault.TheVariants.{NoMemory, Syntax}

@@ -1,4 +1,6 @@
--- What is kept while a geometry text is read: which values stand, how many numbers and rings have come, and their first faults.
+-- What is kept while a geometry text is read: which values stand, how many numbers and rings have come, and their first faults. The words: `has_two`,
+-- `first_two`, `value_or_zero`, `point_or_zero`, `counted`, `after_number`, `after_point`, `with_values`, `after_ring`, `after_polygon`, `HasRoom`,
+-- `nothing_read`, `outcome`, `IsTreeRead`.
 use Rattle.std.specs.Prelude.{◌≡◌, ℕ, ◌+◌, ◌<◌, ◌≤◌, ◌^◌, length, Bool, true, false, List, [], ◌∷◌, ◌++◌, map, if◌then◌else◌, ℤ, pos, Option, Some, None, option_map, is_none, Result, Err}
 use Rattle.std.specs.List.{fold}
 use Rattle.loc_spec_plane.specs.Points.{Point, point_at}

@@ -1,4 +1,4 @@
--- The tokens of a text as a list that is computed.
+-- The tokens of a text as a list that is computed. The words: `longest_to`, `longest`, `token_at`, `tokens_from`.
 use Rattle.std.specs.Prelude.{ℕ, zero, suc, ◌+◌, ◌-◌, Bool, List, [], ◌∷◌, length, take, if◌then◌else◌}
 use Rattle.loc_spec_text.specs.Bytes.{is_white}
 use Rattle.loc_spec_text.specs.Tokens.{Token, is_token}

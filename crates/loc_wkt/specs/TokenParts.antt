@@ -1,4 +1,4 @@
--- What completes a number of which a part has been read.
+-- What completes a number of which a part has been read. The words: `mantissa`, `digits`, `exponent_is_right`, `completes`.
 use Rattle.std.specs.Prelude.{ℕ, Bool, not, ◌&&◌, ◌||◌, List, ◌++◌}
 use Rattle.std.specs.Char.{is_ascii_digit}
 use Rattle.std.specs.List.{before_first, after_first, list_all, list_any}

@@ -1,4 +1,4 @@
--- What an iterator over tokens has left.
+-- What an iterator over tokens has left. The words: `token_of`, `tokens_left`.
 use Rattle.std.specs.Prelude.{List}
 use Rattle.loc_spec_text.specs.Tokens.{Token}
 use Rattle.loc_wkt.specs.declared.tokens.Token.{Token as TokenOfText}

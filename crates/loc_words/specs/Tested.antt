@@ -1,4 +1,4 @@
--- What is tested of words before they are parsed.
+-- What is tested of words before they are parsed. The words: `is_long`, `has_value`, `is_tested`, `are_tested`.
 use Rattle.std.specs.Prelude.{ℕ, ◌==◌, Bool, false, not, ◌&&◌, ◌||◌, List, [], ◌∷◌, length, nat_le, take, drop}
 use Rattle.std.specs.List.{list_all, list_any, after_first}
 use Rattle.std.specs.Str.{byte}

@@ -1,11 +1,12 @@
--- What is written where words are no command.
+-- What is written where words are no command. The word: `usage_text`.
 use Rattle.std.specs.Prelude.{List, ℕ, [], ◌∷◌, ◌++◌, codes}
 
 -- the usage text, a line for each command
 abbrev pub usage_text : List ℕ
-usage_text = codes "usage: locate query LAYER POINTS --scale K [--form lines|csv] [--index scan|tree] [--faces]" ++ 10 ∷ []
+usage_text = codes "usage: locate query LAYER POINTS --scale K [--form lines|csv] [--index scan|tree|trap] [--order FILE | --shuffle N] [--faces]" ++ 10 ∷ []
     ++ codes "       locate check LAYER --scale K [--form lines|csv]" ++ 10 ∷ []
+    ++ codes "       locate build LAYER INDEX --scale K [--form lines|csv]" ++ 10 ∷ []
     ++ codes "       locate ask INDEX POINTS" ++ 10 ∷ []
     ++ codes "       locate face LAYER POINT --scale K [--form lines|csv]" ++ 10 ∷ []
     ++ codes "       locate gen KIND N SHIFT" ++ 10 ∷ []
-    ++ codes "       locate trial KIND N SHIFT [--index scan|tree]" ++ 10 ∷ []
+    ++ codes "       locate trial KIND N SHIFT [--index scan|tree|trap]" ++ 10 ∷ []

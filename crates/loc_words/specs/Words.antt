@@ -5,8 +5,8 @@ use Rattle.std.specs.Char.{is_ascii_digit}
 use Rattle.std.specs.List.{list_all}
 use Rattle.std.specs.Str.{bytes_eq}
 use Rattle.std.specs.Str.Parse.{digits_value}
-use Rattle.loc_spec_plane.specs.declared.Index.{Index}
-use Rattle.loc_spec_plane.specs.declared.Index.TheVariants.{Scan, Tree}
+use Rattle.loc_spec_asked.specs.declared.Index.{Index}
+use Rattle.loc_spec_asked.specs.declared.Index.TheVariants.{Scan, Tree, Trap}
 use Rattle.loc_spec_text.specs.declared.Form.{Form}
 use Rattle.loc_spec_text.specs.declared.Form.TheVariants.{Lines, Csv}
 use Rattle.loc_gen.specs.declared.kinds.Kind.{Kind}
@@ -16,20 +16,29 @@ use Rattle.loc_words.specs.declared.row.OptionKind.TheVariants.{Required, Option
 use Rattle.loc_words.specs.declared.row.CommandRow.{CommandRow as Row}
 use Rattle.loc_words.specs.declared.row.OptionRow.{OptionRow as Declared}
 use Rattle.loc_words.specs.declared.command.Command.{Command}
-use Rattle.loc_words.specs.declared.command.Command.TheVariants.{Query, Check, Ask, Face, Gen, Trial}
+use Rattle.loc_words.specs.declared.command.Command.TheVariants.{Query, Check, Build, Ask, Face, Gen, Trial}
 
--- what a query says
+-- what a query says; the order of the edges is that of a file, or shuffled from a number
 pub record AskedQuery : Type 0 where
   pub layer : Text
   pub points : Text
   pub scale : ℕ
   pub form : Form
   pub index : Index
+  pub order : Option Text
+  pub shuffle : ℕ
   pub faces : Bool
 
 -- what a check says
 pub record AskedCheck : Type 0 where
   pub layer : Text
+  pub scale : ℕ
+  pub form : Form
+
+-- of which layer an index file is made
+pub record AskedBuild : Type 0 where
+  pub layer : Text
+  pub index : Text
   pub scale : ℕ
   pub form : Form
 
@@ -62,6 +71,7 @@ pub record AskedTrial : Type 0 where
 pub data Asked : Type 0 where
   query : AskedQuery → Asked
   check : AskedCheck → Asked
+  build : AskedBuild → Asked
   ask : AskedAsk → Asked
   face : AskedFace → Asked
   gen : AskedGen → Asked
@@ -69,8 +79,9 @@ pub data Asked : Type 0 where
 
 -- what a command says
 abbrev pub asked_by : Command → Asked
-asked_by (Query q) = query (record { layer = q.layer.now; points = q.points.now; scale = q.scale; form = q.form; index = q.index; faces = q.faces })
+asked_by (Query q) = query (record { layer = q.layer.now; points = q.points.now; scale = q.scale; form = q.form; index = q.index; order = option_map (λ s. s.now) q.order; shuffle = q.shuffle; faces = q.faces })
 asked_by (Check c) = check (record { layer = c.layer.now; scale = c.scale; form = c.form })
+asked_by (Build b) = build (record { layer = b.layer.now; index = b.index.now; scale = b.scale; form = b.form })
 asked_by (Ask a) = ask (record { index = a.index.now; points = a.points.now })
 asked_by (Face f) = face (record { layer = f.layer.now; point = f.point.now; scale = f.scale; form = f.form })
 asked_by (Gen g) = gen (record { kind = g.kind; n = g.n; shift = g.shift })
@@ -80,6 +91,7 @@ asked_by (Trial t) = trial (record { kind = t.kind; n = t.n; shift = t.shift; in
 abbrev pub HasScale : Command → Type 0
 HasScale (Query q) = q.scale ≤ 15
 HasScale (Check c) = c.scale ≤ 15
+HasScale (Build b) = b.scale ≤ 15
 HasScale (Ask a) = ⊤
 HasScale (Face f) = f.scale ≤ 15
 HasScale (Gen g) = ⊤
@@ -117,12 +129,19 @@ scale_and_form scale form = option_and_then (λ number. option_map (λ kind. (nu
 
 -- an index by its name
 abbrev pub index_word : Text → Option Index
-index_word word = if bytes_eq word (codes "scan") then Some Scan else if bytes_eq word (codes "tree") then Some Tree else None
+index_word word = if bytes_eq word (codes "scan") then Some Scan else if bytes_eq word (codes "tree") then Some Tree else if bytes_eq word (codes "trap") then Some Trap else None
 
 -- the index by its word, tree where it is left out
 abbrev pub index_or_tree : Option Text → Option Index
 index_or_tree None = Some Tree
 index_or_tree (Some word) = index_word word
+
+-- the order's file and the number of the shuffle, by their words: they stand only beside trap, and not together; the number is 1 where it is left out
+abbrev pub order_and_shuffle : Index → Option Text → Option Text → Option (Option Text × ℕ)
+order_and_shuffle index None None = Some (None, 1)
+order_and_shuffle Trap (Some file) None = Some (Some file, 1)
+order_and_shuffle Trap None (Some number) = option_map (λ n. (None, n)) (number_word number)
+order_and_shuffle index order shuffle = None
 
 -- a kind of generated layer by its name
 abbrev pub kind_word : Text → Option Kind
@@ -134,7 +153,7 @@ layer_options = record { name = codes "scale"; kind = Required } ∷ record { na
 
 -- the options of a query
 abbrev pub query_options : List OptionRow
-query_options = layer_options ++ record { name = codes "index"; kind = Optional } ∷ record { name = codes "faces"; kind = Flag } ∷ []
+query_options = layer_options ++ record { name = codes "index"; kind = Optional } ∷ record { name = codes "order"; kind = Optional } ∷ record { name = codes "shuffle"; kind = Optional } ∷ record { name = codes "faces"; kind = Flag } ∷ []
 
 -- query LAYER POINTS
 abbrev pub query_row : CommandRow
@@ -143,6 +162,10 @@ query_row = record { name = codes "query"; places = codes "layer" ∷ codes "poi
 -- check LAYER
 abbrev pub check_row : CommandRow
 check_row = record { name = codes "check"; places = codes "layer" ∷ []; options = layer_options }
+
+-- build LAYER INDEX
+abbrev pub build_row : CommandRow
+build_row = record { name = codes "build"; places = codes "layer" ∷ codes "index" ∷ []; options = layer_options }
 
 -- ask INDEX POINTS
 abbrev pub ask_row : CommandRow
@@ -174,14 +197,22 @@ generated_given given = option_and_then (λ kind. option_and_then (λ n. option_
 abbrev pub index_given : List Entry → Option Index
 index_given given = index_or_tree (value_in given (codes "index"))
 
+-- the index, the order's file and the number of the shuffle, of what was given
+abbrev pub order_given : List Entry → Option (Index × Option Text × ℕ)
+order_given given = option_and_then (λ index. option_map (λ order. (index, order.0, order.1)) (order_and_shuffle index (value_in given (codes "order")) (value_in given (codes "shuffle")))) (index_given given)
+
 -- the query of what was given
 abbrev pub query_from : List Entry → Option Asked
-query_from given = option_and_then (λ file. option_and_then (λ points. option_map (λ index. query (record { layer = file.0; points = points; scale = file.1; form = file.2; index = index; faces = stands given (codes "faces") }))
-    (index_given given)) (value_in given (codes "points"))) (layer_given given)
+query_from given = option_and_then (λ file. option_and_then (λ points. option_map (λ by. query (record { layer = file.0; points = points; scale = file.1; form = file.2; index = by.0; order = by.1; shuffle = by.2; faces = stands given (codes "faces") }))
+    (order_given given)) (value_in given (codes "points"))) (layer_given given)
 
 -- the check of what was given
 abbrev pub check_from : List Entry → Option Asked
 check_from given = option_map (λ file. check (record { layer = file.0; scale = file.1; form = file.2 })) (layer_given given)
+
+-- the layer and the index file of what was given
+abbrev pub build_from : List Entry → Option Asked
+build_from given = option_and_then (λ file. option_map (λ index. build (record { layer = file.0; index = index; scale = file.1; form = file.2 })) (value_in given (codes "index"))) (layer_given given)
 
 -- the index and the points of what was given
 abbrev pub ask_from : List Entry → Option Asked
@@ -203,6 +234,7 @@ trial_from given = option_and_then (λ of. option_map (λ index. trial (record {
 abbrev pub command_named : Text → List Text → Option Asked
 command_named name words = if bytes_eq name query_row.name then option_and_then query_from (given_of query_row words)
     else if bytes_eq name check_row.name then option_and_then check_from (given_of check_row words)
+    else if bytes_eq name build_row.name then option_and_then build_from (given_of build_row words)
     else if bytes_eq name ask_row.name then option_and_then ask_from (given_of ask_row words)
     else if bytes_eq name face_row.name then option_and_then face_from (given_of face_row words)
     else if bytes_eq name gen_row.name then option_and_then gen_from (given_of gen_row words)

@@ -5,7 +5,7 @@ ghost use Rattle.loc_words.specs.Words as spec;
 
 use crate::parser::{Given, read_row};
 use crate::row::{CommandRow, OptionKind, OptionRow};
-use crate::values::{kind_of, number_of, read_index, read_scale_and_form};
+use crate::values::{kind_of, number_of, read_index, read_order_and_shuffle, read_scale_and_form};
 use crate::{Form, Index, Kind, WordsFault};
 use std::alloc::{AllocError, Global};
 
@@ -16,6 +16,8 @@ pub enum Command<'a> {
     Query(Query<'a>),
     /// The counts of a layer.
     Check(Check<'a>),
+    /// An index file of a layer.
+    Build(Build<'a>),
     /// Answers to the points of a file, from an index file.
     Ask(Ask<'a>),
     /// The face of a point, against a layer.
@@ -26,7 +28,8 @@ pub enum Command<'a> {
     Trial(Trial),
 }
 
-/// What a query says. Its places are as they stand in the words.
+/// What a query says. Its places are as they stand in the words. The trapezoids are made of edges in the order of a file, or shuffled from a
+/// number.
 #[derive(Clone, Copy, Debug, PartialEq, Eq)]
 pub struct Query<'a> {
     pub layer: &'a str,
@@ -34,6 +37,8 @@ pub struct Query<'a> {
     pub scale: u8,
     pub form: Form,
     pub index: Index,
+    pub order: Option<&'a str>,
+    pub shuffle: u64,
     pub faces: bool,
 }
 
@@ -41,6 +46,15 @@ pub struct Query<'a> {
 #[derive(Clone, Copy, Debug, PartialEq, Eq)]
 pub struct Check<'a> {
     pub layer: &'a str,
+    pub scale: u8,
+    pub form: Form,
+}
+
+/// Of which layer an index file is made, and its name.
+#[derive(Clone, Copy, Debug, PartialEq, Eq)]
+pub struct Build<'a> {
+    pub layer: &'a str,
+    pub index: &'a str,
     pub scale: u8,
     pub form: Form,
 }
@@ -93,6 +107,16 @@ const INDEX: OptionRow<'static> = OptionRow {
     kind: OptionKind::Optional,
 };
 
+const ORDER: OptionRow<'static> = OptionRow {
+    name: "order",
+    kind: OptionKind::Optional,
+};
+
+const SHUFFLE: OptionRow<'static> = OptionRow {
+    name: "shuffle",
+    kind: OptionKind::Optional,
+};
+
 const FACES: OptionRow<'static> = OptionRow {
     name: "faces",
     kind: OptionKind::Flag,
@@ -101,12 +125,18 @@ const FACES: OptionRow<'static> = OptionRow {
 const QUERY: CommandRow<'static> = CommandRow {
     name: "query",
     places: &["layer", "points"],
-    options: &[SCALE, FORM, INDEX, FACES],
+    options: &[SCALE, FORM, INDEX, ORDER, SHUFFLE, FACES],
 };
 
 const CHECK: CommandRow<'static> = CommandRow {
     name: "check",
     places: &["layer"],
+    options: &[SCALE, FORM],
+};
+
+const BUILD: CommandRow<'static> = CommandRow {
+    name: "build",
+    places: &["layer", "index"],
     options: &[SCALE, FORM],
 };
 
@@ -154,6 +184,19 @@ fn generated_given<'a>(given: &Given<'a>) -> Option<(Kind, u64, u64)>
     Some((kind, n, shift))
 }
 
+// The index, the order's file and the number of the shuffle, of what was given.
+fn order_given<'a>(given: &Given<'a>) -> Option<(Index, Option<&'a str>, u64)>
+    ensures { option_map (λ by. (by.0, option_map (λ s. s.now) by.1, by.2)) result ≡ spec.order_given (given_by given.now) }
+{
+    let index = read_index(given.value("index"))?;
+    let (order, shuffle) = read_order_and_shuffle(
+        index,
+        given.value("order"),
+        given.value("shuffle"),
+    )?;
+    Some((index, order, shuffle))
+}
+
 fn query_from<'a>(given: Option<Given<'a>>) -> Option<Command<'a>>
     ensures scale { IfSome result spec.HasScale }
     ensures value { option_map spec.asked_by result ≡ option_and_then spec.query_from (option_map given_by given.entry) }
@@ -161,7 +204,7 @@ fn query_from<'a>(given: Option<Given<'a>>) -> Option<Command<'a>>
     let given = given?;
     let (layer, scale, form) = layer_given(&given)?;
     let points = given.value("points")?;
-    let index = read_index(given.value("index"))?;
+    let (index, order, shuffle) = order_given(&given)?;
     let faces = given.stands("faces");
     Some(Command::Query(Query {
         layer,
@@ -169,6 +212,8 @@ fn query_from<'a>(given: Option<Given<'a>>) -> Option<Command<'a>>
         scale,
         form,
         index,
+        order,
+        shuffle,
         faces,
     }))
 }
@@ -179,6 +224,21 @@ fn check_from<'a>(given: Option<Given<'a>>) -> Option<Command<'a>>
 {
     let (layer, scale, form) = layer_given(&given?)?;
     Some(Command::Check(Check { layer, scale, form }))
+}
+
+fn build_from<'a>(given: Option<Given<'a>>) -> Option<Command<'a>>
+    ensures scale { IfSome result spec.HasScale }
+    ensures value { option_map spec.asked_by result ≡ option_and_then spec.build_from (option_map given_by given.entry) }
+{
+    let given = given?;
+    let (layer, scale, form) = layer_given(&given)?;
+    let index = given.value("index")?;
+    Some(Command::Build(Build {
+        layer,
+        index,
+        scale,
+        form,
+    }))
 }
 
 fn ask_from<'a>(given: Option<Given<'a>>) -> Option<Command<'a>>
@@ -241,6 +301,7 @@ fn command_named<'a>(
     match name {
         "query" => Ok(query_from(read_row(alloc, &QUERY, words)?)),
         "check" => Ok(check_from(read_row(alloc, &CHECK, words)?)),
+        "build" => Ok(build_from(read_row(alloc, &BUILD, words)?)),
         "ask" => Ok(ask_from(read_row(alloc, &ASK, words)?)),
         "face" => Ok(face_from(read_row(alloc, &FACE, words)?)),
         "gen" => Ok(gen_from(read_row(alloc, &GEN, words)?)),

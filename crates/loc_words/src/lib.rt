@@ -14,10 +14,10 @@ mod usage;
 mod values;
 mod words;
 
-pub use command::{Ask, Check, Command, Face, Gen, Query, Trial, command_of};
+pub use command::{Ask, Build, Check, Command, Face, Gen, Query, Trial, command_of};
 pub use fault::WordsFault;
 pub use loc_gen::Kind;
-pub use loc_spec_plane::Index;
+pub use loc_spec_asked::Index;
 pub use loc_spec_text::Form;
 pub use parser::clap_takes_commands;
 pub use row::OptionKind;

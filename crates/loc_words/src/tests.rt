@@ -1,11 +1,11 @@
 //! What no clause says: that words are read with ample memory, at lists of words from outside.
-use crate::{Command, Form, Index, Kind, WordsFault, command_of, usage_text};
+use crate::{Build, Command, Form, Index, Kind, WordsFault, command_of, usage_text};
 use std::alloc::{AllocError, Global};
 use std::test::Fail;
 
 // Lines of words, with a space between each two, and where they are a command, the number of its
 // places, its scale and its form.
-const ROWS: [(&str, Option<(u8, u8, Form)>); 58] = [
+const ROWS: [(&str, Option<(u8, u8, Form)>); 67] = [
     ("query a b --scale=0", Some((2, 0, Form::Lines))),
     ("query a b --scale 0", Some((2, 0, Form::Lines))),
     ("query a b --form csv --scale 15", Some((2, 15, Form::Csv))),
@@ -53,7 +53,22 @@ const ROWS: [(&str, Option<(u8, u8, Form)>); 58] = [
     ("query a b --scale +1", None),
     ("query a b --scale 000000000000000000007", None),
     ("query a b --scale 18446744073709551616", None),
-    ("query a b --scale 0 --index trap", None),
+    ("query a b --scale 0 --order c", None),
+    ("query a b --scale 0 --index tree --shuffle 3", None),
+    ("query a b --scale 0 --index scan --order c", None),
+    (
+        "query a b --scale 0 --index trap --order c --shuffle 3",
+        None,
+    ),
+    ("query a b --scale 0 --index trap --shuffle", None),
+    ("query a b --scale 0 --index trap --shuffle x", None),
+    (
+        "query a b --scale 0 --index trap --shuffle 18446744073709551616",
+        None,
+    ),
+    ("query a b --scale 0 --index trap --order c --order c", None),
+    ("check a --scale 0 --order c", None),
+    ("query a b --scale 0 --index traps", None),
     ("query a b --scale 0 --index", None),
     ("query a b --scale 0 --index=", None),
     ("query a b --scale 0 --index --form csv", None),
@@ -86,8 +101,34 @@ const INDEX_ROWS: [(&str, Index, bool); 6] = [
     ),
 ];
 
+// Lines of words that are a query by trapezoids, its order's file, and the number of its shuffle.
+const ORDER_ROWS: [(&str, Option<&str>, u64); 5] = [
+    ("query a b --scale 0 --index trap", None, 1),
+    ("query a b --scale 0 --index trap --order c", Some("c"), 1),
+    ("query a b --scale 0 --order==f --index=trap", Some("=f"), 1),
+    (
+        "query a b --shuffle 7 --scale 0 --index trap --faces",
+        None,
+        7,
+    ),
+    (
+        "query a b --scale 0 --index trap --shuffle=18446744073709551615",
+        None,
+        18_446_744_073_709_551_615,
+    ),
+];
+
+// Lines of words, and whether they are to build the index "b" of the layer "a" at the scale 3 in the form csv.
+const BUILD_ROWS: [(&str, bool); 5] = [
+    ("build a b --scale 3 --form csv", true),
+    ("build a b --form=csv --scale=3", true),
+    ("build a b", false),
+    ("build a --scale 3 --form csv", false),
+    ("build a b --scale 3 --form csv --index tree", false),
+];
+
 // Lines of words, and where they are a command on a generated layer, its kind, its size and its shift, and the index of a trial.
-const GENERATED_ROWS: [(&str, Option<(Kind, u64, u64, Option<Index>)>); 11] = [
+const GENERATED_ROWS: [(&str, Option<(Kind, u64, u64, Option<Index>)>); 12] = [
     ("gen grid 256 0", Some((Kind::Grid, 256, 0, None))),
     (
         "gen nest 00 18446744073709551615",
@@ -101,13 +142,17 @@ const GENERATED_ROWS: [(&str, Option<(Kind, u64, u64, Option<Index>)>); 11] = [
         "trial nest 3 0 --index=scan",
         Some((Kind::Nest, 3, 0, Some(Index::Scan))),
     ),
+    (
+        "trial grid 2 0 --index trap",
+        Some((Kind::Grid, 2, 0, Some(Index::Trap))),
+    ),
     ("gen GRID 2 0", None),
     ("gen grid -1 0", None),
     ("gen grid 2", None),
     ("gen grid 2 18446744073709551616", None),
     ("gen grid 2 0 --index scan", None),
     ("trial grid 2 0 --scale 0", None),
-    ("trial grid 2 0 --index trap", None),
+    ("trial grid 2 0 --index trap --shuffle 2", None),
 ];
 
 // Lines of words, and whether they ask the index "a" for the points "b".
@@ -182,6 +227,42 @@ fn indexes_of_queries(rt: HostRuntime) -> Result<(), Fail> {
     Ok(())
 }
 
+#[test]
+fn orders_of_queries(rt: HostRuntime) -> Result<(), Fail> {
+    let alloc = rt.alloc();
+    for (line, order, shuffle) in &ORDER_ROWS {
+        let words = words_of(alloc, line)?;
+        let is_so = match command_of(alloc, words.as_slice()) {
+            Ok(Command::Query(query)) => {
+                query.index == Index::Trap && query.order == *order && query.shuffle == *shuffle
+            }
+            _ => false,
+        };
+        assert!(rt; is_so, "{line}");
+    }
+    Ok(())
+}
+
+#[test]
+fn indexes_that_are_built(rt: HostRuntime) -> Result<(), Fail> {
+    let wanted = Build {
+        layer: "a",
+        index: "b",
+        scale: 3,
+        form: Form::Csv,
+    };
+    let alloc = rt.alloc();
+    for (line, builds) in &BUILD_ROWS {
+        let words = words_of(alloc, line)?;
+        let is_so = match command_of(alloc, words.as_slice()) {
+            Ok(Command::Build(build)) => build == wanted,
+            _ => false,
+        };
+        assert!(rt; is_so == *builds, "{line}");
+    }
+    Ok(())
+}
+
 fn generated_by(command: Command<'_>) -> Option<(Kind, u64, u64, Option<Index>)> {
     match command {
         Command::Gen(asked) => Some((asked.kind, asked.n, asked.shift, None)),
@@ -210,5 +291,5 @@ fn generated_layers(rt: HostRuntime) -> Result<(), Fail> {
 
 #[test]
 fn lines_of_the_usage_text(rt: HostRuntime) {
-    assert!(rt; usage_text().lines().count() == 6 && usage_text().ends_with("tree]\n"));
+    assert!(rt; usage_text().lines().count() == 7 && usage_text().ends_with("trap]\n"));
 }

@@ -2,13 +2,16 @@
 ghost use Rattle.std.specs.Prelude.{◌≡◌, ◌≤◌, IfSome, option_map};
 ghost use Rattle.std.specs.Char.{is_ascii_digit};
 ghost use Rattle.std.specs.List.{list_all};
-ghost use Rattle.loc_words.specs.Words.{form_word, index_or_tree, index_word, kind_word, number_word, scale_word, scale_and_form};
+ghost use Rattle.loc_words.specs.Words.{form_word, index_or_tree, index_word, kind_word, number_word, order_and_shuffle, scale_word, scale_and_form};
 
 use crate::{Form, Index, Kind};
 
 const MOST_DIGITS: usize = 20;
 
 const MOST_SCALE: u64 = 15;
+
+// The number from which edges are shuffled where none is named.
+const FIRST_SHUFFLE: u64 = 1;
 
 fn are_digits(bytes: &[u8]) -> bool
     ensures { result ≡ list_all is_ascii_digit bytes.now }
@@ -72,6 +75,7 @@ fn index_of(word: &str) -> Option<Index>
     match word {
         "scan" => Some(Index::Scan),
         "tree" => Some(Index::Tree),
+        "trap" => Some(Index::Trap),
         _ => None,
     }
 }
@@ -83,6 +87,22 @@ pub(crate) fn read_index(index: Option<&str>) -> Option<Index>
     match index {
         Some(word) => index_of(word),
         None => Some(Index::Tree),
+    }
+}
+
+/// The order's file and the number of the shuffle, 1 where it is left out, of their words: they stand only beside trap, and not together.
+pub(crate) fn read_order_and_shuffle<'a>(
+    index: Index,
+    order: Option<&'a str>,
+    shuffle: Option<&str>,
+) -> Option<(Option<&'a str>, u64)>
+    ensures { option_map (λ values. (option_map (λ s. s.now) values.0, values.1)) result ≡ order_and_shuffle index (option_map (λ s. s.now) order.entry) (option_map (λ s. s.now) shuffle.entry) }
+{
+    match (index, order, shuffle) {
+        (_, None, None) => Some((None, FIRST_SHUFFLE)),
+        (Index::Trap, Some(file), None) => Some((Some(file), FIRST_SHUFFLE)),
+        (Index::Trap, None, Some(number)) => Some((None, number_of(number)?)),
+        _ => None,
     }
 }
 

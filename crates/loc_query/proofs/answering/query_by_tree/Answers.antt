@@ -1,5 +1,5 @@
 use Rattle.std.proofs.Common.{refl}
-use Rattle.loc_spec_plane.specs.declared.Index.TheVariants.{Tree}
+use Rattle.loc_spec_asked.specs.declared.Index.TheVariants.{Tree}
 use Rattle.loc_faces.specs.Subdivision.{shown_at}
 use Rattle.loc_query.proofs.LegendAnswers.{follows_points}
 use Rattle.loc_query.proofs.answering.query_by_tree.Goals as goal

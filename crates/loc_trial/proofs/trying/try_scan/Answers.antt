@@ -1,6 +1,6 @@
 use Rattle.std.proofs.Common.{None, refl, subst}
 use Rattle.std.specs.Prelude.{ℕ}
-use Rattle.loc_spec_plane.specs.declared.Index.TheVariants.{Scan}
+use Rattle.loc_spec_asked.specs.declared.Index.TheVariants.{Scan}
 use Rattle.loc_spec_text.specs.Points.{ended}
 use Rattle.loc_course.specs.Following.{Follows, moment}
 use Rattle.loc_course.specs.Stops.{end_of}

@@ -1,14 +1,13 @@
-use Rattle.std.proofs.Common.{Some, refl, ap, arith, length, subst, ◌∙◌}
+use Rattle.std.proofs.Common.{Some, refl, ap, arith, length, subst}
 use Rattle.std.specs.Prelude.{ℕ, ◌+◌, ◌*◌}
 use Rattle.loc_spec_plane.specs.Tables.{Table}
-use Rattle.loc_spec_plane.specs.declared.Index.TheVariants.{Tree}
+use Rattle.loc_spec_asked.specs.declared.Index.TheVariants.{Tree}
 use Rattle.loc_spec_text.specs.Points.{ended}
 use Rattle.loc_course.specs.Following.{Follows, moment}
 use Rattle.loc_course.specs.Outcomes.{exactly}
 use Rattle.loc_course.specs.Stops.{end_of}
 use Rattle.loc_course.proofs.Told.{exactly_it}
 use Rattle.loc_cover.proofs.Gathered.{any_range}
-use Rattle.loc_persist.specs.Meaning.{VersionsMeaning}
 use Rattle.loc_maps.specs.Located.{table_in}
 use Rattle.loc_maps.specs.MapCourses.{accepted_course}
 use Rattle.loc_trial.specs.TrialCourses.{tried_course}
@@ -16,22 +15,21 @@ use Rattle.loc_trial.specs.Trials.{trial_text}
 use Rattle.loc_trial.proofs.Tried.{always, follows_trial}
 use Rattle.loc_trial.proofs.trying.try_tree.Goals as goal
 
-pub try_points-requires-clause-always : goal.try_points-requires-clause-always
-try_points-requires-clause-always g c = always c.args.layer _ _ c.law.ensures c.in_ok-plane.ensures.map
+pub try_nodes-requires-clause-always : goal.try_nodes-requires-clause-always
+try_nodes-requires-clause-always g c = always c.args.layer _ _ c.law.ensures c.in_ok-plane.ensures.map
 
 pub returns : goal.returns
 returns g c shelf =
     let old = moment shelf (g.O.Sink.meaning c.args.out.now) c.args.steps.now in
-    let new = moment shelf (g.O.Sink.meaning c.try_points.new.out) c.try_points.new.steps in
-    let end = end_of c.try_points.result in
+    let new = moment shelf (g.O.Sink.meaning c.try_nodes.new.out) c.try_nodes.new.steps in
+    let end = end_of c.try_nodes.result in
     let line = λ (nodes : ℕ). ended (trial_text c.args.kind c.args.n c.args.shift c.args.layer (Some nodes)) in
     let tried = tried_course Tree c.args.kind c.args.n c.args.shift c.args.layer in
-    let x = c.nodes-nodes.result in
+    let x = length c.in_ok-plane.plane.status.rows in
     let e = length (table_in c.args.layer).ends in
     let edges = ap (λ (t : Table). length t.ends) c.in_ok-plane.ensures.map.table in
-    let rows = c.nodes-nodes.ensures.count ∙ ap (λ (v : VersionsMeaning). length v.rows) c.versions.ensures in
     let passes = any_range (λ nodes. exactly (line nodes) (line x)) e (23 * e + 1) x
-    (omega (arith, edges, rows, c.swept_stands.ensures.many)) (omega (arith, edges, rows, c.swept_stands.ensures.few)) (exactly_it (line x) (line x) refl) in
+    (omega (arith, edges, c.swept_stands.ensures.many)) (omega (arith, edges, c.swept_stands.ensures.few)) (exactly_it (line x) (line x) refl) in
     subst (λ (scale : ℕ). Follows (accepted_course scale c.args.layer tried) old new end) c.new.ensures
     (c.in_ok-plane.ensures.goes_on tried old new end
-    (follows_trial c.args.layer _ _ c.law.ensures c.in_ok-plane.ensures.map c.args.n c.args.shift c.requires.size Tree c.args.kind (Some x) old new end c.requires.features passes (c.try_points.ensures shelf)))
+    (follows_trial c.args.layer _ _ c.law.ensures c.in_ok-plane.ensures.map c.args.n c.args.shift c.requires.size Tree c.args.kind (Some x) old new end c.requires.features passes (c.try_nodes.ensures.nodes shelf)))

@@ -1,0 +1,121 @@
+-- A content of the table, the legend and the versions of a layer is a true index of it.
+use Rattle.std.proofs.Common.{◌≡◌, ◌≢◌, ℕ, ◌+◌, ◌*◌, ◌^◌, ◌<◌, ◌≤◌, true, false, ◌&&◌, List, [], length, get_or, Option, None, refl, sym, ◌∙◌, ap, subst, arith}
+use Rattle.std.specs.Prelude.{IsTrue}
+use Rattle.std.proofs.lemmas.Bool.{and_from, both_ways, cond-true, ltb-true, not_from_false, not-true, or_left, or_right, false_from_ne_true, lt-ltb}
+use Rattle.std.proofs.lemmas.List.{length-map}
+use Rattle.std.proofs.lemmas.List.Sums.{length-filter}
+use Rattle.std.proofs.lemmas.Option.{get_or_from_slice_get, slice_get-get_or}
+use Rattle.loc_spec_plane.specs.Points.{Edge, before, lies_on}
+use Rattle.loc_spec_plane.specs.Rings.{Rings, segment_between}
+use Rattle.loc_spec_plane.specs.Tables.{Table, IsTable, AllEnds, AllEven, NoConflict, corner, edge, edge_numbers, hi_of, lo_of, table_of}
+use Rattle.loc_spec_plane.specs.Places.{IsFloor, IsVersion, alive_at}
+use Rattle.loc_spec_plane.specs.Covers.{cover_above}
+use Rattle.loc_spec_plane.specs.Lists.{is_in}
+use Rattle.loc_spec_index.specs.declared.NodeRow.{NodeRow}
+use Rattle.loc_spec_index.specs.Content.{Content, EdgeRow, cover_numbers, floor_of_corner, root_of, source_of, table_in}
+use Rattle.loc_spec_index.specs.Nodes.{IsShallow, is_deep}
+use Rattle.loc_spec_index.specs.TrueIndex.{IsIndexOf, IsTrueIndex, IsTrueVersion, alive_count, is_on_source}
+use Rattle.loc_laws_order.proofs.Sides.{end_lies_on, same_point_refl}
+use Rattle.loc_laws_order.proofs.TableOrder.{corner_before}
+use Rattle.loc_edges.proofs.Ordered.{table_of-is_table}
+use Rattle.loc_persist.specs.Meaning.{VersionsMeaning}
+use Rattle.loc_persist.proofs.ByNumber.{rows_by_number_read}
+use Rattle.loc_treeidx.proofs.Standing.{listed_count, square_rises}
+use Rattle.loc_cover.specs.Legends.{LegendRows}
+use Rattle.loc_write.specs.Written.{HoldsParts, IsContentOf}
+use Rattle.loc_laws_built.specs.Built.{ContentIsTrue, IsPlaneOf}
+use Rattle.loc_laws_built.proofs.Marked.{every_marked}
+use Rattle.loc_laws_built.proofs.Named.{every_named}
+
+corners-of : (c : Content) → length (table_in c).corners ≡ length c.corners
+unfolding table_in
+corners-of c = refl
+
+ends-of : (c : Content) → length (table_in c).ends ≡ length c.edges
+unfolding table_in
+ends-of c = length-map c.edges (λ (x : EdgeRow). x.ends)
+
+-- what is not too long for some edges is not for more
+fewer_shallow : (rows : List NodeRow) (i n k l : ℕ) → k ≤ l → IsShallow rows i n k → IsShallow rows i n l
+fewer_shallow rows i n k l le shallow = λ sides leads.
+    let d = length sides + 1 in
+    let not_deep : is_deep k d ≡ false = not-true (is_deep k d) (shallow sides leads) in
+    not_from_false (is_deep l d) (false_from_ne_true (is_deep l d) (λ deep.
+    (let more = ltb-true ((l + 1) * (l + 1)) (2 ^ d) deep in
+    let square = square_rises k l le in
+    both_ways (is_deep k d) not_deep (lt-ltb ((k + 1) * (k + 1)) (2 ^ d) (omega (arith, more, square))))))
+
+-- an edge lies on the segment between its ends
+on_itself : (t : Table) → IsTable t → (e : ℕ) → e < length t.ends → (pair : ℕ × ℕ) → pair ≡ get_or t.ends e (0, 0)
+    → (lies_on (segment_between (corner t pair.0) (corner t pair.1)) (edge t e).lo && lies_on (segment_between (corner t pair.0) (corner t pair.1)) (edge t e).hi) ≡ true
+on_itself t ok e fits pair is =
+    let up = ok.goes_up e fits in
+    let rise : before (edge t e).lo (edge t e).hi ≡ true = corner_before t ok (lo_of t e) (hi_of t e) up.0 up.1 in
+    let segment : segment_between (corner t pair.0) (corner t pair.1) ≡ edge t e = ap (λ (p : ℕ × ℕ). segment_between (corner t p.0) (corner t p.1)) is ∙ cond-true _ _ _ rise in
+    subst (λ (s : Edge). (lies_on s (edge t e).lo && lies_on s (edge t e).hi) ≡ true) (sym segment)
+    (and_from _ _ (end_lies_on (edge t e) (edge t e).lo rise (or_left _ _ (same_point_refl (edge t e).lo))) (end_lies_on (edge t e) (edge t e).hi rise (or_right _ _ (same_point_refl (edge t e).hi))))
+
+module _ (scale : ℕ) (layer : List Rings) (rows : LegendRows) (m : VersionsMeaning) (c : Content) (p : IsPlaneOf layer rows m) (of : IsContentOf scale (table_of layer) rows m c) (holds : HoldsParts (table_of layer) rows c) where
+  abbrev t : Table
+  t = table_of layer
+
+  as_many_above : length rows.above ≡ length t.ends
+  as_many_above = p.sound.as_many_above ∙ p.as_many
+
+  within : (e : ℕ) → e < length c.edges → e < length t.ends
+  within e lt = let a = ends-of c in let b = ap (λ (u : Table). length u.ends) holds.table in omega (arith, lt, a, b)
+
+  there : (n : ℕ) → n < length c.corners → n < length t.corners
+  there n lt = let a = corners-of c in let b = ap (λ (u : Table). length u.corners) holds.table in omega (arith, lt, a, b)
+
+  covers_are : c.covers ≡ rows.lists
+  covers_are = ap (λ (x : Content). x.covers) of.parts
+
+  floors_are : c.floors ≡ rows.floors
+  floors_are = ap (λ (x : Content). x.floors) of.parts
+
+  sources_on : (e : ℕ) → e < length c.edges → is_on_source c e ≡ true
+  sources_on e lt =
+      let own : source_of c e ≡ get_or t.ends e (0, 0) = ap (λ (ends : List (ℕ × ℕ)). get_or ends e (0, 0)) holds.sources in
+      subst (λ (u : Table). (lies_on (segment_between (corner u (source_of c e).0) (corner u (source_of c e).1)) (edge u e).lo && lies_on (segment_between (corner u (source_of c e).0) (corner u (source_of c e).1)) (edge u e).hi) ≡ true)
+      (sym holds.table) (on_itself t (table_of-is_table layer) e (within e lt) (source_of c e) own)
+
+  -- version i
+  version_true : (i : ℕ) → i < length c.corners → IsTrueVersion c i
+  version_true i lt =
+      let fits = there i lt in
+      let sealed : i < length m.roots = (let a = p.versions.as_many in let b = p.meaning.as_many in omega (arith, fits, a, b)) in
+      let root = get_or m.roots i None in
+      let is_root = slice_get-get_or m.roots i None sealed in
+      let read = rows_by_number_read m c.nodes c.roots p.meaning of.nodes of.roots i root is_root in
+      let list : read.0 ≡ get_or m.sealed_lists i [] = sym (get_or_from_slice_get m.sealed_lists i read.0 [] read.1) in
+      let version : IsVersion t i read.0 = subst (λ (es : List ℕ). IsVersion t i es) (sym list) (p.versions.are i fits) in
+      let alive : length read.0 ≤ alive_count t i = (let few = listed_count t (corner t i) read.0 version in let same = length-filter (alive_at t (corner t i)) (edge_numbers t) in omega (arith, few, same)) in
+      record {
+        list = read.0;
+        is_version = subst (λ (u : Table). IsVersion u i read.0) (sym holds.table) version;
+        shallow = subst (λ (u : Table). IsShallow c.nodes i (root_of c i) (alive_count u i)) (sym holds.table) (fewer_shallow c.nodes i (root_of c i) (length read.0) (alive_count t i) alive read.3);
+        reads = read.2;
+      }
+
+  is_true : IsTrueIndex c
+  is_true = record {
+    ended = subst AllEnds (sym holds.table) p.ended;
+    marked = λ e lt. subst (λ (u : Table). get_or u.marks e [] ≢ []) (sym holds.table) (every_marked layer e (within e lt));
+    even = subst AllEven (sym holds.table) p.even;
+    apart = subst NoConflict (sym holds.table) p.apart;
+    floors = λ n lt. subst (λ (u : Table). IsFloor u (corner u n) (floor_of_corner c n)) (sym holds.table)
+        (subst (λ (fs : List (Option ℕ)). IsFloor t (corner t n) (get_or fs n None)) (sym floors_are) (p.legend.floors n (there n lt)));
+    covers = λ e lt. ap (λ (ls : List (List ℕ)). get_or ls (get_or (cover_numbers c) e 0) []) covers_are
+        ∙ (ap (λ (ns : List ℕ). get_or rows.lists (get_or ns e 0) []) holds.above ∙ (p.legend.above e (within e lt) ∙ ap (λ (u : Table). cover_above u e) (sym holds.table)));
+    named = λ n lt. subst (λ (ns : List ℕ). IsTrue (is_in n ns)) (sym holds.above)
+        (every_named t rows p.sound p.legend as_many_above n (let same = ap (λ (ls : List (List ℕ)). length ls) covers_are in omega (arith, lt, same)));
+    sources = sources_on;
+    versions = version_true;
+  }
+
+  of_layer : IsIndexOf scale rows.ids layer c
+  of_layer = (ap (λ (x : Content). x.scale) of.parts, ap (λ (x : Content). x.ids) of.parts, holds.table)
+
+pub content_is_true : ContentIsTrue
+content_is_true scale layer rows m c p of holds = (is_true scale layer rows m c p of holds, of_layer scale layer rows m c p of holds)

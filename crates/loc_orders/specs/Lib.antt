@@ -1,0 +1,2 @@
+pub mod OrderCourses
+pub mod OrderTexts

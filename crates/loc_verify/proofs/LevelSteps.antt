@@ -1,0 +1,189 @@
+-- The nodes of a version, level by level.
+use Rattle.std.proofs.Common.{◌≡◌, ◌≢◌, ℕ, zero, suc, ◌+◌, ◌<◌, ◌≤◌, Bool, true, false, List, [], ◌∷◌, ◌++◌, length, get_or, set, replicate, take, refl, sym, ◌∙◌, ap, inl, inr, arith, length-append}
+use Rattle.std.specs.Prelude.{IsTrue, ◌⊎◌, ◌↔◌}
+use Rattle.std.proofs.Math.ListN.{get_or-eq_default}
+use Rattle.std.proofs.lemmas.Bool.{cases_eq, cases_lt, true≢false}
+use Rattle.std.proofs.lemmas.Grind.{get_or-set_at}
+use Rattle.std.proofs.lemmas.List.{get_or-set_other, length-set, length-replicate}
+use Rattle.loc_spec_index.specs.declared.NodeRow.{NodeRow}
+use Rattle.loc_spec_index.specs.Nodes.{Side, Left, Right, child_of, led_to}
+use Rattle.loc_verify.specs.Readings.{AreReached, HasLongPath, HasNode, IsNextLevel}
+
+-- no flag is set
+unset : (n m : ℕ) → get_or (replicate n false) m false ≡ false
+unset zero m = refl
+unset (suc n) zero = refl
+unset (suc n) (suc m) = unset n m
+
+flag_there : (flags : List Bool) (m : ℕ) → get_or flags m false ≡ true → m < length flags
+flag_there flags m h = elim (cases_lt m (length flags)) [ inl fits ↦ fits | inr past ↦ absurd (true≢false (sym h ∙ get_or-eq_default flags false past)) ]
+
+-- a flag is set
+set_flag : (flags : List Bool) (i m : ℕ) → i < length flags → get_or (set flags i true) m false ≡ true → (m ≡ i) ⊎ (get_or flags m false ≡ true)
+set_flag flags i m fits h = elim (cases_eq m i) [ inl same ↦ inl same | inr other ↦ inr (sym (get_or-set_other flags i m true false other) ∙ h) ]
+
+stays_set : (flags : List Bool) (i m : ℕ) → i < length flags → get_or flags m false ≡ true → get_or (set flags i true) m false ≡ true
+stays_set flags i m fits h = elim (cases_eq m i) [ inl same ↦ get_or-set_at flags i m true false same fits | inr other ↦ get_or-set_other flags i m true false other ∙ h ]
+
+module _ (rows : List NodeRow) (version : ℕ) where
+  -- ---- one level from the one before
+  module _ (level : List Bool) where
+    -- a child of a node before node k whose flag is set
+    abbrev pub IsChildTo : ℕ → ℕ → Type 0
+    IsChildTo k m = (n : ℕ) × (side : Side) × (n ≢ 0) × (n < k) × IsTrue (get_or level n false) × (child_of rows version n side ≡ m)
+
+    pub record AreChildrenTo (k : ℕ) (next : List Bool) : Type 0 where
+      pub as_many : length next ≡ length rows + 1
+      pub exact : (m : ℕ) → m ≢ 0 → IsTrue (get_or next m false) ↔ IsChildTo k m
+
+    pub no_children : (n : ℕ) → n ≡ length rows + 1 → AreChildrenTo 1 (replicate n false)
+    no_children n size = record {
+      as_many = length-replicate n false ∙ size;
+      exact = λ m some. (λ h. absurd (true≢false (sym h ∙ unset n m)), λ child. absurd (let none = child.2 in let under = child.3 in none (omega (arith, under))));
+    }
+
+    -- the children of one node more
+    pub children_more : (k l r : ℕ) (next : List Bool) → k ≢ 0 → get_or level k false ≡ true → l ≤ length rows → r ≤ length rows → l ≡ child_of rows version k Left → r ≡ child_of rows version k Right
+        → AreChildrenTo k next → AreChildrenTo (k + 1) (set (set next l true) r true)
+    children_more k l r next some flag l_fits r_fits l_is r_is before = record {
+      as_many = longer;
+      exact = λ m there. (
+        λ h. elim (set_flag (set next l true) r m r_in h) [
+          | inl at_r ↦ (k, Right, some, omega arith, flag, sym (at_r ∙ r_is))
+          | inr h ↦ elim (set_flag next l m l_in h) [
+            | inl at_l ↦ (k, Left, some, omega arith, flag, sym (at_l ∙ l_is))
+            | inr old ↦ (let c = (before.exact m there).0 old in (c.0, c.1, c.2, (let less = c.3 in omega (arith, less)), c.4, c.5))
+          ]
+        ],
+        λ child. elim (cases_eq child.0 k) [
+          | inl same ↦ by child.1 (sym (ap (λ n. child_of rows version n child.1) same) ∙ child.5)
+          | inr other ↦ stays_set (set next l true) r m r_in (stays_set next l m l_in ((before.exact m there).1 (child.0, child.1, child.2, (let less = child.3 in let differ : child.0 ≢ k = other in omega (arith, less, differ)), child.4, child.5)))
+        ],
+      );
+    }
+      where
+        longer : length (set (set next l true) r true) ≡ length rows + 1
+        longer = length-set (set next l true) r true ∙ (length-set next l true ∙ before.as_many)
+
+        l_in : l < length next
+        l_in = let size = before.as_many in omega (arith, size, l_fits)
+
+        r_in : r < length (set next l true)
+        r_in = let size = length-set next l true ∙ before.as_many in omega (arith, size, r_fits)
+
+        by : {m : ℕ} (side : Side) → child_of rows version k side ≡ m → get_or (set (set next l true) r true) m false ≡ true
+        by {m} Left is = stays_set (set next l true) r m r_in (get_or-set_at next l m true false (sym (l_is ∙ is)) l_in)
+        by {m} Right is = get_or-set_at (set next l true) r m true false (sym (r_is ∙ is)) r_in
+
+    pub children_same : (k : ℕ) (next : List Bool) → get_or level k false ≡ false → AreChildrenTo k next → AreChildrenTo (k + 1) next
+    children_same k next flag before = record {
+      as_many = before.as_many;
+      exact = λ m there. (
+        λ h. (let c = (before.exact m there).0 h in (c.0, c.1, c.2, (let less = c.3 in omega (arith, less)), c.4, c.5)),
+        λ child. (before.exact m there).1 (
+          child.0,
+          child.1,
+          child.2,
+          (elim (cases_eq child.0 k) [
+            | inl same ↦ absurd (true≢false (sym child.4 ∙ (ap (λ n. get_or level n false) same ∙ flag)))
+            | inr other ↦ (let less = child.3 in let differ : child.0 ≢ k = other in omega (arith, less, differ))
+          ]),
+          child.4,
+          child.5,
+        ),
+      );
+    }
+
+    pub all_children : (next : List Bool) → length level ≡ length rows + 1 → AreChildrenTo (length rows + 1) next → IsNextLevel rows version level next
+    all_children next size all = record {
+      as_many = all.as_many ∙ sym size;
+      exact = λ m there. (
+        λ h. (let c = (all.exact m there).0 h in (c.0, c.1, c.2, c.4, c.5)),
+        λ child. (all.exact m there).1 (child.0, child.1, child.2, (let fits = flag_there level child.0 child.3 in omega (arith, fits, size)), child.3, child.4),
+      );
+    }
+
+  -- ---- paths
+  nowhere : (n : ℕ) → n ≡ 0 → (sides : List Side) → led_to rows version n sides ≡ 0
+  nowhere n none [] = none
+  nowhere zero none (side ∷ sides) = refl
+  nowhere (suc n) none (side ∷ sides) = absurd (omega (arith, none))
+
+  one_turn : (n : ℕ) (side : Side) → n ≢ 0 → led_to rows version n (side ∷ []) ≡ child_of rows version n side
+  one_turn zero side some = absurd (some refl)
+  one_turn (suc n) side some = refl
+
+  -- a path with one turn more leads to a child of where it led
+  led_more : (n : ℕ) (sides : List Side) (side : Side) → led_to rows version n sides ≢ 0 → led_to rows version n (sides ++ side ∷ []) ≡ child_of rows version (led_to rows version n sides) side
+  led_more n [] side some = one_turn n side some
+  led_more zero (s ∷ sides) side some = absurd (some refl)
+  led_more (suc n) (s ∷ sides) side some = led_more (child_of rows version (suc n) s) sides side some
+
+  led_none : (n : ℕ) (sides : List Side) (side : Side) → led_to rows version n sides ≡ 0 → led_to rows version n (sides ++ side ∷ []) ≡ 0
+  led_none n [] side none = nowhere n none (side ∷ [])
+  led_none zero (s ∷ sides) side none = refl
+  led_none (suc n) (s ∷ sides) side none = led_none (child_of rows version (suc n) s) sides side none
+
+  -- where a path leads to a node, so does each part of it from its start
+  pub led_front : (k n : ℕ) (sides : List Side) → led_to rows version n sides ≢ 0 → led_to rows version n (take k sides) ≢ 0
+  led_front zero n sides some none = some (nowhere n none sides)
+  led_front (suc k) n [] some none = some none
+  led_front (suc k) zero (s ∷ sides) some none = some refl
+  led_front (suc k) (suc n) (s ∷ sides) some none = led_front k (child_of rows version (suc n) s) sides some none
+
+  record Last (sides : List Side) (k : ℕ) : Type 0 where
+    front : List Side
+    side : Side
+    whole : sides ≡ front ++ side ∷ []
+    count : length front ≡ k
+
+  last_of : (sides : List Side) (k : ℕ) → length sides ≡ k + 1 → Last sides k
+  last_of [] k size = absurd (omega (arith, size))
+  last_of (s ∷ []) k size = record { front = []; side = s; whole = refl; count = omega (arith, size) }
+  last_of (s ∷ r ∷ sides) zero size = absurd (omega (arith, size))
+  last_of (s ∷ r ∷ sides) (suc k) size = let l = last_of (r ∷ sides) k (omega (arith, size)) in record { front = s ∷ l.front; side = l.side; whole = ap (λ xs. s ∷ xs) l.whole; count = ap suc l.count }
+
+  module _ (root : ℕ) where
+    -- the root alone
+    pub root_reached : root ≤ length rows → (n : ℕ) → n ≡ length rows + 1 → AreReached rows version root 0 (set (replicate n false) root true)
+    root_reached fits n size = record {
+      as_many = length-set (replicate n false) root true ∙ many;
+      exact = λ m there. (
+        λ h. elim (set_flag (replicate n false) root m (omega (arith, many, fits)) h) [ inl same ↦ ([], refl, sym same) | inr old ↦ absurd (true≢false (sym old ∙ unset n m)) ],
+        λ path. get_or-set_at (replicate n false) root m true false (at path.0 path.1 path.2) (omega (arith, many, fits)),
+      );
+    }
+      where
+        many : length (replicate n false) ≡ length rows + 1
+        many = length-replicate n false ∙ size
+
+        at : {m : ℕ} (sides : List Side) → length sides ≡ 0 → led_to rows version root sides ≡ m → m ≡ root
+        at [] none is = sym is
+        at (s ∷ sides) none is = absurd (omega (arith, none))
+
+    -- one turn more
+    pub reached_more : (turns : ℕ) (flags next : List Bool) → AreReached rows version root turns flags → IsNextLevel rows version flags next → AreReached rows version root (turns + 1) next
+    reached_more turns flags next reached step = record {
+      as_many = step.as_many ∙ reached.as_many;
+      exact = λ m there. (
+        λ h. (let child = (step.exact m there).0 h in
+            let path = (reached.exact child.0 child.2).0 child.3 in (
+              path.0 ++ child.1 ∷ [],
+              length-append path.0 (child.1 ∷ []) ∙ ap (λ k. k + 1) path.1,
+              led_more root path.0 child.1 (λ none. child.2 (sym path.2 ∙ none)) ∙ (ap (λ k. child_of rows version k child.1) path.2 ∙ child.4),
+            )),
+        λ path. (let l = last_of path.0 turns path.1 in
+            let is = sym (ap (led_to rows version root) l.whole) ∙ path.2 in
+            elim (cases_eq (led_to rows version root l.front) 0) [
+              | inl none ↦ absurd (there (sym is ∙ led_none root l.front l.side none))
+              | inr some ↦ (step.exact m there).1 (led_to rows version root l.front, l.side, some, (reached.exact (led_to rows version root l.front) some).1 (l.front, l.count, refl), sym (led_more root l.front l.side some) ∙ is)
+            ]),
+      );
+    }
+
+    -- a path with so many turns is there exactly where a node is
+    pub path_there : (turns : ℕ) (flags : List Bool) → AreReached rows version root turns flags → HasNode flags ↔ HasLongPath rows version root turns
+    path_there turns flags reached = (
+      λ node. (let path = (reached.exact node.0 node.1).0 node.2 in (path.0, λ none. node.1 (sym path.2 ∙ none), path.1)),
+      λ path. (led_to rows version root path.0, path.1, (reached.exact (led_to rows version root path.0) path.1).1 (path.0, path.2, refl)),
+    )

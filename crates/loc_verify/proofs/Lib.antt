@@ -1,0 +1,12 @@
+mod Apart
+mod Ends
+mod Exchanged
+mod Following
+mod KindLaws
+mod LevelSteps
+mod Named
+mod Odd
+mod Ranked
+mod VersionLaws
+mod Wrong
+mod WrongCovers

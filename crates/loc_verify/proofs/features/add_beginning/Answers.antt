@@ -1,0 +1,30 @@
+use Rattle.std.proofs.Common.{◌≡◌, ◌+◌, ◌-◌, ◌++◌, ◌∷◌, [], sym, ◌∙◌, ap, subst, arith}
+use Rattle.std.specs.List.{range_with_len}
+use Rattle.std.proofs.lemmas.Option.{get_or_from_slice_get}
+use Rattle.loc_spec_plane.specs.Lists.{exactly_one, odd_many}
+use Rattle.loc_spec_plane.specs.Tables.{has_odd}
+use Rattle.loc_cover.specs.Exchanges.{is_marked_odd}
+use Rattle.loc_cover.proofs.Gathered.{range_more}
+use Rattle.loc_verify.specs.Least.{is_odd_in}
+use Rattle.loc_verify.proofs.Odd.{GathersOdd, gathers_odd, odd_begun}
+use Rattle.loc_verify.proofs.features.add_beginning.Goals as goal
+
+pub loop-edge-preserved : goal.loop-edge-preserved
+loop-edge-preserved c =
+    let first = c.beginning-first.result.0 in
+    let edge = c.loop-edge.edge in
+    let row = get_or_from_slice_get c.args.table.now.marks c.loop-edge.edge c.marks.result.now [] c.marks.ensures.value in
+    let from = c.loop-edge.invariant.from in
+    let more : (c.loop-edge.edge + 1) - c.beginning-first.result.0 ≡ (c.loop-edge.edge - c.beginning-first.result.0) + 1 = omega (arith, from) in
+    let last : c.beginning-first.result.0 + (c.loop-edge.edge - c.beginning-first.result.0) ≡ c.loop-edge.edge = omega (arith, from) in
+    record {
+      from = omega (arith, from);
+      gathered = subst (λ es. GathersOdd c.args.table.now c.args.row.now.items c.add_odd.new.row.items es) (sym (ap (range_with_len first) more ∙ (range_more first (edge - first) ∙ ap (λ k. range_with_len first (edge - first) ++ k ∷ []) last)))
+          (gathers_odd c.args.table.now c.args.row.now.items c.loop-edge.row.items c.add_odd.new.row.items (range_with_len first (edge - first)) edge c.loop-edge.invariant.gathered
+          (λ f. c.in_ok-add_odd.ensures f ∙ ap (λ ms. exactly_one (is_odd_in f c.loop-edge.row.items) (is_marked_odd ms f)) (sym row)));
+    }
+
+pub returns : goal.returns
+returns c = λ f.
+    (let end : c.loop-edge.edge ≡ c.beginning-first.result.1 = omega (arith, c.loop-edge-test.false, c.loop-edge.auto.edge-end, c.beginning-first.ensures.in_order) in
+    c.loop-edge.invariant.gathered f ∙ ap (exactly_one (is_odd_in f c.args.row.now.items)) (ap (λ n. odd_many (has_odd c.args.table.now f) (range_with_len c.beginning-first.result.0 (n - c.beginning-first.result.0))) end ∙ odd_begun c.args.table.now c.args.corner f c.beginning-first.result.0 c.beginning-first.result.1 c.beginning-first.ensures))

@@ -1,0 +1,52 @@
+// What is wrong with an index.
+
+ghost use Rattle.std.specs.Prelude.{◌≡◌};
+
+use loc_geom::Meeting;
+use std::alloc::AllocError;
+use thiserror::Error;
+
+/// The first flaw of an index: corners, edges, features, lists and versions go by number, and so does the position in a list, all from 0.
+#[derive(Clone, Copy, PartialEq, Eq, Debug, Drop, Error)]
+pub enum VerifyFault {
+    /// The corner is the end of no edge.
+    #[error("corner {corner} lone")]
+    Lone { corner: u32 },
+    /// The edge has no mark.
+    #[error("edge {edge} bare")]
+    Bare { edge: u32 },
+    /// The feature marks an odd number of the edges at the corner odd.
+    #[error("feature {feature} uneven at corner {corner}")]
+    Uneven { corner: u32, feature: u32 },
+    /// The two edges conflict, of which a has the lesser number.
+    #[error("edges {a} and {b} conflict")]
+    Conflict { a: u32, b: u32, meeting: Meeting },
+    /// The stored floor is not that of the corner.
+    #[error("floor of corner {corner}")]
+    WrongFloor { corner: u32 },
+    /// The list that the edge names is not the one above it.
+    #[error("cover of edge {edge}")]
+    WrongCover { edge: u32 },
+    /// No edge names the list.
+    #[error("list {list} spare")]
+    SpareCover { list: u32 },
+    /// A path of the version has too many nodes for the edges alive there.
+    #[error("version {version} deep")]
+    Deep { version: u32 },
+    /// The version is read otherwise than the list at its corner, from this position on.
+    #[error("version {version} wrong at {position}")]
+    WrongList { version: u32, position: u32 },
+    /// Memory was wanting. It says nothing of the index.
+    #[error("out of memory")]
+    NoMemory,
+}
+
+impl From<AllocError> for VerifyFault {
+    ghost use Rattle.loc_verify.specs.declared.fault.VerifyFault.TheVariants.{NoMemory};
+
+    ghost from_gives = { λ _ fault. fault ≡ NoMemory };
+
+    fn from(_: AllocError) -> Self {
+        VerifyFault::NoMemory
+    }
+}

@@ -1,0 +1,33 @@
+// The judge.
+
+ghost use Rattle.std.specs.Prelude.{IfErr, OnOk};
+ghost use Rattle.loc_spec_index.specs.TrueIndex.{IsTrueIndex};
+ghost use Rattle.loc_verify.specs.Judged.{IsJudged};
+
+use crate::VerifyFault;
+use crate::kinds::{
+    judge_corners, judge_covers, judge_crossings, judge_edges, judge_floors, judge_lists,
+    judge_marks,
+};
+use crate::versions::judge_versions;
+use loc_file::Held;
+use std::alloc::Global;
+
+/// Judges what was read from an index file. It is Ok exactly where that is a true index, want of memory aside; else its first flaw is shown,
+/// in the order of the faults: corners without an edge, edges without a mark, uneven features, conflicts, floors, cover lists, spare lists,
+/// and then one version after another. Of two edges that conflict any may be shown. It takes the time that all versions take to be read, by
+/// their lists.
+pub fn verify(alloc: Global, held: &Held) -> Result<(), VerifyFault>
+    ensures ok { OnOk result (IsTrueIndex held.now) }
+    ensures first { IfErr result (IsJudged held.now) }
+{
+    held.law();
+    judge_corners(held)?;
+    judge_edges(held)?;
+    judge_marks(alloc, held)?;
+    let floors = judge_crossings(alloc, held)?;
+    judge_floors(held, &floors)?;
+    judge_covers(alloc, held)?;
+    judge_lists(alloc, held)?;
+    judge_versions(alloc, held)
+}

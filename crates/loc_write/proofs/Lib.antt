@@ -1,0 +1,8 @@
+mod Covers
+mod Filed
+pub mod Held
+mod Lists
+mod Numbering
+mod Ranges
+mod Right
+mod Spelling

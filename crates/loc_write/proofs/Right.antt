@@ -1,0 +1,272 @@
+-- When the fields of rows are right: each number is below its bound, and each row comes behind the one before it.
+use Rattle.std.proofs.Common.{◌≡◌, ℕ, zero, suc, ◌+◌, ◌-◌, ◌^◌, ◌<◌, ◌≤◌, Bool, true, false, ◌&&◌, List, [], ◌∷◌, ◌++◌, length, map, get_or, refl, sym, subst, arith, ℤ, pos, negsuc}
+use Rattle.std.specs.Prelude.{Option, Some, None, is_none, nat_lt, ◌==◌, min, sum_by, fold, max, if◌then◌else◌, unsigned_abs}
+use Rattle.std.specs.List.{flat_map, last_or, list_all}
+use Rattle.std.specs.Int.{Width, w8, w32}
+use Rattle.std.proofs.lemmas.Bool.{and_parts, and_from, or_left, or_right, lt-ltb, ltb-true, eqb-true, eq-eqb}
+use Rattle.std.proofs.lemmas.Int.{ints}
+use Rattle.std.proofs.lemmas.List.Sums.{sum_by-append}
+use Rattle.loc_spec_plane.specs.Lists.{is_rising}
+use Rattle.loc_spec_plane.specs.Points.{Point, before, OnGrid, IsGridPoint}
+use Rattle.loc_spec_plane.specs.Covers.{list_before}
+use Rattle.loc_spec_plane.specs.declared.Mark.{Mark}
+use Rattle.loc_spec_plane.specs.Tables.{pair_before, mark_before}
+use Rattle.loc_spec_index.specs.declared.IndexFault.{IndexFault}
+use Rattle.loc_spec_index.specs.declared.NodeRow.{NodeRow}
+use Rattle.loc_spec_index.specs.declared.Part.{Part}
+use Rattle.loc_spec_index.specs.declared.Part.TheVariants.{Corners, Edges, Marks, Covers}
+use Rattle.loc_spec_index.specs.Content.{EdgeRow}
+use Rattle.loc_spec_index.specs.IndexFile.{Field, number, coordinate, text, order, bit, follows, unless, is_right, are_right, rows_from, is_rising_pair, id_fields, corner_fields, edge_fields, edge_row_before, mark_fields, mark_row_before, cover_fields, node_fields}
+use Rattle.loc_laws_index.proofs.Progress.{are_right-append}
+use Rattle.loc_persist.specs.Numbered.{IsWithin}
+use Rattle.loc_write.specs.Written.{edge_rows, marks_from}
+
+-- ---- fields
+
+holds-right : (b : Bool) (f : IndexFault) → b ≡ true → is_none (unless b f) ≡ true
+holds-right true f e = refl
+holds-right false f e = cc
+
+pub cons-right : (f : Field) (fs : List Field) → is_right f ≡ true → are_right fs ≡ true → are_right (f ∷ fs) ≡ true
+cons-right f fs p q = and_from (is_right f) (are_right fs) p q
+
+pub number-right : (w : Width) (bound value : ℕ) → value < bound → is_right (number w bound value) ≡ true
+number-right w bound value lt = holds-right (nat_lt value bound) _ (lt-ltb value bound lt)
+
+-- the order of a row, behind its last field
+order-right : (part : Part) (row : ℕ) (holds : Bool) → holds ≡ true → are_right (order part row holds ∷ []) ≡ true
+order-right part row holds h = cons-right (order part row holds) [] (holds-right holds _ h) refl
+
+coordinate-right : (x : ℤ) → OnGrid x → is_right (coordinate x) ≡ true
+coordinate-right x on = holds-right (nat_lt (unsigned_abs x) (10 ^ 18 + 1)) _ (lt-ltb (unsigned_abs x) (10 ^ 18 + 1) (small x on))
+  where
+    small : (x : ℤ) → OnGrid x → unsigned_abs x < 10 ^ 18 + 1
+    small (pos n) on = let hi = on.1 in omega (arith, ints, hi)
+    small (negsuc n) on = let lo = on.0 in omega (arith, ints, lo)
+
+-- ---- what holds of each of some rows
+
+abbrev pub Each : {X : Type 0} → (X → Type 0) → List X → Type 0
+Each P [] = Unit {0}
+Each P (x ∷ xs) = P x × Each P xs
+
+pub each-at : {X : Type 0} (P : X → Type 0) (xs : List X) → ((i : ℕ) (d : X) → i < length xs → P (get_or xs i d)) → Each P xs
+each-at P [] h = tt
+each-at P (x ∷ xs) h = (h 0 x (omega arith), each-at P xs (λ i d lt. h (suc i) d (omega (arith, lt))))
+
+pub each-more : {X : Type 0} (P Q : X → Type 0) → ((x : X) → P x → Q x) → (xs : List X) → Each P xs → Each Q xs
+each-more P Q f [] e = tt
+each-more P Q f (x ∷ xs) e = (f x e.0, each-more P Q f xs e.1)
+
+each-append : {X : Type 0} (P : X → Type 0) (xs ys : List X) → Each P xs → Each P ys → Each P (xs ++ ys)
+each-append P [] ys e f = f
+each-append P (x ∷ xs) ys e f = (e.0, each-append P xs ys e.1 f)
+
+each-parts : {X : Type 0} (P : X → Type 0) (xs ys : List X) → Each P (xs ++ ys) → Each P xs × Each P ys
+each-parts P [] ys e = (tt, e)
+each-parts P (x ∷ xs) ys e = let r = each-parts P xs ys e.1 in ((e.0, r.0), r.1)
+
+-- each comes behind the one before it
+abbrev pub Chain : {X : Type 0} → (X → X → Bool) → Option X → List X → Type 0
+Chain lt last [] = Unit {0}
+Chain lt last (x ∷ xs) = (follows lt last x ≡ true) × Chain lt (Some x) xs
+
+chain-behind : {X : Type 0} (lt : X → X → Bool) (x : X) (xs : List X) → is_rising lt (x ∷ xs) ≡ true → Chain lt (Some x) xs
+chain-behind lt x [] h = tt
+chain-behind lt x (y ∷ ys) h = let p = and_parts (list_all (lt x) (y ∷ ys)) (is_rising lt (y ∷ ys)) h in ((and_parts (lt x y) (list_all (lt x) ys) p.0).0, chain-behind lt y ys p.1)
+
+pub chain-rising : {X : Type 0} (lt : X → X → Bool) (xs : List X) → is_rising lt xs ≡ true → Chain lt None xs
+chain-rising lt [] h = tt
+chain-rising lt (x ∷ xs) h = (refl, chain-behind lt x xs h)
+
+last-is : {X : Type 0} (o : Option X) (earlier : List X) (x : X) → last_or o (earlier ++ x ∷ []) ≡ Some x
+last-is o [] x = refl
+last-is o (y ∷ earlier) x = last-is (Some y) earlier x
+
+pub rows-right : {X : Type 0} (row : List X → X → List Field) (lt : X → X → Bool) (P : X → Type 0) → ((earlier : List X) (x : X) → P x → follows lt (last_or None earlier) x ≡ true → are_right (row earlier x) ≡ true)
+    → (earlier xs : List X) → Each P xs → Chain lt (last_or None earlier) xs → are_right (rows_from row earlier xs) ≡ true
+rows-right row lt P one earlier [] e c = refl
+rows-right row lt P one earlier (x ∷ xs) e c =
+    are_right-append (row earlier x) (rows_from row (earlier ++ x ∷ []) xs) (one earlier x e.0 c.0) (rows-right row lt P one (earlier ++ x ∷ []) xs e.1 (subst (λ o. Chain lt o xs) (sym (last-is None earlier x)) c.1))
+
+pub flat-right : {X : Type 0} (row : X → List Field) (P : X → Type 0) → ((x : X) → P x → are_right (row x) ≡ true) → (xs : List X) → Each P xs → are_right (flat_map row xs) ≡ true
+flat-right row P one [] e = refl
+flat-right row P one (x ∷ xs) e = are_right-append (row x) (flat_map row xs) (one x e.0) (flat-right row P one xs e.1)
+
+pub map-right : {X : Type 0} (field : X → Field) (P : X → Type 0) → ((x : X) → P x → is_right (field x) ≡ true) → (xs : List X) → Each P xs → are_right (map field xs) ≡ true
+map-right field P one [] e = refl
+map-right field P one (x ∷ xs) e = cons-right (field x) (map field xs) (one x e.0) (map-right field P one xs e.1)
+
+-- ---- ids and corners
+
+pub id-right : (id : List ℕ) → length id ≤ 200 → are_right (id_fields id) ≡ true
+id-right id few = cons-right (number w8 201 (length id)) (text id ∷ []) (number-right w8 201 (length id) (omega (arith, few))) refl
+
+pub corner-right : (earlier : List Point) (p : Point) → IsGridPoint p → follows before (last_or None earlier) p ≡ true → are_right (corner_fields earlier p) ≡ true
+corner-right earlier p on h =
+    let last = order Corners (length earlier) (follows before (last_or None earlier) p) ∷ [] in
+    cons-right (coordinate p.x) (coordinate p.y ∷ last) (coordinate-right p.x on.0) (cons-right (coordinate p.y) last (coordinate-right p.y on.1) (order-right Corners (length earlier) _ h))
+
+-- ---- edges
+
+-- its ends are numbers of corners, the lesser first, it is its own source, and its list is one of the lists
+pub record IsEdgeWithin (nv nc : ℕ) (e : EdgeRow) : Type 0 where
+  pub goes_up : e.ends.0 < e.ends.1
+  pub upper : e.ends.1 < nv
+  pub source : e.source.0 < e.source.1
+  pub cover : e.cover < nc
+
+pub edge-right : (nv nc : ℕ) (earlier : List EdgeRow) (e : EdgeRow) → IsEdgeWithin nv nc e → follows edge_row_before (last_or None earlier) e ≡ true → are_right (edge_fields 1 nv nc earlier e) ≡ true
+edge-right nv nc earlier e w h =
+    let test = (is_rising_pair e.ends && is_rising_pair e.source) && follows edge_row_before (last_or None earlier) e in
+    let last = order Edges (length earlier) test ∷ [] in
+    let up = w.goes_up in
+    let most = w.upper in
+    let rises = and_from (is_rising_pair e.ends && is_rising_pair e.source) _ (and_from (is_rising_pair e.ends) (is_rising_pair e.source) (lt-ltb e.ends.0 e.ends.1 w.goes_up) (lt-ltb e.source.0 e.source.1 w.source)) h in
+    cons-right (number w32 nv e.ends.0) (number w32 nv e.ends.1 ∷ number w32 nc e.cover ∷ last) (number-right w32 nv e.ends.0 (omega (arith, up, most)))
+    (cons-right (number w32 nv e.ends.1) (number w32 nc e.cover ∷ last) (number-right w32 nv e.ends.1 most)
+    (cons-right (number w32 nc e.cover) last (number-right w32 nc e.cover w.cover) (order-right Edges (length earlier) test rises)))
+
+pub chain-edges : (ends : List (ℕ × ℕ)) (above : List ℕ) → is_rising pair_before ends ≡ true → Chain edge_row_before None (edge_rows ends above)
+chain-edges [] above h = tt
+chain-edges (p ∷ ends) [] h = tt
+chain-edges (p ∷ ends) (n ∷ above) h = (refl, behind p n ends above h)
+  where
+    behind : (p : ℕ × ℕ) (n : ℕ) (ends : List (ℕ × ℕ)) (above : List ℕ) → is_rising pair_before (p ∷ ends) ≡ true → Chain edge_row_before (Some (record { ends = p; source = p; cover = n })) (edge_rows ends above)
+    behind p n [] above h = tt
+    behind p n (q ∷ ends) [] h = tt
+    behind p n (q ∷ ends) (m ∷ above) h = let r = and_parts (list_all (pair_before p) (q ∷ ends)) (is_rising pair_before (q ∷ ends)) h in ((and_parts (pair_before p q) (list_all (pair_before p) ends) r.0).0, behind q m ends above r.1)
+
+-- ---- marks
+
+-- its edge and its feature are there
+abbrev pub IsMarkWithin : ℕ → ℕ → ℕ × Mark → Type 0
+IsMarkWithin ne nf m = (m.0 < ne) × (m.1.feature < nf)
+
+bit-small : (b : Bool) → bit b < 2
+bit-small true = omega arith
+bit-small false = omega arith
+
+pub mark-right : (ne nf : ℕ) (earlier : List (ℕ × Mark)) (m : ℕ × Mark) → IsMarkWithin ne nf m → follows mark_row_before (last_or None earlier) m ≡ true → are_right (mark_fields ne nf earlier m) ≡ true
+mark-right ne nf earlier m w h =
+    let last = order Marks (length earlier) (follows mark_row_before (last_or None earlier) m) ∷ [] in
+    cons-right (number w32 ne m.0) (number w32 nf m.1.feature ∷ number w8 2 (bit m.1.odd) ∷ last) (number-right w32 ne m.0 w.0)
+    (cons-right (number w32 nf m.1.feature) (number w8 2 (bit m.1.odd) ∷ last) (number-right w32 nf m.1.feature w.1)
+    (cons-right (number w8 2 (bit m.1.odd)) last (number-right w8 2 (bit m.1.odd) (bit-small m.1.odd)) (order-right Marks (length earlier) _ h)))
+
+keyed-each : (ne nf e : ℕ) → e < ne → (row : List Mark) → Each (λ (m : Mark). m.feature < nf) row → Each (IsMarkWithin ne nf) (map (λ (m : Mark). (e, m)) row)
+keyed-each ne nf e lt [] h = tt
+keyed-each ne nf e lt (m ∷ row) h = ((lt, h.0), keyed-each ne nf e lt row h.1)
+
+pub marks-each : (ne nf e : ℕ) (rows : List (List Mark)) → e + length rows ≤ ne → Each (λ (m : Mark). m.feature < nf) (flat_map (λ ms. ms) rows) → Each (IsMarkWithin ne nf) (marks_from e rows)
+marks-each ne nf e [] few h = tt
+marks-each ne nf e (row ∷ rows) few h =
+    let p = each-parts (λ (m : Mark). m.feature < nf) row (flat_map (λ ms. ms) rows) h in
+    each-append (IsMarkWithin ne nf) (map (λ (m : Mark). (e, m)) row) (marks_from (e + 1) rows) (keyed-each ne nf e (omega (arith, few)) row p.0) (marks-each ne nf (e + 1) rows (omega (arith, few)) p.1)
+
+max-each : (k n : ℕ) (ms : List Mark) → fold (λ n (m : Mark). max n (suc m.feature)) n ms ≤ k → (n ≤ k) × Each (λ (m : Mark). m.feature < k) ms
+max-each k n [] h = (h, tt)
+max-each k n (m ∷ ms) h = let r = max-each k (max n (suc m.feature)) ms h in let a = r.0 in (omega (arith, a), (omega (arith, a), r.1))
+
+pub features-each : (nf : ℕ) (rows : List (List Mark)) → fold (λ n (m : Mark). max n (suc m.feature)) 0 (flat_map (λ ms. ms) rows) ≤ nf → Each (λ (m : Mark). m.feature < nf) (flat_map (λ ms. ms) rows)
+features-each nf rows h = (max-each nf 0 (flat_map (λ ms. ms) rows) h).1
+
+abbrev Before : ℕ → Option (ℕ × Mark) → Type 0
+Before e None = Unit {0}
+Before e (Some m) = m.0 < e
+
+before-next : (e : ℕ) (o : Option (ℕ × Mark)) → Before e o → Before (e + 1) o
+before-next e None b = tt
+before-next e (Some m) b = omega (arith, b)
+
+follows-edge : (e : ℕ) (o : Option (ℕ × Mark)) (m : Mark) → Before e o → follows mark_row_before o (e, m) ≡ true
+follows-edge e None m b = refl
+follows-edge e (Some k) m b = or_left (nat_lt k.0 e) _ (lt-ltb k.0 e b)
+
+follows-mark : (e : ℕ) (k m : Mark) → mark_before k m ≡ true → mark_row_before (e, k) (e, m) ≡ true
+follows-mark e k m h = or_right (nat_lt e e) _ (and_from (e == e) (nat_lt k.feature m.feature) (eq-eqb e e refl) h)
+
+chain-edge : (e : ℕ) (k : Mark) (row : List Mark) (rest : List (ℕ × Mark)) → is_rising mark_before (k ∷ row) ≡ true → ((o : Option (ℕ × Mark)) → Before (e + 1) o → Chain mark_row_before o rest) → Chain mark_row_before (Some (e, k)) (map (λ (m : Mark). (e, m)) row ++ rest)
+chain-edge e k [] rest h next = next (Some (e, k)) (omega arith)
+chain-edge e k (m ∷ row) rest h next =
+    let p = and_parts (list_all (mark_before k) (m ∷ row)) (is_rising mark_before (m ∷ row)) h in
+    (follows-mark e k m (and_parts (mark_before k m) (list_all (mark_before k) row) p.0).0, chain-edge e m row rest p.1 next)
+
+chain-first : (e : ℕ) (o : Option (ℕ × Mark)) (row : List Mark) (rest : List (ℕ × Mark)) → Before e o → is_rising mark_before row ≡ true → ((o : Option (ℕ × Mark)) → Before (e + 1) o → Chain mark_row_before o rest) → Chain mark_row_before o (map (λ (m : Mark). (e, m)) row ++ rest)
+chain-first e o [] rest b h next = next o (before-next e o b)
+chain-first e o (m ∷ row) rest b h next = (follows-edge e o m b, chain-edge e m row rest h next)
+
+pub chain-marks : (e : ℕ) (rows : List (List Mark)) → Each (λ row. is_rising mark_before row ≡ true) rows → (o : Option (ℕ × Mark)) → Before e o → Chain mark_row_before o (marks_from e rows)
+chain-marks e [] h o b = tt
+chain-marks e (row ∷ rows) h o b = chain-first e o row (marks_from (e + 1) rows) b h.0 (chain-marks (e + 1) rows h.1)
+
+-- ---- cover lists
+
+-- it rises, and its members are features
+abbrev pub IsListWithin : ℕ → List ℕ → Type 0
+IsListWithin nf list = (is_rising nat_lt list ≡ true) × Each (λ f. f < nf) list
+
+few-from : (nf x : ℕ) (xs : List ℕ) → is_rising nat_lt (x ∷ xs) ≡ true → Each (λ f. f < nf) (x ∷ xs) → length (x ∷ xs) + x ≤ nf
+few-from nf x [] h e = let lt = e.0 in omega (arith, lt)
+few-from nf x (y ∷ ys) h e =
+    let p = and_parts (list_all (nat_lt x) (y ∷ ys)) (is_rising nat_lt (y ∷ ys)) h in
+    let lt = ltb-true x y (and_parts (nat_lt x y) (list_all (nat_lt x) ys) p.0).0 in
+    let r = few-from nf y ys p.1 e.1 in
+    let one : length (x ∷ y ∷ ys) ≡ length (y ∷ ys) + 1 = omega arith in
+    omega (arith, lt, r, one)
+
+-- a rising list below a number is no longer than it
+few : (nf : ℕ) (list : List ℕ) → IsListWithin nf list → length list ≤ nf
+few nf [] w = omega arith
+few nf (x ∷ xs) w = let r = few-from nf x xs w.0 w.1 in omega (arith, r)
+
+cover-right : (nf : ℕ) (earlier : List (List ℕ)) (list : List ℕ) → IsListWithin nf list → sum_by length earlier + length list ≤ 2 ^ 24 → follows list_before (last_or None earlier) list ≡ true → are_right (cover_fields nf earlier list) ≡ true
+cover-right nf earlier list w room h =
+    let bound = min nf (2 ^ 24 - sum_by length earlier) + 1 in
+    let test = is_rising nat_lt list && follows list_before (last_or None earlier) list in
+    let last = order Covers (length earlier) test ∷ [] in
+    let short = few nf list w in
+    cons-right (number w32 bound (length list)) (map (number w32 nf) list ++ last) (number-right w32 bound (length list) (omega (arith, short, room)))
+    (are_right-append (map (number w32 nf) list) last (map-right (number w32 nf) (λ f. f < nf) (λ f lt. number-right w32 nf f lt) list w.1)
+    (order-right Covers (length earlier) test (and_from (is_rising nat_lt list) _ w.0 h)))
+
+pub covers-right : (nf : ℕ) (earlier lists : List (List ℕ)) → sum_by length earlier + sum_by length lists ≤ 2 ^ 24 → Each (IsListWithin nf) lists → Chain list_before (last_or None earlier) lists → are_right (rows_from (cover_fields nf) earlier lists) ≡ true
+covers-right nf earlier [] room e c = refl
+covers-right nf earlier (list ∷ lists) room e c =
+    let a = sum_by-append length earlier (list ∷ []) in
+    let one : sum_by length (list ∷ []) ≡ 0 + length list = refl in
+    let all : sum_by length (list ∷ lists) ≡ sum_by length (list ∷ []) + sum_by length lists = sum_by-append length (list ∷ []) lists in
+    are_right-append (cover_fields nf earlier list) (rows_from (cover_fields nf) (earlier ++ list ∷ []) lists) (cover-right nf earlier list e.0 (omega (arith, room, one, all)) c.0)
+    (covers-right nf (earlier ++ list ∷ []) lists (omega (arith, room, a, one, all)) e.1 (subst (λ o. Chain list_before o lists) (sym (last-is None earlier list)) c.1))
+
+-- ---- nodes
+
+zero-not : (n : ℕ) → (n == 0) ≡ false → 0 < n
+zero-not zero h = absurd (let f : true ≡ false = h in cc)
+zero-not (suc n) h = omega arith
+
+pub node-right : (ne nv nn past : ℕ) (changed : Bool) (row : NodeRow) → past ≤ ne → changed ≡ false → IsWithin past nv nn changed row → are_right (node_fields ne nv nn row) ≡ true
+node-right ne nv nn past changed row few settled w =
+    let f6 = number w32 (if row.side == 0 then 1 else nn + 1) row.extra ∷ [] in
+    let f5 = number w32 (if row.side == 0 then 1 else nv) row.stamp ∷ f6 in
+    let f4 = number w8 3 row.side ∷ f5 in
+    let f3 = number w32 (nn + 1) row.right ∷ f4 in
+    let f2 = number w32 (nn + 1) row.left ∷ f3 in
+    let item = w.item in
+    let left = w.left in
+    let right = w.right in
+    let side = w.side in
+    cons-right (number w32 ne row.item) f2 (number-right w32 ne row.item (omega (arith, item, few)))
+    (cons-right (number w32 (nn + 1) row.left) f3 (number-right w32 (nn + 1) row.left (omega (arith, left)))
+    (cons-right (number w32 (nn + 1) row.right) f4 (number-right w32 (nn + 1) row.right (omega (arith, right)))
+    (cons-right (number w8 3 row.side) f5 (number-right w8 3 row.side (omega (arith, side)))
+    (cons-right (number w32 (if row.side == 0 then 1 else nv) row.stamp) f6 (number-right w32 _ row.stamp (stamp (row.side == 0) refl))
+    (cons-right (number w32 (if row.side == 0 then 1 else nn + 1) row.extra) [] (number-right w32 _ row.extra (extra (row.side == 0) refl)) refl)))))
+  where
+    stamp : (b : Bool) → (row.side == 0) ≡ b → row.stamp < (if b then 1 else nv)
+    stamp true is = let none = w.no_stamp (eqb-true row.side 0 is) in omega (arith, none)
+    stamp false is = w.settled settled (zero-not row.side is)
+
+    extra : (b : Bool) → (row.side == 0) ≡ b → row.extra < (if b then 1 else nn + 1)
+    extra true is = let none = w.no_extra (eqb-true row.side 0 is) in omega (arith, none)
+    extra false is = let le = w.extra in omega (arith, le)
