@@ -1,5 +1,6 @@
 pub mod Along
 pub mod Counted
+pub mod Endings
 pub mod Going
 pub mod Grown
 pub mod Makings

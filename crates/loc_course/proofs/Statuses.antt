@@ -36,7 +36,7 @@ module _ (before : Option Text) (new : Moment) (o : Outcome) where
   misses_case (Some no_memory) ends = inr refl
 
 -- a count that rose did not stay
-rose_not : (r r' : ℕ) → Rose r r' → Steady r r' → ⊥
+pub rose_not : (r r' : ℕ) → Rose r r' → Steady r r' → ⊥
 rose_not r r' rose steady = omega (arith, rose, steady.0, steady.1)
 
 -- where no call failed, no write did
@@ -53,7 +53,8 @@ not_refused (partly out other) before new line doing ends = doing
 not_refused (file name passes) before new line doing ends = ends
 
 module _ (old new : Moment) where
-  succeeds_case : (o : Outcome) (end : Option Stopped) → EndsSo o old.out.written new end → (status_of end ≡ 3 → ⊥) → (status_of end ≡ 4 → ⊥) → IsDoing o → (status_of end ≡ 0) ⊎ (status_of end ≡ 5)
+  -- where no read and no write failed, a command whose told files come to an output or to a file was done, or memory was wanting
+  pub succeeds_case : (o : Outcome) (end : Option Stopped) → EndsSo o old.out.written new end → (status_of end ≡ 3 → ⊥) → (status_of end ≡ 4 → ⊥) → IsDoing o → (status_of end ≡ 0) ⊎ (status_of end ≡ 5)
   succeeds_case o None ends no_read no_write doing = inl refl
   succeeds_case o (Some (refused line)) ends no_read no_write doing = absurd (not_refused o old.out.written new line doing ends)
   succeeds_case o (Some unread) ends no_read no_write doing = absurd (no_read refl)

@@ -24,6 +24,12 @@ const HOLED: &[Ring] = &[
     &[(10, 10), (10, 30), (30, 30), (30, 10), (10, 10)],
 ];
 
+// The same at a tenth of the size.
+const HOLED_WHOLE: &[Ring] = &[
+    &[(0, 0), (4, 0), (4, 4), (0, 4), (0, 0)],
+    &[(1, 1), (1, 3), (3, 3), (3, 1), (1, 1)],
+];
+
 // Two triangles touch a square from inside at one corner.
 const TOUCHING: &[Ring] = &[
     &[(0, 0), (8, 0), (8, 8), (0, 8), (0, 0)],
@@ -53,12 +59,17 @@ const ISLANDS: &[Ring] = &[
 ];
 
 // The rings of the features, the scale, and the texts of all faces, one behind the other.
-const ROWS: [(&[Ring], u8, &str); 7] = [
+const ROWS: [(&[Ring], u8, &str); 8] = [
     (&[], 0, "face 0\n"),
     (
         HOLED,
         1,
         "face 0\ninner 0.0 0.0, 0.0 4.0, 4.0 4.0, 4.0 0.0\nface 1\nouter 0.0 4.0, 0.0 0.0, 4.0 0.0, 4.0 4.0\ninner 1.0 1.0, 1.0 3.0, 3.0 3.0, 3.0 1.0\nface 2\nouter 1.0 3.0, 1.0 1.0, 3.0 1.0, 3.0 3.0\n",
+    ),
+    (
+        HOLED_WHOLE,
+        0,
+        "face 0\ninner 0 0, 0 4, 4 4, 4 0\nface 1\nouter 0 4, 0 0, 4 0, 4 4\ninner 1 1, 1 3, 3 3, 3 1\nface 2\nouter 1 3, 1 1, 3 1, 3 3\n",
     ),
     (
         TOUCHING,

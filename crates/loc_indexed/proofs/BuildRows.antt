@@ -3,7 +3,6 @@ use Rattle.std.proofs.Common.{◌≡◌, ◌⊎◌, ℕ, ◌<◌, ◌≤◌, Boo
 use Rattle.std.specs.Prelude.{IsTrue, codes, nat_lt}
 use Rattle.std.proofs.lemmas.Bool.{cond-true, cond-false, le-ltb}
 use Rattle.std.proofs.lemmas.Bool.Decides.{Decides-ltb}
-use Rattle.loc_io.specs.Causes.{Rose}
 use Rattle.loc_io.specs.Meaning.{Told, holds}
 use Rattle.loc_io.specs.Streams.{Stream}
 use Rattle.loc_spec_plane.specs.Covers.{cover_sum}
@@ -11,12 +10,14 @@ use Rattle.loc_spec_text.specs.Points.{ended}
 use Rattle.loc_rings.specs.Values.{Feature}
 use Rattle.loc_csvform.specs.Layer.{LayerRead, layer_of}
 use Rattle.loc_edges.specs.Conflicts.{has_conflict}
-use Rattle.loc_course.specs.Courses.{Text, Source, Course, makes, refuses, Stopped, refused, unread, unwritten, no_memory}
+use Rattle.loc_course.specs.Courses.{Text, Source, Course, makes, refuses, Stopped}
+use Rattle.loc_course.specs.Endings.{AtEnd}
 use Rattle.loc_course.specs.Moments.{IsToldText, Moment}
 use Rattle.loc_course.specs.Outcomes.{Outcome, by_text, exactly, file, outcome, refusal}
 use Rattle.loc_course.specs.Sentences.{EndsSo, Ended, Sentences, Steady, Wrote, status_of}
 use Rattle.loc_course.specs.Stops.{source}
-use Rattle.loc_course.proofs.Statuses.{ended_so}
+use Rattle.loc_course.proofs.Endings.{at_cut}
+use Rattle.loc_course.proofs.Statuses.{ended_so, rose_not, succeeds_case}
 use Rattle.loc_course.proofs.Told.{ends_so, it_exactly}
 use Rattle.loc_maps.specs.Conflicts.{Accepts, names_conflict}
 use Rattle.loc_maps.specs.LineTexts.{layer_fault_text}
@@ -28,7 +29,7 @@ use Rattle.loc_query.specs.Headline.{IsAccepted}
 use Rattle.loc_indexed.specs.Asks.{OrMemory}
 use Rattle.loc_indexed.specs.Building.{build_course, is_index_text}
 use Rattle.loc_indexed.specs.Builds.{Builds, Built, IsBuiltOf}
-use Rattle.loc_indexed.proofs.MadeCourses.{AcceptedSo, AtEnd, came, makes_one, out_kept}
+use Rattle.loc_indexed.proofs.MadeCourses.{AcceptedSo, came, makes_one, out_kept}
 
 module _ (told : Text → Told) (f : LayerFile) (index text : Text) (is : told f.name ≡ holds text) where
   abbrev next : List Feature → Course
@@ -63,10 +64,6 @@ module _ (told : Text → Told) (f : LayerFile) (index text : Text) (is : told f
         ∙ (ap (outcome told) (on_apart f.scale (edges_of layer) (covers_course (table_in layer) (next layer)) apart)
         ∙ ap (outcome told) (on_few_covers (table_in layer) (next layer) few_covers))
 
--- a count that rose did not stay
-rose_not : (before now : ℕ) → Rose before now → Steady before now → ⊥
-rose_not before now rose steady = omega (arith, rose, steady.0, steady.1)
-
 module _ (f : LayerFile) (index : Text) (old new : Moment) (n n' : Stream) (status : ℕ) (e : Ended (build_course f index) old new n n' status) where
   abbrev s : Sentences (build_course f index) old new n n' status
   s = ended_so e
@@ -91,11 +88,9 @@ module _ (f : LayerFile) (index : Text) (old new : Moment) (n n' : Stream) (stat
   -- an accepted layer ends with status 0, unless a read or a write failed
   by_end : (end : Option Stopped) → AtEnd (AcceptedSo (is_index_text f.scale) f index old.shelf new.shelf) end → (passes : Text → Bool) → EndsSo (file index passes) old.out.written new end
       → (status_of end ≡ 3 → ⊥) → Steady old.shelf.write_faults new.shelf.write_faults → (status_of end ≡ 0) ⊎ (status_of end ≡ 5)
-  by_end None at passes ends no_read writes = inl refl
-  by_end (Some (refused line)) at passes ends no_read writes = absurd ends
-  by_end (Some unread) at passes ends no_read writes = absurd (no_read refl)
-  by_end (Some unwritten) at passes ends no_read writes = absurd (rose_not old.shelf.write_faults new.shelf.write_faults at.made.counts writes)
-  by_end (Some no_memory) at passes ends no_read writes = inr refl
+  by_end end at passes ends no_read writes =
+      let no_write : status_of end ≡ 4 → ⊥ = λ four. rose_not old.shelf.write_faults new.shelf.write_faults (at_cut (AcceptedSo (is_index_text f.scale) f index old.shelf new.shelf) end at four).made.counts writes in
+      succeeds_case old new (file index passes) end ends no_read no_write tt
 
   builds_all : (text : Text) (layer : List Feature) → old.shelf.told f.name ≡ holds text → IsAccepted f text layer → Steady old.shelf.read_faults new.shelf.read_faults → Steady old.shelf.write_faults new.shelf.write_faults
       → OrMemory old new status (status ≡ 0)

@@ -1,10 +1,14 @@
 pub mod BuildRows
 pub mod Outcomes
 pub mod Behind
+pub mod Flawed
 pub mod IndexFiles
+pub mod IndexOutcomes
 pub mod MadeCourses
 pub mod MarkedAnswers
 pub mod OwnRows
 pub mod ReadBack
+pub mod ToldFiles
 pub mod Truly
+pub mod VerifyRows
 pub mod WrittenIndex

@@ -1,21 +1,23 @@
 -- What comes of a course in which a file is made by a test of its text.
-use Rattle.std.proofs.Common.{◌≡◌, ◌≢◌, ℕ, ◌≤◌, Bool, true, false, List, length, Option, Some, None, Ok, Err, refl, subst, arith}
-use Rattle.std.specs.Prelude.{IsTrue, ⊤, cond, codes}
+use Rattle.std.proofs.Common.{◌≡◌, ◌≢◌, ◌≤◌, Bool, true, false, List, length, Option, Ok, Err, refl}
+use Rattle.std.specs.Prelude.{IsTrue, cond, codes}
 use Rattle.std.proofs.lemmas.Bool.{cond_both, ltb-false, not_from_false}
-use Rattle.loc_io.specs.Meaning.{Meaning, Told}
+use Rattle.loc_io.specs.Meaning.{Meaning}
 use Rattle.loc_spec_plane.specs.Covers.{cover_sum}
 use Rattle.loc_spec_text.specs.Points.{ended}
 use Rattle.loc_rings.specs.Values.{Feature}
 use Rattle.loc_csvform.specs.Layer.{LayerRead, layer_of}
 use Rattle.loc_edges.specs.Conflicts.{has_conflict}
-use Rattle.loc_course.specs.Courses.{Text, Source, Course, reads, refuses, makes, Stopped, refused, unread, unwritten, no_memory}
-use Rattle.loc_course.specs.Following.{ComesTo, FileWritesAreCounted, Follows, MadeSo, Moment, ReadsSource, lacks, refuses_by, reads_not, reads_by, makes_by}
+use Rattle.loc_course.specs.Courses.{Text, Source, Course, reads, refuses, makes, Stopped}
+pub use Rattle.loc_course.specs.Endings.{AtEnd, Did, MadeOf}
+use Rattle.loc_course.specs.Following.{Follows, Moment, lacks, refuses_by, reads_not, reads_by, makes_by}
 use Rattle.loc_course.specs.Moments.{IsToldText}
 use Rattle.loc_course.specs.Outcomes.{exactly}
 use Rattle.loc_course.specs.Sentences.{AtOnce, MayMake, SearchesNothing}
-use Rattle.loc_maps.specs.Conflicts.{Accepts, names_conflict}
+use Rattle.loc_course.proofs.Endings.{at_both, did_at}
+use Rattle.loc_maps.specs.Conflicts.{names_conflict}
 use Rattle.loc_maps.specs.Located.{edges_of, table_in}
-use Rattle.loc_maps.specs.MapCourses.{LayerFile, accepted_course, covers_course, layer_in}
+use Rattle.loc_maps.specs.MapCourses.{LayerFile, accepted_course, covers_course, layer_in, limit}
 use Rattle.loc_maps.specs.Maps.{has_many_covers}
 use Rattle.loc_maps.proofs.Judged.{accepted_all, layer_all}
 use Rattle.loc_query.specs.Headline.{IsAccepted}
@@ -53,100 +55,39 @@ module _ (p q : List Feature → Text → Bool) (wider : (layer : List Feature) 
 
 -- ---- how it ended
 
--- what holds where a course was done or a write failed
-abbrev pub AtEnd : (Option Stopped → Type 0) → Option Stopped → Type 0
-AtEnd P None = P None
-AtEnd P (Some (refused line)) = ⊤
-AtEnd P (Some unread) = ⊤
-AtEnd P (Some unwritten) = P (Some unwritten)
-AtEnd P (Some no_memory) = ⊤
-
-at_any : (P : Option Stopped → Type 0) (end : Option Stopped) → P end → AtEnd P end
-at_any P None here = here
-at_any P (Some (refused line)) here = tt
-at_any P (Some unread) here = tt
-at_any P (Some unwritten) here = here
-at_any P (Some no_memory) here = tt
-
-at_both : (P Q : Option Stopped → Type 0) → ((end : Option Stopped) → P end → Q end) → (end : Option Stopped) → AtEnd P end → AtEnd Q end
-at_both P Q to None here = to None here
-at_both P Q to (Some (refused line)) here = tt
-at_both P Q to (Some unread) here = tt
-at_both P Q to (Some unwritten) here = to (Some unwritten) here
-at_both P Q to (Some no_memory) here = tt
-
--- a file was made, or cut, of a text that passes
-pub record MadeOf (passes : Text → Bool) (index : Text) (old new : Meaning) (end : Option Stopped) : Type 0 where
-  pub made : Text
-  pub is : IsTrue (passes made)
-  pub file : MadeSo made (old.told index) (new.told index) end
-  pub counts : FileWritesAreCounted old.write_faults new.write_faults end
-
--- and the layer is accepted
+-- the layer was accepted, and its file was made of a text that passes, or cut
 pub record AcceptedSo (passes : List Feature → Text → Bool) (file : LayerFile) (index : Text) (old new : Meaning) (end : Option Stopped) : Type 0 where
   pub text : Text
   pub layer : List Feature
   pub told : IsToldText (old.told file.name) text
   pub accepted : IsAccepted file text layer
-  pub made : MadeOf (passes layer) index old new end
-
-refuses_end : (P : Option Stopped → Type 0) (passes : Text → Bool) {m n : Moment} {end : Option Stopped} → Follows (refuses passes) m n end → AtEnd P end
-refuses_end P passes lacks = tt
-refuses_end P passes (refuses_by line is) = tt
-
-makes_end : (passes : Text → Bool) (index : Text) {m n : Moment} {end : Option Stopped} → Follows (makes index passes) m n end → AtEnd (MadeOf passes index m.shelf n.shelf) end
-makes_end passes index lacks = tt
-makes_end passes index (makes_by {m = m} {came = came} text shelf is made) = at_any (MadeOf passes index m.shelf shelf) came (record { made = text; is = is; file = made.made; counts = made.counts })
-
-accepted_end : (P : Option Stopped → Type 0) (scale : ℕ) (layer : List Feature) (passes : Text → Bool) (index : Text) (m n : Moment) (end : Option Stopped)
-    → ((e : Option Stopped) → Accepts layer → cover_sum (table_in layer) ≤ 16777216 → MadeOf passes index m.shelf n.shelf e → P e) → Follows (accepted_course scale layer (makes index passes)) m n end → AtEnd P end
-accepted_end P scale layer passes index m n end to =
-    cond_both (has_conflict (edges_of layer)) (refuses (names_conflict scale (edges_of layer))) (covers_course (table_in layer) (makes index passes)) (λ c. Follows c m n end → AtEnd P end) (λ _ follows. refuses_end P _ follows)
-    (λ apart. cond_both (has_many_covers (table_in layer)) (refuses (exactly (ended (codes "layer: covers past 16777216")))) (makes index passes) (λ c. Follows c m n end → AtEnd P end) (λ _ follows. refuses_end P _ follows)
-    (λ few follows. at_both (MadeOf passes index m.shelf n.shelf) P (λ e made. to e (not_from_false (has_conflict (edges_of layer)) apart) (ltb-false 16777216 (cover_sum (table_in layer)) few) made) end (makes_end passes index follows)))
-
-unread_end : (P : Option Stopped → Type 0) (s : Source) (told : Told) (taken : ℕ) (stop : Stopped) → ComesTo s told taken (Err stop) → AtEnd P (Some stop)
-unread_end P s told taken (refused line) comes = tt
-unread_end P s told taken unread comes = tt
-unread_end P s told taken unwritten comes = absurd comes
-unread_end P s told taken no_memory comes = tt
-
-reads_end : (P : Option Stopped → Type 0) (s : Source) (next : Text → Course) {m n : Moment} {end : Option Stopped} → Follows (reads s next) m n end
-    → ((text : Text) (shelf : Meaning) → ReadsSource s m.shelf shelf (Ok text) → Follows (next text) (record m { shelf = shelf }) n end → AtEnd P end) → AtEnd P end
-reads_end P s next lacks each = tt
-reads_end P s next (reads_not {m = m} {stop = stop} shelf read) each = unread_end P s (m.shelf.told s.name) read.taken stop read.comes
-reads_end P s next (reads_by text shelf read rest) each = each text shelf read rest
+  pub made : MadeOf (passes layer) (old.told index) (new.told index) old.write_faults new.write_faults end
 
 module _ (passes : List Feature → Text → Bool) (file : LayerFile) (index : Text) where
   -- the course behind a layer
   abbrev pub behind_layer : List Feature → Course
   behind_layer layer = accepted_course file.scale layer (makes index (passes layer))
 
-  -- the file was told alike when the layer had been read
-  as_before : (layer : List Feature) (old mid new : Meaning) (e : Option Stopped) → mid.told index ≡ old.told index → mid.write_faults ≡ old.write_faults → MadeOf (passes layer) index mid new e → MadeOf (passes layer) index old new e
-  as_before layer old mid new e same steady made = record {
-    made = made.made;
-    is = made.is;
-    file = subst (λ (t : Told). MadeSo made.made t (new.told index) e) same made.file;
-    counts = subst (λ (k : ℕ). FileWritesAreCounted k new.write_faults e) steady made.counts;
-  }
-
-  by_layer : (s : Source) (text : Text) (m n : Moment) (shelf : Meaning) (end : Option Stopped) → ReadsSource s m.shelf shelf (Ok text) → IsToldText (m.shelf.told file.name) text → length text ≤ 268435456
-      → (r : LayerRead) → layer_of file.form file.scale text ≡ r → Follows (layer_in file.form r behind_layer) (record m { shelf = shelf }) n end → AtEnd (AcceptedSo passes file index m.shelf n.shelf) end
-  by_layer s text m n shelf end read told few (Err fault) is follows = refuses_end (AcceptedSo passes file index m.shelf n.shelf) _ follows
-  by_layer s text m n shelf end read told few (Ok layer) is follows =
-      accepted_end (AcceptedSo passes file index m.shelf n.shelf) file.scale layer (passes layer) index (record m { shelf = shelf }) n end (λ e apart covers made. record {
+  -- a text that was read, and what the course behind it did
+  by_layer : (text : Text) (m n : Moment) (end : Option Stopped) → length text ≤ limit → IsToldText (m.shelf.told file.name) text
+      → (r : LayerRead) → layer_of file.form file.scale text ≡ r → Did (layer_in file.form r behind_layer) m n end → AcceptedSo passes file index m.shelf n.shelf end
+  by_layer text m n end few told (Err fault) is did = absurd did
+  by_layer text m n end few told (Ok layer) is did =
+      let P : Course → Type 0 = λ c. Did c m n end → AcceptedSo passes file index m.shelf n.shelf end in
+      let many = exactly (ended (codes "layer: covers past 16777216")) in
+      cond_both (has_conflict (edges_of layer)) (refuses (names_conflict file.scale (edges_of layer))) (covers_course (table_in layer) (makes index (passes layer))) P (λ _ none. absurd none)
+      (λ apart. cond_both (has_many_covers (table_in layer)) (refuses many) (makes index (passes layer)) P (λ _ none. absurd none) (λ covers made. record {
         text = text;
         layer = layer;
         told = told;
-        accepted = record { within = few; reads = is; apart = apart; few_covers = covers };
-        made = as_before layer m.shelf shelf n.shelf e (read.files index) read.making.write_faults made;
-      }) follows
+        accepted = record { within = few; reads = is; apart = not_from_false (has_conflict (edges_of layer)) apart; few_covers = ltb-false 16777216 (cover_sum (table_in layer)) covers };
+        made = made;
+      })) did
 
   -- where it was done or a write failed, the layer was accepted and a text that passes was made, or cut
   pub came : {m n : Moment} {end : Option Stopped} → Follows (made_course passes file index) m n end → AtEnd (AcceptedSo passes file index m.shelf n.shelf) end
-  came {m = m} {n = n} {end = end} follows = reads_end (AcceptedSo passes file index m.shelf n.shelf) _ _ follows (λ text shelf read rest.
-      by_layer _ text m n shelf end read read.comes.2 (omega (arith, read.comes.0, read.comes.1)) (layer_of file.form file.scale text) refl rest)
+  came {m = m} {n = n} {end = end} follows = at_both (Did (made_course passes file index) m n) (AcceptedSo passes file index m.shelf n.shelf)
+      (λ e did. by_layer did.0 m n e did.1 did.2 (layer_of file.form file.scale did.0) refl did.3) end (did_at follows)
 
   -- ---- what it does not touch
 

@@ -1,16 +1,12 @@
 -- What asking an index file answers, by what the told files come to.
-use Rattle.std.proofs.Common.{◌≡◌, ℕ, ◌≤◌, ◌<◌, List, [], ◌∷◌, ◌++◌, length, map, Option, Some, None, Result, Ok, Err, false, refl, sym, ◌∙◌, ap, subst, inl, inr}
-use Rattle.std.specs.Prelude.{codes, nat_lt}
-use Rattle.std.specs.Io.KnownBytes.{Appends}
+use Rattle.std.proofs.Common.{◌≡◌, ℕ, ◌≤◌, List, [], ◌∷◌, ◌++◌, length, map, Option, Some, None, Ok, Err, false, refl, ◌∙◌, ap, subst, inl, inr}
+use Rattle.std.specs.Prelude.{codes}
 use Rattle.std.specs.List.{flat_map}
-use Rattle.std.proofs.lemmas.Bool.{cond-true, cond-false, le-ltb}
-use Rattle.std.proofs.lemmas.Bool.Decides.{Decides-ltb}
 use Rattle.loc_io.specs.Streams.{Stream}
 use Rattle.loc_io.specs.Meaning.{Told, holds}
 use Rattle.loc_spec_text.specs.Answered.{Answered, answered, with_answer}
 use Rattle.loc_spec_text.specs.Bytes.{lines}
 use Rattle.loc_spec_text.specs.Points.{ended}
-use Rattle.loc_spec_index.specs.declared.IndexFault.{IndexFault}
 use Rattle.loc_spec_index.specs.Content.{Content}
 use Rattle.loc_spec_index.specs.IndexFile.{IsFileOf}
 use Rattle.loc_spec_index.specs.TrueIndex.{IsIndexOf, IsTrueIndex}
@@ -18,19 +14,19 @@ use Rattle.loc_laws_index.specs.IndexReading.{AreBytes, reading}
 use Rattle.loc_rings.specs.Values.{Feature, rings_of}
 use Rattle.loc_course.specs.Courses.{Text, Source}
 use Rattle.loc_course.specs.Moments.{Moment}
-use Rattle.loc_course.specs.Outcomes.{Outcome, by_lines, by_refusal, by_text, exactly, outcome, output, refusal}
-use Rattle.loc_course.specs.Sentences.{EndsSo, IsDoing, NoneFailed, OutSo, Sentences, Steady, Wrote}
+use Rattle.loc_course.specs.Outcomes.{by_lines, by_refusal, outcome}
+use Rattle.loc_course.specs.Sentences.{NoneFailed, Sentences, Steady}
 use Rattle.loc_course.specs.Stops.{source}
 use Rattle.loc_course.specs.Streams.{Answering, out_of}
 use Rattle.loc_course.proofs.Streamed.{of_whole}
-use Rattle.loc_course.proofs.Told.{it_exactly}
 use Rattle.loc_maps.specs.MapCourses.{limit}
 use Rattle.loc_query.specs.Answered.{output_of}
-use Rattle.loc_indexed.specs.IndexedCourses.{answer_in, ask_course, asked_course, index_in, index_limit}
+use Rattle.loc_indexed.specs.IndexedCourses.{answer_in, ask_course, asked_course, index_limit}
 use Rattle.loc_indexed.specs.IndexTexts.{index_fault_text}
 use Rattle.loc_indexed.specs.Marked.{marked_line}
 use Rattle.loc_indexed.specs.Asks.{AreAsked, Asks, IsDone, OrMemory}
 use Rattle.loc_indexed.proofs.Behind.{ask_makes_none}
+use Rattle.loc_indexed.proofs.IndexOutcomes.{finished, index_long, index_read, memory, refused_by}
 use Rattle.loc_indexed.proofs.MarkedAnswers.{layer_lines, true_answers}
 use Rattle.loc_indexed.proofs.ReadBack.{file_reads}
 
@@ -47,60 +43,24 @@ joined f [] = refl
 joined f (line ∷ ls) = ap (λ text. f line ++ text) (joined f ls)
 
 module _ (told : Text → Told) (index points bytes : Text) (is : told index ≡ holds bytes) where
-  abbrev of_index : Source
-  of_index = source index index_limit (ended (codes "index: too long"))
-
-  abbrev by_bytes : Text → Outcome
-  by_bytes text = outcome told (index_in (reading text) (asked_course points))
-
-  index_long : index_limit < length bytes → outcome told (ask_course index points) ≡ refusal (exactly (ended (codes "index: too long")))
-  index_long more = ap (by_text of_index by_bytes) is ∙ cond-true (nat_lt index_limit (length bytes)) (refusal (exactly of_index.too_long)) (by_bytes bytes) ((Decides-ltb index_limit (length bytes)).1 more)
-
-  index_read : length bytes ≤ index_limit → (r : Result Content IndexFault) → reading bytes ≡ r → outcome told (ask_course index points) ≡ outcome told (index_in r (asked_course points))
-  index_read few r reads = ap (by_text of_index by_bytes) is
-      ∙ (cond-false (nat_lt index_limit (length bytes)) (refusal (exactly of_index.too_long)) (by_bytes bytes) (le-ltb index_limit (length bytes) few)
-      ∙ ap (λ (q : Result Content IndexFault). outcome told (index_in q (asked_course points))) reads)
-
   module _ (text : Text) (c : Content) (few : length bytes ≤ index_limit) (reads : reading bytes ≡ Ok c) (also : told points ≡ holds text) (short : length text ≤ limit) where
     abbrev of_points : Source
     of_points = source points limit (ended (codes "points: too long"))
 
     comes_to : (r : Option Text) → (answered (answer_in c) (lines text)).refusal ≡ r → outcome told (ask_course index points) ≡ by_refusal (out_of (answered (answer_in c) (lines text))) r
-    comes_to r refused = index_read few (Ok c) reads
+    comes_to r refused = index_read told index bytes is (asked_course points) few (Ok c) reads
         ∙ (ap (by_lines of_points (answer_in c)) also
         ∙ (ap (λ (a : Answered Text Text). by_refusal (out_of a) a.refusal) (of_whole of_points (answer_in c) text short)
         ∙ ap (by_refusal (out_of (answered (answer_in c) (lines text)))) refused))
 
 module _ (index points : Text) (old new : Moment) (n n' : Stream) (status : ℕ) (s : Sentences (ask_course index points) old new n n' status) where
-  memory : status ≡ 5 → (status ≡ 5) × (new.out.written ≡ old.out.written)
-  memory five = (five, s.out.memory five)
-
   none_failed : Steady old.shelf.read_faults new.shelf.read_faults → Steady old.out.faults new.out.faults → NoneFailed (ask_course index points) old new
   none_failed reads out = record { reads = reads; out = out; files = λ name maker. absurd (ask_makes_none index points name maker) }
 
-  grown : (answer : Text) → outcome old.shelf.told (ask_course index points) ≡ output (exactly answer) → status ≡ 0 → Appends old.out.written new.out.written answer
-  grown answer is zero =
-      let done = subst (λ (o : Outcome). EndsSo o old.out.written new None) is (s.done zero) in
-      subst (λ (t : Text). Appends old.out.written new.out.written t) (it_exactly answer done.0 done.1) done.2
-
-  finished : (bytes text answer : Text) → AreAsked index points old new bytes text → outcome old.shelf.told (ask_course index points) ≡ output (exactly answer) → OrMemory old new status (IsDone old new status answer)
-  finished bytes text answer a to = elim (s.succeeds (subst IsDoing (sym to) tt) (none_failed a.reads a.out)) [
-    | inl zero ↦ inl (zero, grown answer to zero)
-    | inr five ↦ inr (memory five)
-  ]
-
-  -- a refusal by this line
-  refused_by : (line : Text) → outcome old.shelf.told (ask_course index points) ≡ refusal (exactly line) → Steady old.shelf.read_faults new.shelf.read_faults
-      → OrMemory old new status ((status ≡ 1) × (new.out.written ≡ old.out.written) × Wrote n n' line)
-  refused_by line is steady = elim (s.refuses (exactly line) is steady) [
-    | inl one ↦ inl (one.0, subst (λ (o : Outcome). OutSo o old.out.written new.out.written) is s.out.grows, subst (λ (t : Text). Wrote n n' t) (it_exactly line one.1 one.2) one.3)
-    | inr five ↦ inr (memory five)
-  ]
-
   in_any : (bytes text : Text) (c : Content) → AreAsked index points old new bytes text → reading bytes ≡ Ok c → (answered (answer_in c) (lines text)).refusal ≡ None
       → OrMemory old new status (IsDone old new status (out_of (answered (answer_in c) (lines text))))
-  in_any bytes text c a reads none = finished bytes text (out_of (answered (answer_in c) (lines text))) a
-      (comes_to old.shelf.told index points bytes a.index_told text c a.index_short reads a.points_told a.points_short None none)
+  in_any bytes text c a reads none = finished (ask_course index points) old new n n' status s (out_of (answered (answer_in c) (lines text)))
+      (comes_to old.shelf.told index points bytes a.index_told text c a.index_short reads a.points_told a.points_short None none) (none_failed a.reads a.out)
 
   in_true : (bytes text : Text) (c : Content) → AreAsked index points old new bytes text → AreBytes bytes → IsFileOf 1 c bytes → IsTrueIndex c
       → OrMemory old new status (IsDone old new status (flat_map (marked_line c) (lines text)))
@@ -122,10 +82,10 @@ module _ (index points : Text) (old new : Moment) (n n' : Stream) (status : ℕ)
         elim (s.refuses_partly (out_of (answered (answer_in c) (lines text))) line
         (comes_to old.shelf.told index points bytes a.index_told text c a.index_short reads a.points_told a.points_short (Some line) refused) (none_failed a.reads a.out)) [
           | inl one ↦ inl one
-          | inr five ↦ inr (memory five)
+          | inr five ↦ inr (memory (ask_course index points) old new n n' status s five)
         ];
     of_true = in_true;
     of_layer = in_layer;
-    too_long = λ bytes is long steady. refused_by (ended (codes "index: too long")) (index_long old.shelf.told index points bytes is long) steady;
-    at_fault = λ bytes fault is few reads steady. refused_by (ended (index_fault_text fault)) (index_read old.shelf.told index points bytes is few (Err fault) reads) steady;
+    too_long = λ bytes is long steady. refused_by (ask_course index points) old new n n' status s (ended (codes "index: too long")) (index_long old.shelf.told index bytes is (asked_course points) long) steady;
+    at_fault = λ bytes fault is few reads steady. refused_by (ask_course index points) old new n n' status s (ended (index_fault_text fault)) (index_read old.shelf.told index bytes is (asked_course points) few (Err fault) reads) steady;
   }

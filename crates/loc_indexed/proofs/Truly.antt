@@ -1,22 +1,24 @@
 -- What a command leaves that followed a course in which index files alone pass.
-use Rattle.std.proofs.Common.{◌≡◌, ◌⊎◌, ℕ, Bool, true, false, ◌&&◌, List, Option, Some, None, refl, sym, subst, inl, inr, arith}
+use Rattle.std.proofs.Common.{◌≡◌, ◌⊎◌, ℕ, Bool, true, false, ◌&&◌, List, Option, Some, None, refl, sym, subst, inl, inr}
 use Rattle.std.specs.Prelude.{IsTrue}
 use Rattle.std.proofs.lemmas.Bool.{and_from, and_parts, true≢false}
 use Rattle.loc_io.specs.Meaning.{Meaning}
 use Rattle.loc_io.specs.Streams.{Stream, stream}
 use Rattle.loc_rings.specs.Values.{Feature}
-use Rattle.loc_course.specs.Courses.{Text, Stopped, refused, unread, unwritten, no_memory}
+use Rattle.loc_course.specs.Courses.{Text, Stopped, unwritten}
+use Rattle.loc_course.specs.Endings.{AtEnd}
 use Rattle.loc_course.specs.Following.{Follows, IsCut, IsMade, moment}
 use Rattle.loc_course.specs.Moments.{IsToldText}
 use Rattle.loc_course.specs.Outcomes.{exactly}
 use Rattle.loc_course.specs.Sentences.{status_of}
+use Rattle.loc_course.proofs.Endings.{at_cut, at_done}
 use Rattle.loc_course.proofs.Told.{exactly_it, it_exactly}
 use Rattle.loc_maps.specs.MapCourses.{LayerFile}
 use Rattle.loc_indexed.specs.Building.{build_course, is_index_text}
 use Rattle.loc_indexed.specs.Builds.{Built, IsBuiltOf, IsIndexFileOf}
 use Rattle.loc_indexed.specs.Followed.{FollowsTruly}
 use Rattle.loc_indexed.proofs.IndexFiles.{index_is, index_passes}
-use Rattle.loc_indexed.proofs.MadeCourses.{AcceptedSo, AtEnd, came, follows_wider}
+use Rattle.loc_indexed.proofs.MadeCourses.{AcceptedSo, came, follows_wider}
 
 -- no text passes
 abbrev pub none_pass : List Feature → Text → Bool
@@ -49,22 +51,14 @@ module _ (file : LayerFile) (index : Text) (old new : Meaning) where
     is_built end a = record { layer = a.layer; accepted = a.accepted; index = truly a.layer a.made.made a.made.is }
 
     done : (end : Option Stopped) → AtEnd (AcceptedSo passes file index old new) end → status_of end ≡ 0 → (text made : Text) × IsToldText (old.told file.name) text × IsBuiltOf file text made × IsMade made (new.told index)
-    done None a zero = (a.text, a.made.made, a.told, is_built None a, a.made.file)
-    done (Some (refused line)) a zero = absurd (omega (arith, zero))
-    done (Some unread) a zero = absurd (omega (arith, zero))
-    done (Some unwritten) a zero = absurd (omega (arith, zero))
-    done (Some no_memory) a zero = absurd (omega (arith, zero))
+    done end at zero = let a = at_done (AcceptedSo passes file index old new) end at zero in (a.text, a.made.made, a.told, is_built None a, a.made.file)
 
     cut : (end : Option Stopped) → AtEnd (AcceptedSo passes file index old new) end → status_of end ≡ 4
         → (new.told index ≡ old.told index) ⊎ ((text made : Text) × IsToldText (old.told file.name) text × IsBuiltOf file text made × IsCut made (new.told index))
-    cut None a four = absurd (omega (arith, four))
-    cut (Some (refused line)) a four = absurd (omega (arith, four))
-    cut (Some unread) a four = absurd (omega (arith, four))
-    cut (Some unwritten) a four = elim a.made.file [
+    cut end at four = let a = at_cut (AcceptedSo passes file index old new) end at four in elim a.made.file [
       | inl same ↦ inl same
       | inr front ↦ inr (a.text, a.made.made, a.told, is_built (Some unwritten) a, front)
     ]
-    cut (Some no_memory) a four = absurd (omega (arith, four))
 
   -- and left this
   pub built_by : (end : Option Stopped) → FollowsTruly file index old new end → Built file index old new (status_of end)

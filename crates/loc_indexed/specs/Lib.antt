@@ -1,7 +1,10 @@
 pub mod Asks
 pub mod Building
 pub mod Builds
+pub mod FlawTexts
 pub mod Followed
 pub mod IndexedCourses
 pub mod IndexTexts
 pub mod Marked
+pub mod Verifies
+pub mod Verifying

@@ -1,4 +1,4 @@
-//! What asking an index file comes to.
+//! What commands on index files come to.
 
 ghost use Rattle.std.specs.Prelude.{◌≡◌, ◌≢◌, ◌⊎◌, ◌<◌, ◌≤◌, Err, List, Ok, codes, false, length, map, ℕ};
 ghost use Rattle.loc_io.specs.Meaning.{Told, holds};
@@ -15,7 +15,7 @@ ghost use Rattle.loc_answering.specs.ByLine.{deep_text};
 ghost use Rattle.loc_course.specs.Courses.{Text};
 ghost use Rattle.loc_course.specs.Moments.{Moment};
 ghost use Rattle.loc_course.specs.Outcomes.{exactly, outcome, refusal};
-ghost use Rattle.loc_course.specs.Sentences.{AtOnce, Ended, MakesNone, MayMake, MayRefuseBehind, SearchesNothing};
+ghost use Rattle.loc_course.specs.Sentences.{AtOnce, Ended, IsPlain, MakesNone, MayMake, MayRefuseBehind, SearchesNothing, Sentences};
 ghost use Rattle.loc_query.specs.QueryCourses.{points_course};
 ghost use Rattle.loc_maps.specs.MapCourses.{LayerFile};
 ghost use Rattle.loc_indexed.specs.Building.{build_course};
@@ -23,6 +23,8 @@ ghost use Rattle.loc_indexed.specs.Builds.{Builds, Built};
 ghost use Rattle.loc_indexed.specs.IndexedCourses.{ask_course, asked_course, index_limit};
 ghost use Rattle.loc_indexed.specs.IndexTexts.{index_fault_text};
 ghost use Rattle.loc_indexed.specs.Marked.{marked_course};
+ghost use Rattle.loc_indexed.specs.Verifies.{Judged, Verifies};
+ghost use Rattle.loc_indexed.specs.Verifying.{verify_course};
 
 /// An index file that is too long or at fault is refused by its line, and any other is asked: a true one as its marks say, and the index of a
 /// layer as a query of the layer with the tree. No file is made. The call does nothing: its contract is the law.
@@ -44,4 +46,12 @@ pub fn build_law()
     ensures at_once { (file : LayerFile) (index : Text) → AtOnce (build_course file index) }
     ensures makes_one { (file : LayerFile) (index name : Text) → name ≢ index → MayMake (build_course file index) name → ⊥ }
     ensures searches_nothing { (file : LayerFile) (index : Text) → SearchesNothing (build_course file index) }
+{}
+
+/// What judging an index file tells, from the course that was followed and from what was judged. The course writes at once, makes no file and
+/// searches nothing. The call does nothing: its contract is the law.
+pub fn verify_law()
+    ensures verifies { (index : Text) (old new : Moment) (n n' : Stream) (status : ℕ) → Sentences (verify_course index) old new n n' status → Judged (old.shelf.told index) status → Verifies index old new n n' status }
+    ensures plain { (index : Text) → IsPlain (verify_course index) }
+    ensures searches_nothing { (index : Text) → SearchesNothing (verify_course index) }
 {}

@@ -1,16 +1,18 @@
-//! What no clause says: that the answers come, on worked layers, however the points are cut, and with each call failing in turn.
+//! What no clause says: that the answers come, on worked layers, however the points are cut, and that a batch that has stopped stays so.
 
 ghost use Rattle.std.specs.Prelude.{◌≡◌, ◌<◌, ◌≤◌, ◌^◌, IfOk};
 ghost use Rattle.loc_place.specs.Planar.{IsPlanar};
+ghost use Rattle.loc_spec_plane.specs.Tables.{Table};
 ghost use Rattle.loc_cover.specs.Legends.{FitsTable};
 
+use crate::tests::{ANSWERS, POINTS, SQUARE};
 use loc_batch::{Batch, BatchFault, FeedFault, Tally, Unnumbered, answer_all, write_answer};
 use loc_cover::Legend;
 use loc_csvform::{Form, read_layer};
-use loc_edges::EdgeTable;
-use loc_geom::Steps;
+use loc_edges::{EdgeTable, Views};
+use loc_geom::{Point, Steps};
 use loc_io::{MemShelf, MemSink, Shelf};
-use loc_place::Place;
+use loc_place::{Deep, Locator, Place};
 use loc_scan::Scan;
 use loc_status::VecStatus;
 use loc_sweep::sweep;
@@ -20,18 +22,10 @@ use std::process::Abort;
 use std::sync::ledger::{Blank, Ledger};
 use std::test::Fail;
 
-const SQUARE: &[u8] = b"POLYGON ((0 0, 4 0, 4 4, 0 4, 0 0))\n";
-
-// Points inside, outside, at corners, on a border, and in the open face beside.
-const POINTS: &[u8] = b"2 2\n5 2\n0 0\n4 4\n4 2\n4 5\n0 -1\n-1 4\n5 0\n";
-
-const ANSWERS: &[u8] =
-    b"face in \"1\"\nface in\ncorner 0 on \"1\" in\ncorner 3 on \"1\" in\nborder 3 on \"1\" in\nface in\nface in\nface in\nface in\n";
-
 // The layer, the points and the answers at scale 0.
-type Row = (&'static [u8], &'static [u8], &'static [u8]);
+pub(crate) type Row = (&'static [u8], &'static [u8], &'static [u8]);
 
-const ROWS: [Row; 5] = [
+pub(crate) const ROWS: [Row; 5] = [
     (SQUARE, POINTS, ANSWERS),
     (
         b"POLYGON((0 0,2 -2,4 0,2 2,0 0))",
@@ -162,22 +156,20 @@ fn fed(
     Ok((ended, tally, sink))
 }
 
-// What comes of points that are read, where one read and one write fails, and what stands on the sink.
+// What comes of points that are read, and what stands on the sink.
 fn read(
     alloc: Global,
     layer: &[u8],
     points: &[u8],
     limit: u64,
-    read_call: u64,
-    write_call: u64,
 ) -> Result<(Result<(), BatchFault>, MemSink), Fail> {
     if limit > 1_000_000 {
         return Err(Fail::new("a long file"));
     }
     let map = map_of(alloc, layer)?;
-    let mut shelf = MemShelf::new(alloc, vec![in alloc; read_call]?);
+    let mut shelf = MemShelf::new(alloc, Vec::new(alloc));
     shelf.put("points", points)?;
-    let mut sink = MemSink::new(alloc, vec![in alloc; write_call]?);
+    let mut sink = MemSink::new(alloc, Vec::new(alloc));
     let ended = read_by::<Brand>(alloc, &map, &mut shelf, limit, &mut sink, Blank::new(1))?;
     Ok((ended, sink))
 }
@@ -191,14 +183,14 @@ fn any_cut_gives_the_same_answers(rt: HostRuntime) -> Result<(), Fail> {
             assert_eq!(rt; ended, Ok(()));
             assert_eq!(rt; sink.bytes(), answers);
         }
-        let (ended, sink) = read(alloc, layer, points, 1000, 0, 0)?;
+        let (ended, sink) = read(alloc, layer, points, 1000)?;
         assert_eq!(rt; ended, Ok(()));
         assert_eq!(rt; sink.bytes(), answers);
     }
     Ok(())
 }
 
-// Many points, and then one behind spaces on a line of 4096 and on one of 4097 bytes; and their answers.
+// Many points, and then one behind spaces and one before them, each on a line of 4096 and on one of 4097 bytes; and their answers.
 fn many_points(alloc: Global) -> Result<(Vec<u8>, Vec<u8>), Fail> {
     let mut points = Vec::new(alloc);
     let mut answers = Vec::new(alloc);
@@ -206,13 +198,13 @@ fn many_points(alloc: Global) -> Result<(Vec<u8>, Vec<u8>), Fail> {
         points.extend_from_slice(POINTS)?;
         answers.extend_from_slice(ANSWERS)?;
     }
-    for blank in [4093, 4094] {
-        for _ in 0..blank {
-            points.push(b' ')?;
-        }
-        points.extend_from_slice(b"2 2\n")?;
+    for (before, behind) in [(4093, 0), (4094, 0), (0, 4093), (0, 4094)] {
+        points.extend_from_slice(&vec![in alloc; b' '; before]?)?;
+        points.extend_from_slice(b"2 2")?;
+        points.extend_from_slice(&vec![in alloc; b' '; behind]?)?;
+        points.push(b'\n')?;
     }
-    answers.extend_from_slice(b"face in \"1\"\nunread\n")?;
+    answers.extend_from_slice(b"face in \"1\"\nunread\nface in \"1\"\nunread\n")?;
     Ok((points, answers))
 }
 
@@ -224,38 +216,153 @@ fn many_lines_and_long_ones(rt: HostRuntime) -> Result<(), Fail> {
     assert_eq!(rt; ended, Ok(()));
     assert_eq!(rt; sink.bytes(), answers.as_slice());
     let wanted = Tally {
-        lines: 27002,
+        lines: 27004,
         corners: 6000,
         borders: 3000,
-        faces: 18001,
-        unread: 1,
+        faces: 18002,
+        unread: 2,
         on: 9000,
-        covering: 3001,
+        covering: 3002,
     };
     assert_eq!(rt; tally, wanted);
-    let (ended, sink) = read(alloc, SQUARE, &points, 1_000_000, 0, 0)?;
+    let (ended, sink) = read(alloc, SQUARE, &points, 1_000_000)?;
     assert_eq!(rt; ended, Ok(()));
     assert_eq!(rt; sink.bytes(), answers.as_slice());
     Ok(())
 }
 
+// A locator that gives up each search, at version 1.
+#[derive(Clone, Copy, Debug)]
+struct GivesUp;
+
+impl Locator for GivesUp {
+    ghost use Rattle.std.specs.Prelude.{Err, ⊤};
+
+    ghost fits = { λ _ _. ⊤ };
+
+    ghost stands = { λ _ _. ⊥ };
+
+    ghost finds = { λ _ _ _. Err (record { version = 1 }) };
+
+    ghost most = { λ _ _. 0 };
+
+    fn locate<L: Ledger>(
+        &self,
+        _views: &Views<'_, L>,
+        _p: Point,
+        _steps: &mut Steps<L>,
+    ) -> Result<Place, Deep> {
+        Err(Deep { version: 1 })
+    }
+
+    ghost stands_fits = { λ _ _ stands. absurd stands };
+
+    ghost stands_apart = { λ _ _ stands. absurd stands };
+
+    ghost stands_finds = { λ _ _ _ stands. absurd stands };
+}
+
+// What a batch answers, and how many bytes then stand on the sink.
+type Answer = (Result<(), FeedFault>, usize);
+
+// What a batch answers to a piece, to another, and at the end.
+fn answered_by<I: Locator, L: Ledger>(
+    alloc: Global,
+    map: &(EdgeTable, Legend),
+    index: &I,
+    pieces: [&[u8]; 2],
+    limit: u64,
+    sink: &mut MemSink,
+    blank: Blank,
+) -> Result<[Answer; 3], Fail>
+    requires planar { IsPlanar map.now.0 }
+    requires fits { FitsTable map.now.0 map.now.1 }
+    requires index { I.fits index.now map.now.0 }
+    requires limit { limit ≤ 2 ^ 40 }
+    requires name { blank.name ≡ L.name }
+    requires parts { blank.parts ≡ L.parts }
+    requires some_parts { 0 < L.parts }
+{
+    let (table, legend) = map;
+    let views = table.views();
+    let mut steps = Steps::<L>::new(blank);
+    let mut batch = Batch::make(alloc, 0, limit)?;
+    let [first, second] = pieces;
+    let fed = batch.feed(index, &views, legend, &Unnumbered, first, sink, &mut steps);
+    let after_first = sink.bytes().len();
+    let fed_again = batch.feed(index, &views, legend, &Unnumbered, second, sink, &mut steps);
+    let after_second = sink.bytes().len();
+    let ended = batch.end(index, &views, legend, &Unnumbered, sink, &mut steps);
+    let after_end = sink.bytes().len();
+    Ok([
+        (fed, after_first),
+        (fed_again, after_second),
+        (ended, after_end),
+    ])
+}
+
+// What a batch answers to two pieces for the square, and at the end, by an index, where one write fails.
+fn answered<I: Locator>(
+    alloc: Global,
+    index: &I,
+    pieces: [&[u8]; 2],
+    limit: u64,
+    write_call: u64,
+) -> Result<([Answer; 3], MemSink), Fail>
+    requires index { (t : Table) → IsPlanar t → I.fits index.now t }
+{
+    if limit > 1_000_000 {
+        return Err(Fail::new("a long stream"));
+    }
+    let map = map_of(alloc, SQUARE)?;
+    let mut sink = MemSink::new(alloc, vec![in alloc; write_call]?);
+    let answers = answered_by::<I, Brand>(
+        alloc,
+        &map,
+        index,
+        pieces,
+        limit,
+        &mut sink,
+        Blank::new(1),
+    )?;
+    Ok((answers, sink))
+}
+
+// Two pieces, the limit, the write that fails, the fault, and what stands on the sink.
+type Stop = ([&'static [u8]; 2], u64, u64, FeedFault, &'static [u8]);
+
+#[rattlefmt::skip]
+const STOPS: [Stop; 5] = [
+    ([b"2 2\n5", b""], 4, 0, FeedFault::PointsLong, b"face in \"1\"\n"),
+    ([b"2 2\n5", b"\n4 2\n"], 4, 0, FeedFault::PointsLong, b"face in \"1\"\n"),
+    ([b"2 2\n5 2", b""], 1000, 1, FeedFault::WriteFault, b""),
+    ([b"2 2\n5 2", b"\n4 2\n"], 1000, 1, FeedFault::WriteFault, b""),
+    ([b"2 2\n\n", b"4 2\n"], 1000, 1, FeedFault::WriteFault, b""),
+];
+
+// The batch has stopped: its answers are the same fault, and nothing more is written.
+fn expect_stopped(rt: &impl Abort, answers: [Answer; 3], fault: FeedFault, written: usize) {
+    for (answer, length) in answers {
+        assert_eq!(rt; answer, Err(fault));
+        assert_eq!(rt; length, written);
+    }
+}
+
 #[test]
-fn faults_in_turn(rt: HostRuntime) -> Result<(), Fail> {
+fn stopped_batches(rt: HostRuntime) -> Result<(), Fail> {
     let alloc = rt.alloc();
-    // A limit of 4 bytes: the first line is answered.
-    let (ended, _, sink) = fed(alloc, SQUARE, b"2 2\n5", 9, 4)?;
-    assert_eq!(rt; ended, Err(FeedFault::PointsLong));
-    assert_eq!(rt; sink.bytes(), b"face in \"1\"\n".as_slice());
-    let (ended, sink) = read(alloc, SQUARE, b"2 2\n5", 4, 0, 0)?;
+    for (pieces, limit, write_call, fault, out) in STOPS {
+        let (answers, sink) = answered(alloc, &Scan, pieces, limit, write_call)?;
+        expect_stopped(&rt, answers, fault, out.len());
+        assert_eq!(rt; sink.bytes(), out);
+    }
+    let pieces: [&[u8]; 2] = [b"x\n2 2\n5", b"\ny\n"];
+    let (answers, sink) = answered(alloc, &GivesUp, pieces, 1000, 0)?;
+    expect_stopped(&rt, answers, FeedFault::Deep { version: 1 }, 7);
+    assert_eq!(rt; sink.bytes(), b"unread\n".as_slice());
+    let (ended, sink) = read(alloc, SQUARE, b"2 2\n5", 4)?;
     assert_eq!(rt; ended, Err(BatchFault::PointsLong));
     assert_eq!(rt; sink.bytes(), b"face in \"1\"\n".as_slice());
-    // The second read fails, then the first write.
-    let (ended, sink) = read(alloc, SQUARE, POINTS, 1000, 3, 0)?;
-    assert_eq!(rt; ended, Err(BatchFault::ReadFault));
-    assert_eq!(rt; sink.bytes(), ANSWERS);
-    let (ended, sink) = read(alloc, SQUARE, POINTS, 1000, 0, 1)?;
-    assert_eq!(rt; ended, Err(BatchFault::WriteFault));
-    assert_eq!(rt; sink.bytes().len(), 0);
     Ok(())
 }
 

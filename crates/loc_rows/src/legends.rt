@@ -13,7 +13,7 @@ use std::alloc::Global;
 use std::process::Abort;
 use std::test::Fail;
 
-type Points = &'static [(i64, i64)];
+pub(crate) type Points = &'static [(i64, i64)];
 
 const OUTER: Points = &[(0, 0), (8, 0), (8, 8), (0, 8), (0, 0)];
 
@@ -25,13 +25,13 @@ const RIGHT: Points = &[(2, 0), (4, 0), (4, 2), (2, 2), (2, 0)];
 
 // Features by their ids and rings; for each corner the features that touch it, and its floor; for each edge the features that touch it, and
 // those of the list above it.
-type Row = (
+pub(crate) type Row = (
     &'static [(&'static [u8], &'static [Points])],
     &'static [(&'static [u32], Option<u32>)],
     &'static [(&'static [u32], &'static [u32])],
 );
 
-const ROWS: [Row; 3] = [
+pub(crate) const ROWS: [Row; 3] = [
     (
         &[(b"outer", &[OUTER]), (b"inner", &[INNER])],
         &[
@@ -140,6 +140,33 @@ fn layer_of(alloc: Global, rows: &[(&[u8], &[Points])]) -> Result<Layer, Fail> {
         layer.add(feature)?;
     }
     Ok(layer)
+}
+
+// Writes the points of a ring, in brackets.
+fn write_ring(text: &mut String, ring: Points) -> Result<(), Fail> {
+    for (n, (x, y)) in ring.iter().enumerate() {
+        let before = if n == 0 { "(" } else { ", " };
+        write!(text, "{before}{x} {y}")?;
+    }
+    write!(text, ")")?;
+    Ok(())
+}
+
+// The lines of features, without their ids.
+pub(crate) fn text_of(
+    alloc: Global,
+    rows: &[(&'static [u8], &'static [Points])],
+) -> Result<String, Fail> {
+    let mut text = String::new(alloc);
+    for (_, rings) in rows {
+        for (n, ring) in rings.iter().enumerate() {
+            let before = if n == 0 { "POLYGON (" } else { ", " };
+            write!(text, "{before}")?;
+            write_ring(&mut text, ring)?;
+        }
+        writeln!(text, ")")?;
+    }
+    Ok(text)
 }
 
 // Compares the legend of a layer with what is wanted.

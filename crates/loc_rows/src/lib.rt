@@ -7,12 +7,22 @@ mod batches;
 #[cfg(test)]
 mod faces;
 #[cfg(test)]
+mod failing;
+#[cfg(test)]
 mod generated;
+#[cfg(test)]
+mod hostile;
 #[cfg(test)]
 mod indexed;
 #[cfg(test)]
 mod legends;
 #[cfg(test)]
+mod limits;
+#[cfg(test)]
 mod orders;
 #[cfg(test)]
+mod round_trips;
+#[cfg(test)]
 mod tests;
+#[cfg(test)]
+mod watched;

@@ -14,7 +14,7 @@ const FAN: &[u8] =
     b"POLYGON ((0 0, 0 4, 0 4, 0 0))\nPOLYGON ((0 0, 4 3, 4 3, 0 0))\nPOLYGON ((0 0, 4 1, 4 1, 0 0))\nPOLYGON ((0 0, 4 0, 4 0, 0 0))\nPOLYGON ((0 0, 4 -2, 4 -2, 0 0))\n";
 
 // Layers, with the number of their edges, and of the orders of these.
-const LAYERS: [(&[u8], u32, u32); 4] = [
+pub(crate) const LAYERS: [(&[u8], u32, u32); 4] = [
     (TRIANGLE, 3, 6),
     (SQUARE, 4, 24),
     (PAIR, 5, 120),
@@ -38,7 +38,7 @@ fn order_text(alloc: Global, edges: u32, number: u32) -> Result<String, Fail> {
 }
 
 // The points of a grid over the layers, a line each.
-fn grid_points(alloc: Global) -> Result<String, Fail> {
+pub(crate) fn grid_points(alloc: Global) -> Result<String, Fail> {
     let mut text = String::new(alloc);
     for x in -1..8 {
         for y in -3..6 {
@@ -59,6 +59,11 @@ fn every_order(rt: HostRuntime) -> Result<(), Fail> {
         ];
         let scanned = outcome_of(alloc, &words, shelf, 0, 0)?;
         assert_eq!(rt; scanned.status, 0);
+        let shelf = shelf_of(alloc, layer, points.as_bytes(), 0)?;
+        let words = ["query", "layer", "points", "--scale", "0"];
+        let by_tree = outcome_of(alloc, &words, shelf, 0, 0)?;
+        assert_eq!(rt; by_tree.status, 0);
+        assert!(rt; by_tree.out.bytes() == scanned.out.bytes());
         for number in 0..orders {
             let mut shelf = shelf_of(alloc, layer, points.as_bytes(), 0)?;
             shelf.put("order", order_text(alloc, edges, number)?.as_bytes())?;

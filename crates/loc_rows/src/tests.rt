@@ -1,7 +1,8 @@
-//! What no clause says: that the answers come where there is memory, on worked layers and with each call failing in turn.
+//! What no clause says: that the answers come where there is memory, on worked layers.
 
 ghost use Rattle.std.specs.Prelude.{◌≡◌, ◌<◌};
 
+use crate::watched::{WatchedShelf, WatchedSink};
 use loc_io::{MemShelf, MemSink};
 use loc_top::{Steps, run};
 use std::alloc::Global;
@@ -17,7 +18,7 @@ pub(crate) const POINTS: &[u8] = b"2 2\n5 2\n0 0\n4 4\n4 2\n4 5\n0 -1\n-1 4\n5 0
 pub(crate) const ANSWERS: &[u8] =
     b"face in \"1\"\nface in\ncorner 0 on \"1\" in\ncorner 3 on \"1\" in\nborder 3 on \"1\" in\nface in\nface in\nface in\nface in\n";
 
-const BOW_TIE: &[u8] = b"POLYGON ((0 0, 4 4, 4 0, 0 4, 0 0))";
+pub(crate) const BOW_TIE: &[u8] = b"POLYGON ((0 0, 4 4, 4 0, 0 4, 0 0))";
 
 // The layer, the points, the scale, the status, and what stands on out and on notes.
 pub(crate) type Row = (
@@ -253,7 +254,7 @@ pub(crate) const ROWS: [Row; 31] = [
 ];
 
 pub(crate) const USAGE: &[u8] =
-    b"usage: locate query LAYER POINTS --scale K [--form lines|csv] [--index scan|tree|trap] [--order FILE | --shuffle N] [--faces]\n       locate check LAYER --scale K [--form lines|csv]\n       locate build LAYER INDEX --scale K [--form lines|csv]\n       locate ask INDEX POINTS\n       locate face LAYER POINT --scale K [--form lines|csv]\n       locate gen KIND N SHIFT\n       locate trial KIND N SHIFT [--index scan|tree|trap]\n";
+    b"usage: locate query LAYER POINTS --scale K [--form lines|csv] [--index scan|tree|trap] [--order FILE | --shuffle N] [--faces]\n       locate check LAYER --scale K [--form lines|csv]\n       locate build LAYER INDEX --scale K [--form lines|csv]\n       locate ask INDEX POINTS\n       locate verify INDEX\n       locate face LAYER POINT --scale K [--form lines|csv]\n       locate gen KIND N SHIFT\n       locate trial KIND N SHIFT [--index scan|tree|trap]\n";
 
 // Words that are no command.
 const REFUSED: [[&str; 5]; 6] = [
@@ -265,7 +266,7 @@ const REFUSED: [[&str; 5]; 6] = [
     ["ask", "layer", "points", "--scale", "0"],
 ];
 
-const LOTS: &[u8] =
+pub(crate) const LOTS: &[u8] =
     b"WKT,id,name\r\n\"POLYGON ((13.3775 52.5165, 13.3785 52.5165, 13.3785 52.5175, 13.3775 52.5165))\",\"Lot 7 \"\"east\"\"\",x\r\n";
 
 // The words, the layer, the status, and what stands on out and on notes.
@@ -277,7 +278,7 @@ type CommandRow = (
     &'static [u8],
 );
 
-const COMMANDS: [CommandRow; 8] = [
+const COMMANDS: [CommandRow; 9] = [
     (
         &["check", "layer", "--scale", "0"],
         SQUARE,
@@ -328,25 +329,13 @@ const COMMANDS: [CommandRow; 8] = [
         b"layer: edges 0.0 0.0, 4.0 4.0 and 0.0 4.0, 4.0 0.0 cross\n",
     ),
     (&["query", "layer", "points"], SQUARE, 2, b"", USAGE),
-];
-
-// The layer, empty where a missing file is asked for; which call of the shelf, of out and of notes fails, the status, and what stands on
-// out and on notes.
-const FAILING: [(&[u8], u64, u64, u64, u8, &[u8], &[u8]); 14] = [
-    (b"", 0, 0, 0, 3, b"", b"read failed\n"),
-    (SQUARE, 1, 0, 0, 3, b"", b"read failed\n"),
-    (SQUARE, 2, 0, 0, 3, b"", b"read failed\n"),
-    (SQUARE, 3, 0, 0, 3, b"", b"read failed\n"),
-    (SQUARE, 4, 0, 0, 3, b"", b"read failed\n"),
-    (SQUARE, 5, 0, 0, 3, b"", b"read failed\n"),
-    (SQUARE, 6, 0, 0, 3, ANSWERS, b"read failed\n"),
-    (SQUARE, 7, 0, 0, 0, ANSWERS, b""),
-    (SQUARE, 0, 1, 0, 4, b"", b"write failed\n"),
-    (SQUARE, 0, 1, 1, 4, b"", b""),
-    (SQUARE, 0, 2, 0, 0, ANSWERS, b""),
-    (SQUARE, 1, 0, 1, 3, b"", b""),
-    (BOW_TIE, 0, 0, 1, 1, b"", b""),
-    (BOW_TIE, 0, 0, 3, 1, b"", b"layer: edges 0"),
+    (
+        &["query", "absent", "points", "--scale", "0"],
+        SQUARE,
+        3,
+        b"",
+        b"read failed\n",
+    ),
 ];
 
 // A list of one call number, or of none.
@@ -383,9 +372,9 @@ pub(crate) fn shelf_of(
 fn status<L: Ledger>(
     alloc: Global,
     words: &[String],
-    shelf: &mut MemShelf,
-    out: &mut MemSink,
-    notes: &mut MemSink,
+    shelf: &mut WatchedShelf,
+    out: &mut WatchedSink,
+    notes: &mut WatchedSink,
     blank: Blank,
 ) -> u8
     requires name { blank.name ≡ L.name }
@@ -400,22 +389,23 @@ fn status<L: Ledger>(
 #[derive(Drop)]
 pub(crate) struct Outcome {
     pub(crate) status: u8,
-    pub(crate) shelf: MemShelf,
-    pub(crate) out: MemSink,
-    pub(crate) notes: MemSink,
+    pub(crate) shelf: WatchedShelf,
+    pub(crate) out: WatchedSink,
+    pub(crate) notes: WatchedSink,
 }
 
 // What the words leave, run over a shelf where one call of out and one of notes fails.
 pub(crate) fn outcome_of(
     alloc: Global,
     words: &[&str],
-    mut shelf: MemShelf,
+    shelf: MemShelf,
     out_call: u64,
     notes_call: u64,
 ) -> Result<Outcome, Fail> {
     let words = words_of(alloc, words)?;
-    let mut out = MemSink::new(alloc, calls(alloc, out_call)?);
-    let mut notes = MemSink::new(alloc, calls(alloc, notes_call)?);
+    let mut shelf = WatchedShelf::new(shelf);
+    let mut out = WatchedSink::new(MemSink::new(alloc, calls(alloc, out_call)?));
+    let mut notes = WatchedSink::new(MemSink::new(alloc, calls(alloc, notes_call)?));
     let status = status::<Brand>(
         alloc,
         &words,
@@ -458,25 +448,6 @@ fn refused_words(rt: HostRuntime) -> Result<(), Fail> {
         assert_eq!(rt; outcome.status, 2);
         assert_eq!(rt; outcome.out.bytes().len(), 0);
         assert_eq!(rt; outcome.notes.bytes(), USAGE);
-    }
-    Ok(())
-}
-
-#[test]
-fn failing_calls(rt: HostRuntime) -> Result<(), Fail> {
-    let alloc = rt.alloc();
-    for (layer, shelf_call, out_call, notes_call, status, out, notes) in FAILING {
-        let name = if layer.is_empty() { "absent" } else { "layer" };
-        let words = ["query", name, "points", "--scale", "0"];
-        let shelf = shelf_of(alloc, layer, POINTS, shelf_call)?;
-        let outcome = outcome_of(alloc, &words, shelf, out_call, notes_call)?;
-        assert_eq!(rt;
-            outcome.status,
-            status,
-            "at {shelf_call} {out_call} {notes_call}"
-        );
-        assert_eq!(rt; outcome.out.bytes(), out);
-        assert_eq!(rt; outcome.notes.bytes(), notes);
     }
     Ok(())
 }

@@ -3,7 +3,7 @@ use Rattle.std.proofs.Common.{◌≡◌, ◌≢◌, ◌⊎◌, ℕ, ◌≤◌, a
 use Rattle.std.specs.Prelude.{IfSome, option_and_then, option_map}
 use Rattle.loc_io.specs.Meaning.{KeepsFiles}
 use Rattle.loc_io.specs.Streams.{Stream}
-use Rattle.loc_words.specs.Words.{Asked, query, check, build, ask, face, gen, trial}
+use Rattle.loc_words.specs.Words.{Asked, query, check, build, ask, verify, face, gen, trial}
 use Rattle.loc_course.specs.Courses.{Text, Course, no_memory}
 use Rattle.loc_course.specs.Following.{lacks}
 use Rattle.loc_course.specs.Moments.{Moment}
@@ -13,12 +13,13 @@ use Rattle.loc_course.proofs.Statuses.{ended_so, in_range, never_two}
 use Rattle.loc_indexed.specs.Building.{build_course, is_index_text}
 use Rattle.loc_indexed.proofs.Behind.{ask_makes_none, ask_refuses_behind}
 use Rattle.loc_indexed.proofs.MadeCourses.{makes_one, writes_at_once}
+use Rattle.loc_indexed.proofs.VerifyRows.{verify_plain}
 use Rattle.loc_maps.specs.MapCourses.{layer_file}
 use Rattle.loc_maps.proofs.Checked.{check_plain}
 use Rattle.loc_query.proofs.Headlines.{query_makes_none, query_refuses_behind}
 use Rattle.loc_face.proofs.Plainly.{face_plain}
 use Rattle.loc_trial.proofs.Plain.{gen_plain, trial_plain}
-use Rattle.loc_top.specs.Run.{AWriteFailed, FilesOf, OutOf, Ran, RefusesPoints, RefusesWords, WritesFail, course_by, made_by}
+use Rattle.loc_top.specs.Run.{FilesOf, OutOf, Ran, RefusesPoints, RefusesWords, WritesFail, course_by, made_by}
 
 -- a command makes no file but this, and by these lines alone it refuses a file whose lines it answers
 pub record IsAnswering (made : Option Text) (c : Course) : Type 0 where
@@ -39,6 +40,7 @@ answering (build asked) =
     let passes = is_index_text asked.scale in
     record { makes = λ name differ. makes_one passes file asked.index name (λ same. differ (ap Some (sym same))); line = λ line by. absurd (none_behind (build_course file asked.index) line (writes_at_once passes file asked.index) by) }
 answering (ask asked) = record { makes = λ name differ. ask_makes_none asked.index asked.points name; line = ask_refuses_behind asked.index asked.points }
+answering (verify asked) = plain_answering None (course_by (verify asked)) (verify_plain asked.index)
 answering (face asked) = plain_answering None (course_by (face asked)) (face_plain (layer_file asked.layer asked.form asked.scale) asked.point)
 answering (gen asked) = plain_answering None (course_by (gen asked)) (gen_plain asked.kind asked.n asked.shift)
 answering (trial asked) = plain_answering None (course_by (trial asked)) (trial_plain asked.index asked.kind asked.n asked.shift)

@@ -11,7 +11,7 @@ use Rattle.loc_io.specs.Meaning.{KeepsFiles}
 use Rattle.loc_io.specs.Streams.{Stream}
 use Rattle.loc_spec_text.specs.Points.{ended}
 use Rattle.loc_words.specs.Usage.{usage_text}
-use Rattle.loc_words.specs.Words.{Asked, query, check, build, ask, face, gen, trial, command_of}
+use Rattle.loc_words.specs.Words.{Asked, query, check, build, ask, verify, face, gen, trial, command_of}
 use Rattle.loc_course.specs.Courses.{Text, Course, no_memory}
 use Rattle.loc_course.specs.Following.{IsToldAtMost}
 use Rattle.loc_course.specs.Moments.{Moment}
@@ -20,6 +20,7 @@ use Rattle.loc_course.specs.Sentences.{AtOnce, Ended, OutSo, Wrote, note_of}
 use Rattle.loc_answering.specs.ByLine.{deep_text}
 use Rattle.loc_indexed.specs.Building.{build_course}
 use Rattle.loc_indexed.specs.IndexedCourses.{ask_course}
+use Rattle.loc_indexed.specs.Verifying.{verify_course}
 use Rattle.loc_maps.specs.MapCourses.{check_course, layer_file}
 use Rattle.loc_query.specs.QueryCourses.{query_course}
 use Rattle.loc_face.specs.FaceCourses.{face_course}
@@ -31,6 +32,7 @@ course_by (query asked) = query_course asked.index asked.order asked.faces (laye
 course_by (check asked) = check_course (layer_file asked.layer asked.form asked.scale)
 course_by (build asked) = build_course (layer_file asked.layer asked.form asked.scale) asked.index
 course_by (ask asked) = ask_course asked.index asked.points
+course_by (verify asked) = verify_course asked.index
 course_by (face asked) = face_course (layer_file asked.layer asked.form asked.scale) asked.point
 course_by (gen asked) = gen_course asked.kind asked.n asked.shift
 course_by (trial asked) = trial_course asked.index asked.kind asked.n asked.shift

@@ -2,12 +2,13 @@
 
 ghost use Rattle.std.specs.Prelude.{◌≡◌, ◌≤◌, IfSome, Some, map, string_bytes};
 ghost use Rattle.loc_io.specs.Streams.{InTime};
-ghost use Rattle.loc_words.specs.Words.{AskedAsk, AskedBuild, AskedQuery, ask, build, command_of, query};
+ghost use Rattle.loc_words.specs.Words.{AskedAsk, AskedBuild, AskedQuery, AskedVerify, ask, build, command_of, query, verify};
 ghost use Rattle.loc_course.specs.Courses.{Course};
 ghost use Rattle.loc_course.specs.Moments.{moment};
 ghost use Rattle.loc_course.specs.Sentences.{Counts, Done, InTimes, Misses, Names, NoCountRose, Notes, ReadsFail, RefusedOnly, Refuses, RefusesPartly, Succeeds};
 ghost use Rattle.loc_indexed.specs.Asks.{Asks};
 ghost use Rattle.loc_indexed.specs.Builds.{Builds, Built};
+ghost use Rattle.loc_indexed.specs.Verifies.{Judged, Verifies};
 ghost use Rattle.loc_maps.specs.MapCourses.{layer_file};
 ghost use Rattle.loc_query.specs.Headline.{Headline};
 ghost use Rattle.loc_top.specs.Run.{FilesOf, OutOf, Ran, RefusesWords, WritesFail, course_of};
@@ -15,7 +16,7 @@ ghost use Rattle.loc_top.specs.Run.{FilesOf, OutOf, Ran, RefusesWords, WritesFai
 use loc_course::{Scale, Stop, report, write_text};
 use loc_face::face;
 use loc_geom::Steps;
-use loc_indexed::{ask, build};
+use loc_indexed::{ask, build, verify};
 use loc_io::{Shelf, Sink};
 use loc_maps::check;
 use loc_query::query;
@@ -35,6 +36,7 @@ fn run_course<F: Shelf, O: Sink, N: Sink, L: Ledger>(
 ) -> u8
     ensures ran { Ran (course_of (map string_bytes words.now)) (moment (F.meaning shelf.old) (O.meaning out.old) steps.old) (moment (F.meaning shelf.new) (O.meaning out.new) steps.new) (N.meaning notes.old) (N.meaning notes.new) result }
     ensures built { (asked : AskedBuild) → command_of (map string_bytes words.now) ≡ Some (build asked) → Built (layer_file asked.layer asked.form asked.scale) asked.index (F.meaning shelf.old) (F.meaning shelf.new) result }
+    ensures judged { (asked : AskedVerify) → command_of (map string_bytes words.now) ≡ Some (verify asked) → Judged ((F.meaning shelf.old).told asked.index) result }
     ensures notes_in_time { InTime (N.meaning notes.old) (N.meaning notes.new) }
 {
     match command_of(alloc, words) {
@@ -67,6 +69,10 @@ fn run_course<F: Shelf, O: Sink, N: Sink, L: Ledger>(
         }
         Ok(Command::Ask(asked)) => {
             let outcome = ask(alloc, asked.index, asked.points, shelf, out, steps);
+            report(outcome, notes)
+        }
+        Ok(Command::Verify(asked)) => {
+            let outcome = verify(alloc, asked.index, shelf, out);
             report(outcome, notes)
         }
         Ok(Command::Face(asked)) => {
@@ -121,6 +127,8 @@ pub fn run<F: Shelf, O: Sink, N: Sink, L: Ledger>(
         → Asks asked.index asked.points (moment (F.meaning shelf.old) (O.meaning out.old) steps.old) (moment (F.meaning shelf.new) (O.meaning out.new) steps.new) (N.meaning notes.old) (N.meaning notes.new) result }
     ensures builds { (asked : AskedBuild) → command_of (map string_bytes words.now) ≡ Some (build asked)
         → Builds (layer_file asked.layer asked.form asked.scale) asked.index (moment (F.meaning shelf.old) (O.meaning out.old) steps.old) (moment (F.meaning shelf.new) (O.meaning out.new) steps.new) (N.meaning notes.old) (N.meaning notes.new) result }
+    ensures verifies { (asked : AskedVerify) → command_of (map string_bytes words.now) ≡ Some (verify asked)
+        → Verifies asked.index (moment (F.meaning shelf.old) (O.meaning out.old) steps.old) (moment (F.meaning shelf.new) (O.meaning out.new) steps.new) (N.meaning notes.old) (N.meaning notes.new) result }
     ensures ran { Ran (course_of (map string_bytes words.now)) (moment (F.meaning shelf.old) (O.meaning out.old) steps.old) (moment (F.meaning shelf.new) (O.meaning out.new) steps.new) (N.meaning notes.old) (N.meaning notes.new) result }
     ensures done { IfSome (course_of (map string_bytes words.now)) (λ (c : Course). Done c (moment (F.meaning shelf.old) (O.meaning out.old) steps.old) (moment (F.meaning shelf.new) (O.meaning out.new) steps.new) result) }
     ensures succeeds { IfSome (course_of (map string_bytes words.now)) (λ (c : Course). Succeeds c (moment (F.meaning shelf.old) (O.meaning out.old) steps.old) (moment (F.meaning shelf.new) (O.meaning out.new) steps.new) result) }

@@ -7,6 +7,7 @@ usage_text = codes "usage: locate query LAYER POINTS --scale K [--form lines|csv
     ++ codes "       locate check LAYER --scale K [--form lines|csv]" ++ 10 ∷ []
     ++ codes "       locate build LAYER INDEX --scale K [--form lines|csv]" ++ 10 ∷ []
     ++ codes "       locate ask INDEX POINTS" ++ 10 ∷ []
+    ++ codes "       locate verify INDEX" ++ 10 ∷ []
     ++ codes "       locate face LAYER POINT --scale K [--form lines|csv]" ++ 10 ∷ []
     ++ codes "       locate gen KIND N SHIFT" ++ 10 ∷ []
     ++ codes "       locate trial KIND N SHIFT [--index scan|tree|trap]" ++ 10 ∷ []

@@ -16,7 +16,7 @@ use Rattle.loc_words.specs.declared.row.OptionKind.TheVariants.{Required, Option
 use Rattle.loc_words.specs.declared.row.CommandRow.{CommandRow as Row}
 use Rattle.loc_words.specs.declared.row.OptionRow.{OptionRow as Declared}
 use Rattle.loc_words.specs.declared.command.Command.{Command}
-use Rattle.loc_words.specs.declared.command.Command.TheVariants.{Query, Check, Build, Ask, Face, Gen, Trial}
+use Rattle.loc_words.specs.declared.command.Command.TheVariants.{Query, Check, Build, Ask, Verify, Face, Gen, Trial}
 
 -- what a query says; the order of the edges is that of a file, or shuffled from a number
 pub record AskedQuery : Type 0 where
@@ -47,6 +47,10 @@ pub record AskedAsk : Type 0 where
   pub index : Text
   pub points : Text
 
+-- which index file is judged
+pub record AskedVerify : Type 0 where
+  pub index : Text
+
 -- what a question for a face says
 pub record AskedFace : Type 0 where
   pub layer : Text
@@ -73,6 +77,7 @@ pub data Asked : Type 0 where
   check : AskedCheck → Asked
   build : AskedBuild → Asked
   ask : AskedAsk → Asked
+  verify : AskedVerify → Asked
   face : AskedFace → Asked
   gen : AskedGen → Asked
   trial : AskedTrial → Asked
@@ -83,6 +88,7 @@ asked_by (Query q) = query (record { layer = q.layer.now; points = q.points.now;
 asked_by (Check c) = check (record { layer = c.layer.now; scale = c.scale; form = c.form })
 asked_by (Build b) = build (record { layer = b.layer.now; index = b.index.now; scale = b.scale; form = b.form })
 asked_by (Ask a) = ask (record { index = a.index.now; points = a.points.now })
+asked_by (Verify v) = verify (record { index = v.index.now })
 asked_by (Face f) = face (record { layer = f.layer.now; point = f.point.now; scale = f.scale; form = f.form })
 asked_by (Gen g) = gen (record { kind = g.kind; n = g.n; shift = g.shift })
 asked_by (Trial t) = trial (record { kind = t.kind; n = t.n; shift = t.shift; index = t.index })
@@ -93,6 +99,7 @@ HasScale (Query q) = q.scale ≤ 15
 HasScale (Check c) = c.scale ≤ 15
 HasScale (Build b) = b.scale ≤ 15
 HasScale (Ask a) = ⊤
+HasScale (Verify v) = ⊤
 HasScale (Face f) = f.scale ≤ 15
 HasScale (Gen g) = ⊤
 HasScale (Trial t) = ⊤
@@ -171,6 +178,10 @@ build_row = record { name = codes "build"; places = codes "layer" ∷ codes "ind
 abbrev pub ask_row : CommandRow
 ask_row = record { name = codes "ask"; places = codes "index" ∷ codes "points" ∷ []; options = [] }
 
+-- verify INDEX
+abbrev pub verify_row : CommandRow
+verify_row = record { name = codes "verify"; places = codes "index" ∷ []; options = [] }
+
 -- face LAYER POINT
 abbrev pub face_row : CommandRow
 face_row = record { name = codes "face"; places = codes "layer" ∷ codes "point" ∷ []; options = layer_options }
@@ -218,6 +229,10 @@ build_from given = option_and_then (λ file. option_map (λ index. build (record
 abbrev pub ask_from : List Entry → Option Asked
 ask_from given = option_and_then (λ index. option_map (λ points. ask (record { index = index; points = points })) (value_in given (codes "points"))) (value_in given (codes "index"))
 
+-- the index file to be judged, of what was given
+abbrev pub verify_from : List Entry → Option Asked
+verify_from given = option_map (λ index. verify (record { index = index })) (value_in given (codes "index"))
+
 -- the question for a face of what was given
 abbrev pub face_from : List Entry → Option Asked
 face_from given = option_and_then (λ file. option_map (λ point. face (record { layer = file.0; point = point; scale = file.1; form = file.2 })) (value_in given (codes "point"))) (layer_given given)
@@ -236,6 +251,7 @@ command_named name words = if bytes_eq name query_row.name then option_and_then 
     else if bytes_eq name check_row.name then option_and_then check_from (given_of check_row words)
     else if bytes_eq name build_row.name then option_and_then build_from (given_of build_row words)
     else if bytes_eq name ask_row.name then option_and_then ask_from (given_of ask_row words)
+    else if bytes_eq name verify_row.name then option_and_then verify_from (given_of verify_row words)
     else if bytes_eq name face_row.name then option_and_then face_from (given_of face_row words)
     else if bytes_eq name gen_row.name then option_and_then gen_from (given_of gen_row words)
     else if bytes_eq name trial_row.name then option_and_then trial_from (given_of trial_row words) else None

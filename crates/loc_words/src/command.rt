@@ -20,6 +20,8 @@ pub enum Command<'a> {
     Build(Build<'a>),
     /// Answers to the points of a file, from an index file.
     Ask(Ask<'a>),
+    /// The judgement of an index file.
+    Verify(Verify<'a>),
     /// The face of a point, against a layer.
     Face(Face<'a>),
     /// A generated layer.
@@ -64,6 +66,12 @@ pub struct Build<'a> {
 pub struct Ask<'a> {
     pub index: &'a str,
     pub points: &'a str,
+}
+
+/// Which index file is judged.
+#[derive(Clone, Copy, Debug, PartialEq, Eq)]
+pub struct Verify<'a> {
+    pub index: &'a str,
 }
 
 /// What a question for a face says. Its places are as they stand in the words.
@@ -143,6 +151,12 @@ const BUILD: CommandRow<'static> = CommandRow {
 const ASK: CommandRow<'static> = CommandRow {
     name: "ask",
     places: &["index", "points"],
+    options: &[],
+};
+
+const VERIFY: CommandRow<'static> = CommandRow {
+    name: "verify",
+    places: &["index"],
     options: &[],
 };
 
@@ -251,6 +265,15 @@ fn ask_from<'a>(given: Option<Given<'a>>) -> Option<Command<'a>>
     Some(Command::Ask(Ask { index, points }))
 }
 
+fn verify_from<'a>(given: Option<Given<'a>>) -> Option<Command<'a>>
+    ensures scale { IfSome result spec.HasScale }
+    ensures value { option_map spec.asked_by result ≡ option_and_then spec.verify_from (option_map given_by given.entry) }
+{
+    let given = given?;
+    let index = given.value("index")?;
+    Some(Command::Verify(Verify { index }))
+}
+
 fn face_from<'a>(given: Option<Given<'a>>) -> Option<Command<'a>>
     ensures scale { IfSome result spec.HasScale }
     ensures value { option_map spec.asked_by result ≡ option_and_then spec.face_from (option_map given_by given.entry) }
@@ -303,6 +326,7 @@ fn command_named<'a>(
         "check" => Ok(check_from(read_row(alloc, &CHECK, words)?)),
         "build" => Ok(build_from(read_row(alloc, &BUILD, words)?)),
         "ask" => Ok(ask_from(read_row(alloc, &ASK, words)?)),
+        "verify" => Ok(verify_from(read_row(alloc, &VERIFY, words)?)),
         "face" => Ok(face_from(read_row(alloc, &FACE, words)?)),
         "gen" => Ok(gen_from(read_row(alloc, &GEN, words)?)),
         "trial" => Ok(trial_from(read_row(alloc, &TRIAL, words)?)),

@@ -164,6 +164,15 @@ const ASK_ROWS: [(&str, bool); 5] = [
     ("ask a -b", false),
 ];
 
+// Lines of words, and whether they judge the index "a".
+const VERIFY_ROWS: [(&str, bool); 5] = [
+    ("verify a", true),
+    ("verify", false),
+    ("verify a b", false),
+    ("verify a --scale 0", false),
+    ("verify -a", false),
+];
+
 // The places, the scale and the form of a command on "a", and "b".
 fn values_of(command: Command<'_>) -> Option<(u8, u8, Form)> {
     match command {
@@ -209,6 +218,20 @@ fn indexes_that_are_asked(rt: HostRuntime) -> Result<(), Fail> {
             _ => false,
         };
         assert!(rt; is_so == *asks, "{line}");
+    }
+    Ok(())
+}
+
+#[test]
+fn indexes_that_are_judged(rt: HostRuntime) -> Result<(), Fail> {
+    let alloc = rt.alloc();
+    for (line, judges) in &VERIFY_ROWS {
+        let words = words_of(alloc, line)?;
+        let is_so = match command_of(alloc, words.as_slice()) {
+            Ok(Command::Verify(verify)) => verify.index == "a",
+            _ => false,
+        };
+        assert!(rt; is_so == *judges, "{line}");
     }
     Ok(())
 }
@@ -291,5 +314,5 @@ fn generated_layers(rt: HostRuntime) -> Result<(), Fail> {
 
 #[test]
 fn lines_of_the_usage_text(rt: HostRuntime) {
-    assert!(rt; usage_text().lines().count() == 7 && usage_text().ends_with("trap]\n"));
+    assert!(rt; usage_text().lines().count() == 8 && usage_text().ends_with("trap]\n"));
 }

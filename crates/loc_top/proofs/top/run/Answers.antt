@@ -4,8 +4,10 @@ use Rattle.loc_words.specs.Words.{command_of}
 use Rattle.loc_maps.specs.MapCourses.{layer_file}
 use Rattle.loc_indexed.specs.Building.{build_course}
 use Rattle.loc_indexed.specs.IndexedCourses.{ask_course}
+use Rattle.loc_indexed.specs.Verifying.{verify_course}
 use Rattle.loc_indexed.proofs.BuildRows.{builds}
 use Rattle.loc_indexed.proofs.Outcomes.{asks}
+use Rattle.loc_indexed.proofs.VerifyRows.{verifies}
 use Rattle.loc_query.specs.QueryCourses.{query_course}
 use Rattle.loc_query.proofs.Headlines.{headline}
 use Rattle.loc_top.specs.Run.{course_by}
@@ -26,6 +28,10 @@ pub returns-clause-builds : goal.returns-clause-builds
 returns-clause-builds g c asked is =
     let file = layer_file asked.layer asked.form asked.scale in
     builds file asked.index _ _ _ _ _ (ended_of _ _ _ _ c.run_course.result _ c.run_course.ensures.ran (build_course file asked.index) (ap (option_map course_by) is)) (c.run_course.ensures.built asked is)
+
+pub returns-clause-verifies : goal.returns-clause-verifies
+returns-clause-verifies g c asked is =
+    verifies asked.index _ _ _ _ _ (sentences_of _ _ _ _ c.run_course.result _ c.run_course.ensures.ran (verify_course asked.index) (ap (option_map course_by) is)) (c.run_course.ensures.judged asked is)
 
 pub returns-clause-done : goal.returns-clause-done
 returns-clause-done g c = of_course _ _ _ _ c.run_course.result _ _ c.run_course.ensures.ran (λ course s. s.done)

@@ -1,0 +1,15 @@
+mod Computed
+mod Differences
+pub mod First
+mod FirstSome
+mod Floors
+mod InOrder
+mod OfKind
+mod Pairs
+mod ReadWithin
+pub mod Readable
+mod Room
+pub mod Same
+mod Single
+mod VersionFlaws
+mod VersionList
