@@ -9,7 +9,7 @@ use Rattle.loc_io.specs.Reading.{WroteFront}
 use Rattle.loc_io.specs.Streams.{Stream}
 use Rattle.loc_io.proofs.Reading.{files_then, in_time_by, making_then, taken_last}
 use Rattle.loc_spec_text.specs.Answered.{Answered, answered, with_answer}
-use Rattle.loc_spec_text.specs.Bytes.{ended_lines, lines}
+use Rattle.loc_spec_text.specs.Bytes.{Text, ended_lines, lines}
 use Rattle.loc_spec_text.specs.Points.{Answer}
 use Rattle.loc_place.specs.declared.locator.Deep.{Deep}
 use Rattle.loc_batch.specs.Batches.{Answering, Answers, AnswersCut, AnswersRest, AnswersTo, AreSeen, IsFrontOf, IsLonger, IsWholeOf, ReadsAreCounted}
@@ -17,7 +17,7 @@ use Rattle.loc_batch.specs.Streams.{line_of, text_of}
 use Rattle.loc_batch.specs.declared.tally.Tally.{Tally}
 use Rattle.loc_batch.specs.declared.faults.BatchFault.{BatchFault}
 use Rattle.loc_batch.specs.declared.faults.BatchFault.TheVariants as b
-use Rattle.loc_course.specs.Courses.{Text, Stopped}
+use Rattle.loc_course.specs.Courses.{Stopped}
 use Rattle.loc_course.specs.Moments.{moment, IsToldLong, IsToldText}
 use Rattle.loc_course.specs.Stops.{source}
 use Rattle.loc_course.specs.Streams.{AnswersAreCounted, AnswersSource, IsToldFront, out_of, AreSeen as AreTold, AnswersTo as TellsTo}

@@ -10,7 +10,7 @@ use Rattle.loc_spec_plane.specs.declared.Place.{Place}
 use Rattle.loc_io.specs.Causes.{Rose}
 use Rattle.loc_io.specs.Reading.{WroteFront}
 use Rattle.loc_io.specs.Streams.{InTime, Stream}
-use Rattle.loc_io.proofs.Appending.{Appends-more, in_time_after}
+use Rattle.loc_io.proofs.Appending.{Appends-more, in_time_after, front-behind, front-of}
 use Rattle.loc_spec_text.specs.Answered.{Answered, answered, with_answer}
 use Rattle.loc_spec_text.specs.Points.{Answer, point_of}
 use Rattle.loc_place.specs.declared.locator.Deep.{Deep}
@@ -23,7 +23,7 @@ use Rattle.loc_batch.specs.Streams.{last_line, line_of, tally_of, text_of, with_
 use Rattle.loc_batch.specs.declared.tally.Tally.{Tally}
 use Rattle.loc_batch.specs.declared.faults.FeedFault.{FeedFault}
 use Rattle.loc_batch.specs.declared.faults.FeedFault.TheVariants as f
-use Rattle.loc_page.proofs.Pages.{fails_then, front-behind, front-of, front-passes, nothing_passes, passes-both, steady_none, steady_then}
+use Rattle.loc_page.proofs.Pages.{fails_then, front-passes, nothing_passes, passes-both, steady_none, steady_then}
 
 -- no answers
 abbrev pub no_answers : Answered Answer Deep

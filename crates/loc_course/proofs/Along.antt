@@ -1,9 +1,10 @@
 -- The names, the files and the steps along a course.
 use Rattle.std.proofs.Common.{◌≡◌, ◌≢◌, ℕ, ◌+◌, ◌≤◌, [], ◌∷◌, ◌++◌, length, Option, Some, None, refl, sym, ◌∙◌, subst, ap, inl, arith, append_assoc, append-nil}
 use Rattle.std.proofs.Math.Path.{fun_ext}
+use Rattle.loc_spec_text.specs.Bytes.{Text}
 use Rattle.loc_io.specs.Entries.{Entries}
 use Rattle.loc_io.specs.Meaning.{KeepsFiles, Told, untold, absent, holds}
-use Rattle.loc_course.specs.Courses.{Text, Source, Course, Stopped, refused, unread, unwritten, no_memory}
+use Rattle.loc_course.specs.Courses.{Source, Course, Stopped, refused, unread, unwritten, no_memory}
 use Rattle.loc_course.specs.Following.{FileWritesAreCounted, Moment, IsToldAtMost, Follows, lacks, refuses_by, reads_not, reads_by, searches_by, answers_by, writes_by, makes_by}
 use Rattle.loc_course.specs.Moments.{IsToldText}
 use Rattle.loc_course.specs.Streams.{Answering, AnswersTo}

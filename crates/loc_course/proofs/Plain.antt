@@ -1,6 +1,7 @@
 -- Courses that write at once and make no file.
 use Rattle.std.proofs.Common.{ℕ, Bool}
-use Rattle.loc_course.specs.Courses.{Text, Source, Course, refuses, reads, searches, answers, writes, makes}
+use Rattle.loc_spec_text.specs.Bytes.{Text}
+use Rattle.loc_course.specs.Courses.{Source, Course, refuses, reads, searches, answers, writes, makes}
 use Rattle.loc_course.specs.Sentences.{AtOnce, IsPlain, MayRefuseBehind}
 
 pub plain_refuses : (passes : Text → Bool) → IsPlain (refuses passes)

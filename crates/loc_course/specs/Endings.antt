@@ -4,9 +4,10 @@
 --   DidSo   what a course did, by what was told of each name, by out and by the count of writes of files
 --   Did     what a course did from one moment to another
 use Rattle.std.specs.Prelude.{ℕ, ◌≤◌, Bool, length, Option, Some, None, IsTrue, ⊤}
+use Rattle.loc_spec_text.specs.Bytes.{Text}
 use Rattle.loc_io.specs.Meaning.{Told}
 use Rattle.loc_io.specs.Streams.{Stream}
-use Rattle.loc_course.specs.Courses.{Text, Course, refuses, reads, searches, answers, writes, makes, Stopped, refused, unread, unwritten, no_memory}
+use Rattle.loc_course.specs.Courses.{Course, refuses, reads, searches, answers, writes, makes, Stopped, refused, unread, unwritten, no_memory}
 use Rattle.loc_course.specs.Following.{FileWritesAreCounted, MadeSo, WroteSo}
 use Rattle.loc_course.specs.Moments.{Moment, IsToldText}
 use Rattle.loc_course.specs.Streams.{AnswersTo, IsToldFront}

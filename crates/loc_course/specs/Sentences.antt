@@ -9,9 +9,9 @@ use Rattle.loc_io.specs.Entries.{Entries}
 use Rattle.loc_io.specs.Meaning.{KeepsFiles, NoneLate, Told, untold, absent, holds}
 use Rattle.loc_io.specs.Reading.{WroteFront}
 use Rattle.loc_io.specs.Streams.{InTime, Stream}
-use Rattle.loc_spec_text.specs.Bytes.{lines}
+use Rattle.loc_spec_text.specs.Bytes.{Text, lines}
 use Rattle.loc_spec_text.specs.Points.{ended}
-use Rattle.loc_course.specs.Courses.{Text, Source, Course, refuses, reads, searches, answers, writes, makes, Stopped, refused, unread, unwritten, no_memory}
+use Rattle.loc_course.specs.Courses.{Source, Course, refuses, reads, searches, answers, writes, makes, Stopped, refused, unread, unwritten, no_memory}
 use Rattle.loc_course.specs.Following.{Follows, IsToldAtMost, IsMade}
 use Rattle.loc_course.specs.Moments.{Moment, IsToldText}
 use Rattle.loc_course.specs.Streams.{IsToldFront}

@@ -1,13 +1,10 @@
 -- The way down from an edge, edge after edge.
 use Rattle.std.proofs.Common.{◌≡◌, ◌≢◌, ℕ, ◌+◌, ◌<◌, List, [], ◌∷◌, ◌++◌, length, get_or, refl, sym, ◌∙◌, ap, subst, inl, inr, arith, Option, Some, None}
-use Rattle.std.specs.Prelude.{IfSome}
 use Rattle.std.proofs.Math.Seq.{get_or-append_seam}
 use Rattle.std.proofs.lemmas.Bool.{cases_eq}
 use Rattle.std.proofs.lemmas.List.{get_or_append_left, length-append}
-use Rattle.loc_spec_plane.specs.Tables.{Table, IsTable, NoConflict}
-use Rattle.loc_spec_plane.specs.Places.{IsJustBelow}
+use Rattle.loc_spec_plane.specs.Tables.{Table}
 use Rattle.loc_cover.specs.Numbered.{IsKnownUnder, IsPath}
-use Rattle.loc_cover.proofs.Ranked.{below_within}
 
 -- edges from the first one down to the last, each just above the next
 pub record IsDescent (t : Table) (below : List (Option ℕ)) (first : ℕ) (path : List ℕ) (last : ℕ) : Type 0 where
@@ -17,11 +14,6 @@ pub record IsDescent (t : Table) (below : List (Option ℕ)) (first : ℕ) (path
   pub begins : get_or path 0 0 ≡ first
   pub some : 0 < length path
   pub last_within : last < length t.ends
-
--- an edge just below another is an edge
-pub below_in_range : (t : Table) → IsTable t → NoConflict t → (e : ℕ) (below : Option ℕ) → e < length t.ends → IsJustBelow t e below → IfSome below (λ d. d < length t.ends)
-below_in_range t ok apart e None le is = tt
-below_in_range t ok apart e (Some d) le is = below_within t ok apart e d le is
 
 -- from the first edge
 pub descent_start : (t : Table) (below : List (Option ℕ)) (first : ℕ) (path : List ℕ) → first < length t.ends → path ≡ first ∷ [] → IsDescent t below first path first

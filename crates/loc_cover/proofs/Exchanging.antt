@@ -9,6 +9,7 @@ use Rattle.std.proofs.lemmas.List.Folds.{list_all-append, list_any-append, list_
 use Rattle.loc_spec_plane.specs.declared.Mark.{Mark}
 use Rattle.loc_spec_plane.specs.Lists.{exactly_one, is_in, is_rising, IsRisingListOf}
 use Rattle.loc_spec_plane.specs.Tables.{mark_before}
+use Rattle.loc_laws_order.proofs.Sets.{all_weaker, or_none}
 use Rattle.loc_laws_order.proofs.TableOrder.{rises}
 use Rattle.loc_laws_order.proofs.Unique.{all-at}
 use Rattle.loc_laws_rays.proofs.Parity.{exactly_one_assoc}
@@ -25,13 +26,11 @@ all_joined p xs ys h k = list_all-append p xs ys ∙ and_from _ _ h k
 
 -- what is below a number is below each greater one
 pub all_below : (a b : ℕ) (xs : List ℕ) → a ≤ b → list_all (λ x. nat_lt x a) xs ≡ true → list_all (λ x. nat_lt x b) xs ≡ true
-all_below a b [] le h = refl
-all_below a b (x ∷ xs) le h = let parts = and_parts (nat_lt x a) (list_all (λ x. nat_lt x a) xs) h in and_from _ _ (lt-ltb x b (let lt : x < a = ltb-true x a parts.0 in omega arith)) (all_below a b xs le parts.1)
+all_below a b xs le h = all_weaker (λ x. nat_lt x a) (λ x. nat_lt x b) (λ x less. lt-ltb x b (let lt : x < a = ltb-true x a less in omega arith)) xs h
 
 -- what is above a number is above each lesser one
 all_above : (a b : ℕ) (xs : List ℕ) → a ≤ b → list_all (nat_lt b) xs ≡ true → list_all (nat_lt a) xs ≡ true
-all_above a b [] le h = refl
-all_above a b (x ∷ xs) le h = let parts = and_parts (nat_lt b x) (list_all (nat_lt b) xs) h in and_from _ _ (lt-ltb a x (let lt : b < x = ltb-true b x parts.0 in omega arith)) (all_above a b xs le parts.1)
+all_above a b xs le h = all_weaker (nat_lt b) (nat_lt a) (λ x less. lt-ltb a x (let lt : b < x = ltb-true b x less in omega arith)) xs h
 
 -- the first members pass a test that each place below n passes
 pub all_first : (p : ℕ → Bool) (n : ℕ) (xs : List ℕ) → ((k : ℕ) → k < n → k < length xs → p (get_or xs k 0) ≡ true) → list_all p (take n xs) ≡ true
@@ -142,10 +141,6 @@ module _ (made rest : List ℕ) (f past : ℕ) (up : is_rising nat_lt (made ++ r
   gained_up_to = all_joined (λ x. nat_lt x (f + 1)) low (f ∷ []) low_up_to (and_from _ true (lt-ltb f (f + 1) (omega arith)) refl)
 
 -- ---- mark after mark
-or_none : (a : Bool) → (a || false) ≡ a
-or_none true = refl
-or_none false = refl
-
 -- numbers that rise do not fall
 pub numbers_rise : (xs : List ℕ) → is_rising nat_lt xs ≡ true → IsNonDecreasingBy (λ n. n) xs
 numbers_rise xs up i j d le fits = elim (cases_eq i j) [
@@ -187,12 +182,8 @@ module _ (list : List ℕ) (marks : List Mark) (d : Mark) (i : ℕ) (up : is_ris
   pub exchanged_same : (xs : List ℕ) → IsExchangedBy list (take i marks) xs → (get_or marks i d).odd ≡ false → IsExchangedBy list (take (i + 1) marks) xs
   exchanged_same xs before even = record {
     rising = before.rising;
-    exact = λ n. before.exact n ∙ ap (λ b. exactly_one b (is_in n list)) (sym (list_any_more (λ (m : Mark). (m.feature == n) && m.odd) marks i d fits ∙ none_added (is_marked_odd (take i marks) n) ((get_or marks i d).feature == n) (get_or marks i d).odd even));
+    exact = λ n. before.exact n ∙ ap (λ b. exactly_one b (is_in n list)) (sym (list_any_more (λ (m : Mark). (m.feature == n) && m.odd) marks i d fits ∙ (ap (λ b. is_marked_odd (take i marks) n || b) (and_right ((get_or marks i d).feature == n) (get_or marks i d).odd even) ∙ or_none (is_marked_odd (take i marks) n))));
   }
-    where
-      none_added : (a b c : Bool) → c ≡ false → (a || (b && c)) ≡ a
-      none_added true b c h = refl
-      none_added false b c h = and_right b c h
 
   -- what is at most the feature of a mark is below that of each later one
   pub behind_later : (xs : List ℕ) → list_all (λ x. nat_lt x ((get_or marks i d).feature + 1)) xs ≡ true → (k : ℕ) → i + 1 ≤ k → k < length marks → list_all (λ x. nat_lt x (get_or marks k d).feature) xs ≡ true

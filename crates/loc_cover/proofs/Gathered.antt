@@ -4,20 +4,23 @@ use Rattle.std.specs.Prelude.{nat_lt, ◌==◌}
 use Rattle.std.specs.List.{list_all, list_any, range_with_len}
 use Rattle.std.specs.Cmp.{nat_cmp_is}
 use Rattle.std.specs.Ordering.{MatchOrdering, nat_cmp}
-use Rattle.std.proofs.lemmas.Bool.{and_parts, and_from, and_right, or_left, or_right, or_cases, cases_Bool, cases_eq, cases_order, cond-false, cond-true, true≢false, eq-eqb, eqb-true, lt-ltb, ltb-true}
+use Rattle.std.proofs.lemmas.Bool.{and_parts, and_from, and_right, or_cases, cases_Bool, cases_eq, cases_order, cond-false, cond-true, true≢false, eq-eqb, eqb-true, lt-ltb, ltb-true}
 use Rattle.std.proofs.lemmas.Cmp.{nat_cmp_total}
 use Rattle.std.proofs.Math.Seq.{get_or-append_seam}
 use Rattle.std.proofs.lemmas.List.{get_or_append_left, length-append}
-use Rattle.std.proofs.lemmas.List.Folds.{list_any-append, list_any_at}
+use Rattle.std.proofs.lemmas.List.Folds.{list_all-map, list_any-append, list_any_at}
 use Rattle.loc_spec_plane.specs.declared.Mark.{Mark}
 use Rattle.loc_spec_plane.specs.Lists.{is_in, is_rising, numbers, IsRisingListOf}
 use Rattle.loc_spec_plane.specs.Tables.{Table, ends_at, edge_numbers, has, hi_of, lo_of, mark_before}
+use Rattle.loc_laws_order.proofs.Sets.{or_none}
 use Rattle.loc_laws_order.proofs.TableOrder.{numbers_within}
 use Rattle.loc_laws_order.proofs.Unique.{all-at}
-use Rattle.loc_laws_rays.proofs.Members.{is_in-filter}
+use Rattle.loc_laws_rays.proofs.Covering.{any-found}
+use Rattle.loc_laws_rays.proofs.Members.{in_range, is_in-filter}
 use Rattle.loc_laws_rays.proofs.Parity.{same-from_both}
 use Rattle.loc_edges.specs.Ending.{IsBeginning}
 use Rattle.loc_edges.proofs.SortedSet.{IsOrderBy}
+use Rattle.loc_cover.proofs.Lexicographic.{any_map}
 
 -- ---- numbers in their order
 numbers_ranked : (x y : ℕ) → MatchOrdering (nat_cmp x y) (nat_lt x y ≡ true) (x ≡ y) (nat_lt y x ≡ true)
@@ -36,16 +39,11 @@ numbers_by_less = record { total = nat_cmp_total; ranked = numbers_ranked; asym 
 -- ---- the features of marks
 -- a member of the features of marks is one of a mark
 pub in_features : (f : ℕ) (marks : List Mark) → is_in f (map (λ (m : Mark). m.feature) marks) ≡ list_any (λ (m : Mark). m.feature == f) marks
-in_features f [] = refl
-in_features f (m ∷ marks) = ap (λ b. (m.feature == f) || b) (in_features f marks)
-
-all_features : (f : ℕ) (marks : List Mark) → list_all (λ (m : Mark). nat_lt f m.feature) marks ≡ true → list_all (nat_lt f) (map (λ (m : Mark). m.feature) marks) ≡ true
-all_features f [] h = refl
-all_features f (m ∷ marks) h = let parts = and_parts (nat_lt f m.feature) (list_all (λ (m : Mark). nat_lt f m.feature) marks) h in and_from _ _ parts.0 (all_features f marks parts.1)
+in_features f marks = any_map (λ m. m == f) (λ (m : Mark). m.feature) marks
 
 features_rise : (marks : List Mark) → is_rising mark_before marks ≡ true → is_rising nat_lt (map (λ (m : Mark). m.feature) marks) ≡ true
 features_rise [] h = refl
-features_rise (m ∷ marks) h = let parts = and_parts (list_all (mark_before m) marks) (is_rising mark_before marks) h in and_from _ _ (all_features m.feature marks parts.0) (features_rise marks parts.1)
+features_rise (m ∷ marks) h = let parts = and_parts (list_all (mark_before m) marks) (is_rising mark_before marks) h in and_from _ _ (list_all-map (nat_lt m.feature) (λ (n : Mark). n.feature) marks ∙ parts.0) (features_rise marks parts.1)
 
 -- the features of marks in order
 pub are_features : (marks : List Mark) → is_rising mark_before marks ≡ true → IsRisingListOf nat_lt (λ f. list_any (λ (m : Mark). m.feature == f) marks) (map (λ (m : Mark). m.feature) marks)
@@ -56,14 +54,10 @@ are_features marks up = record { rising = features_rise marks up; exact = λ f. 
 abbrev pub Gathers : Table → List ℕ → List ℕ → List ℕ → Type 0
 Gathers t old row es = (f : ℕ) → is_in f row ≡ (is_in f old || list_any (has t f) es)
 
-or_none : (a : Bool) → a ≡ (a || false)
-or_none true = refl
-or_none false = refl
-
 or_more : (a b c : Bool) → ((a || b) || c) ≡ (a || (b || (c || false)))
 or_more true b c = refl
 or_more false true c = refl
-or_more false false c = or_none c
+or_more false false c = sym (or_none c)
 
 -- one more edge
 pub gathers_more : (t : Table) (old row next es : List ℕ) (e : ℕ) → Gathers t old row es → next ≡ row ++ map (λ (m : Mark). m.feature) (get_or t.marks e []) → Gathers t old next (es ++ e ∷ [])
@@ -75,29 +69,25 @@ gathers_more t old row next es e before is f =
 
 -- ---- the edges of a corner
 -- a number of a range that passes a test
-in_range : (p : ℕ → Bool) (a n : ℕ) → list_any p (range_with_len a n) ≡ true → (k : ℕ) × (a ≤ k) × (k < a + n) × (p k ≡ true)
-in_range p a zero h = absurd (true≢false (sym h))
-in_range p a (suc n) h = elim (or_cases (p a) (list_any p (range_with_len (a + 1) n)) h) [
+found_in : (p : ℕ → Bool) (a n : ℕ) → list_any p (range_with_len a n) ≡ true → (k : ℕ) × (a ≤ k) × (k < a + n) × (p k ≡ true)
+found_in p a zero h = absurd (true≢false (sym h))
+found_in p a (suc n) h = elim (or_cases (p a) (list_any p (range_with_len (a + 1) n)) h) [
   | inl here ↦ (a, omega arith, omega arith, here)
-  | inr later ↦ (let found = in_range p (a + 1) n later in (found.0, omega (arith, found.1), omega (arith, found.2), found.3))
+  | inr later ↦ (let found = found_in p (a + 1) n later in (found.0, omega (arith, found.1), omega (arith, found.2), found.3))
 ]
 
 -- and the test is passed in the range where such a number passes it
 pub any_range : (p : ℕ → Bool) (a n k : ℕ) → a ≤ k → k < a + n → p k ≡ true → list_any p (range_with_len a n) ≡ true
-any_range p a zero k from lt h = absurd (omega arith)
-any_range p a (suc n) k from lt h = elim (cases_eq a k) [
-  | inl same ↦ or_left (p a) _ (subst (λ j. p j ≡ true) (sym same) h)
-  | inr other ↦ or_right (p a) _ (any_range p (a + 1) n k (let ne : a ≢ k = other in omega arith) (omega arith) h)
-]
+any_range p a n k from lt h = any-found p (range_with_len a n) k (in_range k n a from lt) h
 
 -- the edges that begin at a corner are a range
 pub begun : (t : Table) (c first past f : ℕ) → IsBeginning t c first past → list_any (has t f) (range_with_len first (past - first)) ≡ list_any (λ e. (lo_of t e == c) && has t f e) (edge_numbers t)
 begun t c first past f range = same-from_both _ _
-    (λ h. (let found = in_range (has t f) first (past - first) h in
+    (λ h. (let found = found_in (has t f) first (past - first) h in
     let lt : found.0 < past = omega (arith, found.2, range.in_order) in
     any_range (λ e. (lo_of t e == c) && has t f e) 0 (length t.ends) found.0 (omega arith) (omega (arith, lt, range.within))
     (and_from _ _ (eq-eqb (lo_of t found.0) c ((range.exact found.0 (omega (arith, lt, range.within))).1 (found.1, lt))) found.3)))
-    (λ h. (let found = in_range (λ e. (lo_of t e == c) && has t f e) 0 (length t.ends) h in
+    (λ h. (let found = found_in (λ e. (lo_of t e == c) && has t f e) 0 (length t.ends) h in
     let parts = and_parts (lo_of t found.0 == c) (has t f found.0) found.3 in
     let within = (range.exact found.0 (omega (arith, found.2))).0 (eqb-true (lo_of t found.0) c parts.0) in
     any_range (has t f) first (past - first) found.0 within.0 (omega (arith, within.0, within.1)) parts.1))

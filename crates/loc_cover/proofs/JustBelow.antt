@@ -1,42 +1,25 @@
 -- What stands at or under an edge at its lower end is the edge itself and what stands there at or under the edge just below it.
-use Rattle.std.proofs.Common.{◌≡◌, ◌≢◌, ℕ, zero, suc, ◌+◌, ◌<◌, ◌≤◌, Bool, true, false, not, ◌&&◌, ◌||◌, [], ◌∷◌, length, refl, sym, ◌∙◌, ap, subst, inl, inr, arith, Some, None}
+use Rattle.std.proofs.Common.{◌≡◌, ◌≢◌, ℕ, zero, suc, ◌+◌, ◌<◌, ◌≤◌, Bool, true, false, not, ◌&&◌, ◌||◌, length, refl, sym, ◌∙◌, ap, subst, inl, inr, arith, Some, None}
 use Rattle.std.specs.Prelude.{◌==◌}
-use Rattle.std.proofs.lemmas.Bool.{and_parts, and_from, and_right, or_left, or_right, or_cases, cases_eq, false_from_ne_true, not_from_false, not-true, ltb-true, lt-ltb, eq-eqb, ne_eqb, eqb-true}
+use Rattle.std.proofs.lemmas.Bool.{and_parts, and_from, and_right, or_left, or_right, or_cases, cases_eq, false_from_ne_true, not_from_false, not-true, lt-ltb, eq-eqb, ne_eqb, eqb-true}
 use Rattle.std.specs.List.{range_with_len}
 use Rattle.loc_spec_plane.specs.Lists.{exactly_one, numbers, odd_many}
-use Rattle.loc_spec_plane.specs.Points.{Point, conflict}
+use Rattle.loc_spec_plane.specs.Points.{Point}
 use Rattle.loc_spec_plane.specs.Tables.{Table, IsTable, AllEnds, AllEven, NoConflict, edge, has_odd, edge_numbers}
 use Rattle.loc_spec_plane.specs.Places.{alive, alive_at, is_edge, lower_of, IsJustBelow}
 use Rattle.loc_spec_plane.specs.Covers.{is_at_or_under, is_over}
 use Rattle.loc_laws_rays.specs.Laws.{is_over_at}
-use Rattle.loc_laws_order.proofs.ChainLaws.{chain_lower}
+use Rattle.loc_laws_order.proofs.AliveAt.{lower_passes}
 use Rattle.loc_laws_order.proofs.Sides.{lower-asym, before_irrefl}
+use Rattle.loc_laws_order.proofs.Sets.{or_none}
 use Rattle.loc_laws_order.proofs.TableOrder.{edge_up}
 use Rattle.loc_laws_rays.proofs.Parity.{odd_many-exactly_one, odd_many-same, same-from_both, exactly_one-false}
 use Rattle.loc_laws_rays.proofs.Along.{parity_along}
 
 module _ (t : Table) (ok : IsTable t) (apart : NoConflict t) where
-  quiet : (a b : ℕ) → a < length t.ends → b < length t.ends → conflict (edge t a) (edge t b) ≡ false
-  quiet a b la lb = not-true (conflict (edge t a) (edge t b)) (apart a b la lb)
-
-  -- an edge that is alive somewhere has a number in range, and is alive there by its points
-  alive_parts : (p : Point) (d : ℕ) → alive_at t p d ≡ true → (d < length t.ends) × (alive (edge t d) p ≡ true)
-  alive_parts p d h = let parts = and_parts (is_edge t d) (alive (edge t d) p) h in (ltb-true d (length t.ends) parts.0, parts.1)
-
   -- an edge is alive where it begins
   pub alive_at_begin : (e : ℕ) → e < length t.ends → alive_at t (edge t e).lo e ≡ true
   alive_at_begin e le = and_from (is_edge t e) (alive (edge t e) (edge t e).lo) (lt-ltb e (length t.ends) le) (and_from _ _ (not_from_false _ (before_irrefl (edge t e).lo)) (edge_up t ok e le))
-
-  -- of edges alive at one point, lower passes on
-  pub lower_passes : (p : Point) (a b c : ℕ) → alive_at t p a ≡ true → alive_at t p b ≡ true → alive_at t p c ≡ true → lower_of t a b ≡ true → lower_of t b c ≡ true → lower_of t a c ≡ true
-  lower_passes p a b c live_a live_b live_c first second =
-      let ga = alive_parts p a live_a in
-      let gb = alive_parts p b live_b in
-      let gc = alive_parts p c live_c in
-      chain_lower (edge t a ∷ edge t b ∷ edge t c ∷ []) p
-      (and_from _ _ (and_from _ _ ga.1 (and_from _ _ gb.1 (and_from _ true gc.1 refl)))
-      (and_from _ _ (and_from _ _ first (not_from_false _ (quiet a b ga.0 gb.0))) (and_from _ true (and_from _ _ second (not_from_false _ (quiet b c gb.0 gc.0))) refl)))
-      0 2 (edge t a) (edge t c) (omega arith) refl refl (quiet a c ga.0 gc.0)
 
   module _ (e : ℕ) (le : e < length t.ends) where
     abbrev here : Point
@@ -58,7 +41,7 @@ module _ (t : Table) (ok : IsTable t) (apart : NoConflict t) where
         back : ((x == d) || (alive_at t here x && lower_of t x d)) ≡ true → (alive_at t here x && lower_of t x e) ≡ true
         back h = elim (or_cases (x == d) (alive_at t here x && lower_of t x d) h) [
           | inl same ↦ subst (λ k. (alive_at t here k && lower_of t k e) ≡ true) (sym (eqb-true x d same)) below.0
-          | inr lower ↦ (let parts = and_parts (alive_at t here x) (lower_of t x d) lower in and_from _ _ parts.0 (lower_passes here x d e parts.0 d_parts.0 (alive_at_begin e le) parts.1 d_parts.1))
+          | inr lower ↦ (let parts = and_parts (alive_at t here x) (lower_of t x d) lower in and_from _ _ parts.0 (lower_passes t apart here x d e parts.0 d_parts.0 (alive_at_begin e le) parts.1 d_parts.1))
         ]
 
 -- ---- parity
@@ -107,7 +90,3 @@ module _ (t : Table) (ok : IsTable t) (ended : AllEnds t) (even : AllEven t) (ap
       odd_many-same (λ x. is_at_or_under t e x && has_odd t f x) (λ x. (x == e) && has_odd t f x) (edge_numbers t)
       (λ x. ap (λ b. b && has_odd t f x) (ap (λ b. (x == e) || b) (not-true _ (below x)) ∙ or_none (x == e)))
       ∙ one_alone (has_odd t f) e (length t.ends) le
-    where
-      or_none : (a : Bool) → (a || false) ≡ a
-      or_none true = refl
-      or_none false = refl

@@ -1,29 +1,26 @@
 -- What is left when the lists above all edges are known.
 use Rattle.std.proofs.Common.{◌≡◌, ◌≢◌, ℕ, ◌<◌, Bool, true, List, [], ◌∷◌, length, get_or, take, map, refl, sym, ◌∙◌, ap, subst, inl, inr, arith, Option, Some, None}
-use Rattle.std.specs.Prelude.{nat_lt, ◌==◌, sum_by}
+use Rattle.std.specs.Prelude.{nat_lt, sum_by}
 use Rattle.std.specs.List.{list_all, list_any}
-use Rattle.std.proofs.lemmas.Bool.{and_parts, or_left, or_right, or_cases, cases_lt, true≢false, eqb-true, ltb-true}
+use Rattle.std.proofs.lemmas.Bool.{and_parts, or_cases, cases_lt, true≢false, ltb-true}
 use Rattle.std.proofs.lemmas.List.{get_or_past}
 use Rattle.loc_spec_plane.specs.Lists.{is_in}
 use Rattle.loc_spec_plane.specs.Tables.{Table, edge_numbers}
 use Rattle.loc_spec_plane.specs.Covers.{cover_above, cover_lists}
 use Rattle.loc_laws_order.proofs.TableOrder.{numbers_within}
+use Rattle.loc_laws_rays.proofs.Covering.{any-found}
 use Rattle.loc_laws_rays.proofs.Parity.{same-from_both}
 use Rattle.loc_edges.proofs.SortedSet.{same-sorted_set}
 use Rattle.loc_cover.specs.Legends.{IsFew}
 use Rattle.loc_cover.specs.Numbered.{IsNumbered, covers_of}
 use Rattle.loc_cover.specs.Stores.{StoreRows, IsStore, IsAt, lists_in, lists_of}
-use Rattle.loc_cover.proofs.Lexicographic.{lists_by_before, sorted_set-rising}
+use Rattle.loc_cover.proofs.Lexicographic.{any_map, lists_by_before, sorted_set-rising}
 use Rattle.loc_cover.proofs.Numbering.{named_within}
 
 -- ---- rows in their order
 -- the list of a row that the order names is one of the lists
 named : (rows : List (List ℕ)) (order : List ℕ) (p : List ℕ → Bool) (n : ℕ) → is_in n order ≡ true → p (get_or rows n []) ≡ true → list_any p (lists_in rows order) ≡ true
-named rows [] p n here h = absurd (true≢false (sym here))
-named rows (m ∷ order) p n here h = elim (or_cases (m == n) (is_in n order) here) [
-  | inl same ↦ or_left (p (get_or rows m [])) _ (subst (λ k. p (get_or rows k []) ≡ true) (sym (eqb-true m n same)) h)
-  | inr later ↦ or_right (p (get_or rows m [])) _ (named rows order p n later h)
-]
+named rows order p n here h = any_map p (λ m. get_or rows m []) order ∙ any-found (λ m. p (get_or rows m [])) order n here h
 
 -- an option that is not none
 is_some : (o : Option ℕ) → o ≢ None → (n : ℕ) × (o ≡ Some n)

@@ -1,5 +1,5 @@
 -- Lists of numbers in lexicographic order, and rising lists of any kind, and what their sums are.
-use Rattle.std.proofs.Common.{◌≡◌, ℕ, ◌<◌, ◌≤◌, Bool, true, false, not, ◌&&◌, List, [], ◌∷◌, refl, sym, ◌∙◌, ap, subst, inl, inr, arith, Ordering, Less, Equal, Greater}
+use Rattle.std.proofs.Common.{◌≡◌, ℕ, ◌<◌, ◌≤◌, Bool, true, false, not, ◌&&◌, ◌||◌, List, [], ◌∷◌, map, refl, sym, ◌∙◌, ap, subst, inl, inr, arith, Ordering, Less, Equal, Greater}
 use Rattle.std.specs.Prelude.{nat_lt, ◌==◌, sum_by}
 use Rattle.std.specs.List.{list_all, list_any}
 use Rattle.std.specs.Cmp.{nat_cmp_is}
@@ -11,6 +11,7 @@ use Rattle.std.proofs.lemmas.List.Sums.{sum_by-cons}
 use Rattle.loc_spec_plane.specs.Lists.{is_rising, sorted_set, with_member}
 use Rattle.loc_spec_plane.specs.Covers.{list_before}
 use Rattle.loc_cover.specs.Numbered.{IsWithin}
+use Rattle.loc_laws_order.proofs.Sets.{any_weaker}
 use Rattle.loc_edges.proofs.SortedSet.{IsOrderBy, from_less, irrefl, less, same_from_neither}
 
 -- ---- the order of lists
@@ -63,13 +64,10 @@ any_passing p q (x ∷ xs) all h = let parts = and_parts (q x) (list_all q xs) a
   | inr later ↦ or_right (p x && q x) _ (any_passing p q xs parts.1 later)
 ]
 
--- a test that asks less passes where one that asks more does
-any_less : {X : Type 0} (p q : X → Bool) (xs : List X) → list_any (λ x. p x && q x) xs ≡ true → list_any p xs ≡ true
-any_less p q [] h = h
-any_less p q (x ∷ xs) h = elim (or_cases (p x && q x) (list_any (λ x. p x && q x) xs) h) [
-  | inl here ↦ or_left (p x) _ (and_parts (p x) (q x) here).0
-  | inr later ↦ or_right (p x) _ (any_less p q xs later)
-]
+-- some member of a mapped list passes
+pub any_map : {X Y : Type 0} (p : Y → Bool) (f : X → Y) (xs : List X) → list_any p (map f xs) ≡ list_any (λ x. p (f x)) xs
+any_map p f [] = refl
+any_map p f (x ∷ xs) = ap (λ b. p (f x) || b) (any_map p f xs)
 
 -- where all members pass q, none fails it
 pub none_fails : {X : Type 0} (q : X → Bool) (xs : List X) → list_all q xs ≡ true → list_any (λ x. not (q x)) xs ≡ false
@@ -96,7 +94,7 @@ module _ {X : Type 0} {R : X → X → Ordering} {comes_before : X → X → Boo
   within_rest : (y : X) (xs ys : List X) → list_all (comes_before y) xs ≡ true → IsWithin xs (y ∷ ys) → IsWithin xs ys
   within_rest y xs ys all within p h = elim (or_cases (p y && comes_before y y) (list_any (λ z. p z && comes_before y z) ys) (within (λ z. p z && comes_before y z) (any_passing p (comes_before y) xs all h))) [
     | inl itself ↦ absurd (both_ways _ (irrefl order y) (and_parts (p y) (comes_before y y) itself).1)
-    | inr later ↦ any_less p (comes_before y) ys later
+    | inr later ↦ any_weaker (λ z. p z && comes_before y z) p (λ z both. (and_parts (p z) (comes_before y z) both).0) ys later
   ]
 
   -- the sum over a rising list within another is at most the sum over that

@@ -1,15 +1,17 @@
 -- The list above an edge, made from the list above the edge just below it, and its number.
-use Rattle.std.proofs.Common.{◌≡◌, ℕ, zero, suc, ◌+◌, ◌<◌, Bool, true, false, ◌||◌, List, [], ◌∷◌, length, get_or, map, filter, refl, sym, ◌∙◌, ap, subst, inl, inr, arith, Option, Some, None}
+use Rattle.std.proofs.Common.{◌≡◌, ℕ, ◌<◌, Bool, true, List, [], ◌∷◌, length, get_or, refl, sym, ◌∙◌, ap, subst, inl, inr, arith, Option, Some, None}
 use Rattle.std.specs.Prelude.{nat_lt, IfSome}
-use Rattle.std.specs.List.{list_all, list_any, range_with_len}
+use Rattle.std.specs.List.{list_all, list_any}
 use Rattle.std.proofs.Math.ListN.{set}
-use Rattle.std.proofs.lemmas.Bool.{and_parts, and_from, or_left, or_right, or_cases, cases_Bool, cases_eq, cond-true, cond-false, true≢false, lt-ltb, ltb-true}
+use Rattle.std.proofs.lemmas.Bool.{and_parts, or_cases, cases_eq, true≢false, ltb-true}
 use Rattle.std.proofs.lemmas.List.{get_or-set_other, get_or-set_same, get_or_append_left, length-append, length-set}
 use Rattle.std.proofs.lemmas.List.Folds.{list_any-append, list_any_at}
-use Rattle.loc_spec_plane.specs.Lists.{exactly_one, is_in, is_rising, sorted_set, IsRisingListOf}
+use Rattle.loc_spec_plane.specs.Lists.{exactly_one, is_in, is_rising, numbers, sorted_set, IsRisingListOf}
 use Rattle.loc_spec_plane.specs.Tables.{Table, IsTable, AllEnds, AllEven, NoConflict, edge_numbers, has_odd}
 use Rattle.loc_spec_plane.specs.Places.{IsJustBelow}
 use Rattle.loc_spec_plane.specs.Covers.{cover_above, cover_lists, cover_of_floor, feature_count, is_over, list_before}
+use Rattle.loc_laws_order.proofs.Kept.{numbers_rise, rising_kept}
+use Rattle.loc_laws_order.proofs.Sets.{or_none}
 use Rattle.loc_laws_order.proofs.Unique.{rising-unique}
 use Rattle.loc_laws_rays.proofs.Members.{in_cover}
 use Rattle.loc_laws_rays.proofs.Parity.{exactly_one-false}
@@ -21,27 +23,12 @@ use Rattle.loc_cover.specs.Numbered.{IsNumbered, IsWithin, covers_of}
 use Rattle.loc_cover.specs.Stores.{StoreRows, IsStore, IsPast, GainsAtMost, lists_in, lists_of}
 use Rattle.loc_cover.proofs.Gathered.{any_range}
 use Rattle.loc_cover.proofs.JustBelow.{over_just_below, over_nothing}
-use Rattle.loc_cover.proofs.Lexicographic.{lists_by_before, sum_within}
+use Rattle.loc_cover.proofs.Lexicographic.{any_map, lists_by_before, sum_within}
 
 -- ---- the list
--- what is kept of a range is above each lesser number
-kept_above : (g : ℕ → Bool) (b a n : ℕ) → b < a → list_all (nat_lt b) (filter g (range_with_len a n)) ≡ true
-kept_above g b a zero lt = refl
-kept_above g b a (suc n) lt = elim (cases_Bool (g a)) [
-  | inl kept ↦ ap (list_all (nat_lt b)) (cond-true (g a) (a ∷ filter g (range_with_len (a + 1) n)) (filter g (range_with_len (a + 1) n)) kept) ∙ and_from _ _ (lt-ltb b a lt) (kept_above g b (a + 1) n (omega arith))
-  | inr left ↦ ap (list_all (nat_lt b)) (cond-false (g a) (a ∷ filter g (range_with_len (a + 1) n)) (filter g (range_with_len (a + 1) n)) left) ∙ kept_above g b (a + 1) n (omega arith)
-]
-
-kept_rises : (g : ℕ → Bool) (a n : ℕ) → is_rising nat_lt (filter g (range_with_len a n)) ≡ true
-kept_rises g a zero = refl
-kept_rises g a (suc n) = elim (cases_Bool (g a)) [
-  | inl kept ↦ ap (is_rising nat_lt) (cond-true (g a) (a ∷ filter g (range_with_len (a + 1) n)) (filter g (range_with_len (a + 1) n)) kept) ∙ and_from _ _ (kept_above g a (a + 1) n (omega arith)) (kept_rises g (a + 1) n)
-  | inr left ↦ ap (is_rising nat_lt) (cond-false (g a) (a ∷ filter g (range_with_len (a + 1) n)) (filter g (range_with_len (a + 1) n)) left) ∙ kept_rises g (a + 1) n
-]
-
 -- the list above an edge rises
 pub above_rises : (t : Table) (e : ℕ) → is_rising nat_lt (cover_above t e) ≡ true
-above_rises t e = kept_rises (is_over t e) 0 (feature_count t)
+above_rises t e = rising_kept (is_over t e) nat_lt (numbers (feature_count t)) (numbers_rise (feature_count t))
 
 -- also where there may be no edge
 pub under_rises : (t : Table) (below : Option ℕ) → is_rising nat_lt (cover_of_floor t below) ≡ true
@@ -61,14 +48,7 @@ module _ (t : Table) (ok : IsTable t) (ended : AllEnds t) (even : AllEven t) (ap
 -- ---- its number
 -- the list above an edge is one of the lists above all edges
 pub one_of_covers : (t : Table) (e : ℕ) → e < length t.ends → (p : List ℕ → Bool) → p (cover_above t e) ≡ true → list_any p (covers_of t) ≡ true
-one_of_covers t e le p h = mapped (edge_numbers t) (any_range (λ d. p (cover_above t d)) 0 (length t.ends) e (omega arith) (omega arith) h)
-  where
-    mapped : (ns : List ℕ) → list_any (λ d. p (cover_above t d)) ns ≡ true → list_any p (map (cover_above t) ns) ≡ true
-    mapped [] k = k
-    mapped (n ∷ ns) k = elim (or_cases (p (cover_above t n)) (list_any (λ d. p (cover_above t d)) ns) k) [
-      | inl here ↦ or_left (p (cover_above t n)) _ here
-      | inr later ↦ or_right (p (cover_above t n)) _ (mapped ns later)
-    ]
+one_of_covers t e le p h = any_map p (cover_above t) (edge_numbers t) ∙ any_range (λ d. p (cover_above t d)) 0 (length t.ends) e (omega arith) (omega arith) h
 
 module _ (t : Table) (rows : List (List ℕ)) (known : List (Option ℕ)) (numbered : IsNumbered t rows known) (e : ℕ) (le : e < length t.ends) (list : List ℕ) (is : list ≡ cover_above t e) where
   -- one edge more has its number
@@ -92,12 +72,8 @@ module _ (t : Table) (rows : List (List ℕ)) (known : List (Option ℕ)) (numbe
       all_are p h (inl same) = numbered.covers p (ap (list_any p) (sym same) ∙ h)
       all_are p h (inr more) = elim (or_cases (list_any p rows) (list_any p (list ∷ [])) (sym (list_any-append p rows (list ∷ [])) ∙ (ap (list_any p) (sym more) ∙ h))) [
         | inl old ↦ numbered.covers p old
-        | inr last ↦ one_of_covers t e le p (subst (λ xs. p xs ≡ true) is (only (p list) last))
+        | inr last ↦ one_of_covers t e le p (subst (λ xs. p xs ≡ true) is (sym (or_none (p list)) ∙ last))
       ]
-        where
-          only : (b : Bool) → (b || false) ≡ true → b ≡ true
-          only true k = refl
-          only false k = k
 
 -- the lists named by an order are rows
 pub named_within : (rows : List (List ℕ)) (order : List ℕ) → list_all (λ n. nat_lt n (length rows)) order ≡ true → IsWithin (lists_in rows order) rows

@@ -2,7 +2,7 @@
 use Rattle.std.proofs.Common.{◌≡◌, ℕ, ◌+◌, ◌<◌, ◌≤◌, Bool, true, false, ◌&&◌, ◌||◌, List, [], ◌∷◌, length, refl, sym, ◌∙◌, ap, subst, inl, inr, arith, Some, cond}
 use Rattle.std.specs.Prelude.{nat_lt, ◌==◌, count_by}
 use Rattle.std.specs.List.{list_all}
-use Rattle.std.proofs.lemmas.Bool.{and_parts, and_from, or_left, or_right, or_from, or_cases, both_ways, cases_lt, true≢false, false_from_ne_true, not-true, eq-eqb, eqb-true, lt-ltb, le-ltb, ltb-true}
+use Rattle.std.proofs.lemmas.Bool.{and_right, and_parts, and_from, or_left, or_right, or_from, or_cases, both_ways, cases_lt, true≢false, false_from_ne_true, not-true, eq-eqb, eqb-true, lt-ltb, le-ltb, ltb-true}
 use Rattle.std.proofs.lemmas.List.Sums.{sum_by-cons}
 use Rattle.loc_spec_plane.specs.Lists.{is_in}
 use Rattle.loc_spec_plane.specs.Points.{before}
@@ -33,8 +33,7 @@ count_more : (p q : ℕ → Bool) (n : ℕ) (xs : List ℕ) → list_all (λ k. 
 count_more p q n [] fits more = omega arith
 count_more p q n (x ∷ xs) fits more =
     let parts = and_parts (nat_lt x n) (list_all (λ k. nat_lt k n) xs) fits in
-    let step = count_step (p x) (q x) (count_by p xs) (count_by q xs) (more x (ltb-true x n parts.0)) (count_more p q n xs parts.1 more) in
-    omega (arith, step, sum_by-cons (λ y. cond (p y) 1 0) x xs, sum_by-cons (λ y. cond (q y) 1 0) x xs)
+    omega (arith, count_step (p x) (q x) (count_by p xs) (count_by q xs) (more x (ltb-true x n parts.0)) (count_more p q n xs parts.1 more), sum_by-cons (λ y. cond (p y) 1 0) x xs, sum_by-cons (λ y. cond (q y) 1 0) x xs)
 
 count_less : (p q : ℕ → Bool) (n d : ℕ) (xs : List ℕ) → list_all (λ k. nat_lt k n) xs ≡ true → ((x : ℕ) → x < n → p x ≡ true → q x ≡ true) → p d ≡ false → q d ≡ true → is_in d xs ≡ true → count_by p xs < count_by q xs
 count_less p q n d [] fits more failed passed here = absurd (true≢false (sym here))
@@ -68,11 +67,7 @@ module _ (t : Table) (ok : IsTable t) (apart : NoConflict t) (e d : ℕ) (le : e
   ]
 
   itself : stands_before t d d ≡ false
-  itself = or_from _ _ (le-ltb (lo_of t d) (lo_of t d) (omega arith)) (ap (λ b. (lo_of t d == lo_of t d) && b) (false_from_ne_true (lower_of t d d) (λ h. lower-asym (edge t d) (edge t d) h h)) ∙ never (lo_of t d == lo_of t d))
-    where
-      never : (a : Bool) → (a && false) ≡ false
-      never true = refl
-      never false = refl
+  itself = or_from _ _ (le-ltb (lo_of t d) (lo_of t d) (omega arith)) (and_right (lo_of t d == lo_of t d) (lower_of t d d) (false_from_ne_true (lower_of t d d) (λ h. lower-asym (edge t d) (edge t d) h h)))
 
   reaches : stands_before t e d ≡ true
   reaches = elim (cases_lt (lo_of t d) (lo_of t e)) [

@@ -1,8 +1,8 @@
 -- The rows of a legend are in order, and their numbers in range.
-use Rattle.std.proofs.Common.{◌≡◌, ℕ, ◌<◌, ◌≤◌, Bool, true, not, ◌&&◌, List, [], ◌∷◌, length, get_or, map, filter, refl, sym, ◌∙◌, ap, subst, inl, inr, arith, Option, Some, None}
+use Rattle.std.proofs.Common.{◌≡◌, ℕ, ◌<◌, ◌≤◌, Bool, true, not, ◌&&◌, List, [], ◌∷◌, length, get_or, map, refl, sym, ◌∙◌, ap, subst, inl, inr, arith, Option, Some, None}
 use Rattle.std.specs.Prelude.{All, IfSome, nat_lt}
 use Rattle.std.specs.List.{list_all, list_any}
-use Rattle.std.proofs.lemmas.Bool.{and_parts, and_from, both_ways, cases_Bool, cases_lt, cond-true, cond-false, not_from_false, or_cases, ltb-true, true_from_ne_false}
+use Rattle.std.proofs.lemmas.Bool.{and_parts, and_from, both_ways, cases_lt, not_from_false, ltb-true, true_from_ne_false}
 use Rattle.std.proofs.lemmas.List.{get_or_past, length-map}
 use Rattle.std.proofs.lemmas.List.FromFn.{length-range_with_len}
 use Rattle.std.proofs.lemmas.List.Folds.{list_any_at}
@@ -13,6 +13,8 @@ use Rattle.loc_spec_plane.specs.Tables.{Table, corner, edge, edge_numbers, ends_
 use Rattle.loc_spec_plane.specs.Places.{alive, alive_at, is_edge, IsFloor}
 use Rattle.loc_spec_plane.specs.Covers.{cover_above, cover_lists, feature_count, is_over, list_before}
 use Rattle.loc_laws_order.proofs.ListLaws.{is_in-get}
+use Rattle.loc_laws_order.proofs.Kept.{all_filter}
+use Rattle.loc_laws_order.proofs.Sets.{any_some}
 use Rattle.loc_laws_order.proofs.TableOrder.{all_from, numbers_within}
 use Rattle.loc_laws_rays.proofs.Members.{feature_below}
 use Rattle.loc_edges.proofs.Counts.{length-sorted_set}
@@ -28,15 +30,6 @@ use Rattle.loc_cover.proofs.Numbering.{above_rises}
 sorted_pass : (q : List ℕ → Bool) (xs : List (List ℕ)) → list_all q xs ≡ true → (k : ℕ) (d : List ℕ) → k < length (sorted_set list_before xs) → q (get_or (sorted_set list_before xs) k d) ≡ true
 sorted_pass q xs h k d fits = true_from_ne_false (q (get_or (sorted_set list_before xs) k d)) (λ fails. both_ways (list_any (λ x. not (q x)) (sorted_set list_before xs)) (any-sorted_set lists_by_before (λ x. not (q x)) xs ∙ none_fails q xs h) (list_any_at (λ x. not (q x)) (sorted_set list_before xs) k d fits (not_from_false (q (get_or (sorted_set list_before xs) k d)) fails)))
 
-all_kept : (q g : ℕ → Bool) (ns : List ℕ) → list_all q ns ≡ true → list_all q (filter g ns) ≡ true
-all_kept q g [] h = refl
-all_kept q g (n ∷ ns) h =
-    let parts = and_parts (q n) (list_all q ns) h in
-    elim (cases_Bool (g n)) [
-      | inl kept ↦ ap (list_all q) (cond-true _ _ _ kept) ∙ and_from (q n) (list_all q (filter g ns)) parts.0 (all_kept q g ns parts.1)
-      | inr left ↦ ap (list_all q) (cond-false _ _ _ left) ∙ all_kept q g ns parts.1
-    ]
-
 all_mapped : (q : List ℕ → Bool) (f : ℕ → List ℕ) (ns : List ℕ) → ((n : ℕ) → q (f n) ≡ true) → list_all q (map f ns) ≡ true
 all_mapped q f [] each = refl
 all_mapped q f (n ∷ ns) each = and_from (q (f n)) (list_all q (map f ns)) (each n) (all_mapped q f ns each)
@@ -46,7 +39,7 @@ module _ (t : Table) where
   -- their features are counted
   pub covers_named : (most : ℕ) → feature_count t ≤ most → All (All (λ f. f < most)) (cover_lists t)
   covers_named most le = λ k d fits i e inside. ltb-true (get_or (get_or (cover_lists t) k d) i e) most
-      (all_from (λ _ f. nat_lt f most) 0 e (get_or (cover_lists t) k d) i (sorted_pass (list_all (λ f. nat_lt f most)) (covers_of t) (all_mapped (list_all (λ f. nat_lt f most)) (cover_above t) (edge_numbers t) (λ e. all_kept (λ f. nat_lt f most) (is_over t e) (numbers (feature_count t)) (all_below (feature_count t) most (numbers (feature_count t)) le (numbers_within (feature_count t))))) k d fits) inside)
+      (all_from (λ _ f. nat_lt f most) 0 e (get_or (cover_lists t) k d) i (sorted_pass (list_all (λ f. nat_lt f most)) (covers_of t) (all_mapped (list_all (λ f. nat_lt f most)) (cover_above t) (edge_numbers t) (λ e. all_filter (is_over t e) (λ f. nat_lt f most) (λ f. nat_lt f most) (λ f less _. less) (numbers (feature_count t)) (all_below (feature_count t) most (numbers (feature_count t)) le (numbers_within (feature_count t))))) k d fits) inside)
 
   -- and they are in order
   pub are_lists : IsFew t → AreLists (length t.ends) (cover_lists t)
@@ -62,11 +55,7 @@ module _ (t : Table) where
 
   -- ---- the features that touch
   pub marked_there : (c f : ℕ) (es : List ℕ) → list_any (λ e. ends_at t c e && has t f e) es ≡ true → f < feature_count t
-  marked_there c f [] h = absurd cc
-  marked_there c f (e ∷ es) h = elim (or_cases (ends_at t c e && has t f e) (list_any (λ e. ends_at t c e && has t f e) es) h) [
-    | inl here ↦ feature_below t f e (and_parts (ends_at t c e) (has t f e) here).1
-    | inr later ↦ marked_there c f es later
-  ]
+  marked_there c f es h = let found = any_some (λ e. ends_at t c e && has t f e) es h in feature_below t f found.0 (and_parts (ends_at t c found.0) (has t f found.0) found.1).1
 
 -- features that pass a test, where the features that pass it are below a number
 pub named_by : (test : ℕ → Bool) (most : ℕ) (fs : List ℕ) → IsRisingListOf nat_lt test fs → ((f : ℕ) → test f ≡ true → f < most) → All (λ f. f < most) fs

@@ -10,8 +10,8 @@ use Rattle.loc_spec_text.specs.declared.Form.TheVariants as form
 use Rattle.loc_spec_text.specs.declared.TextFault.{TextFault}
 use Rattle.loc_spec_text.specs.Bytes.{is_blank, lines, same_word, result_and_then}
 use Rattle.loc_spec_text.specs.Reading.{Polygons, reading}
-use Rattle.loc_rings.specs.Values.{Feature}
-use Rattle.loc_rings.specs.Layers.{point_count, points_of}
+use Rattle.loc_rings.specs.Values.{Feature, most_id_bytes}
+use Rattle.loc_rings.specs.Layers.{point_count, layer_points}
 use Rattle.loc_csvform.specs.declared.faults.LayerFault.{LayerFault}
 use Rattle.loc_csvform.specs.declared.faults.LayerFault.TheVariants.{NoColumn, Ragged, BadText, LongId, Text, ManyFeatures, ManyPoints}
 
@@ -53,11 +53,11 @@ field fields n = slice_index_or fields n []
 abbrev pub row_id : Option ℕ → ℕ → List (List ℕ) → List ℕ
 row_id id n fields = unwrap_or (option_map (field fields) id) (decimal n)
 
--- the row of an id and a text: an id that is not UTF-8 and one of more than 200 bytes are faults, in this order
+-- the row of an id and a text: an id that is not UTF-8 and one that is too long are faults, in this order
 abbrev pub row_of : ℕ → List ℕ → List ℕ → RowRead
 row_of n id text =
     if not (is_utf8 id) then Err (BadText n)
-    else if nat_lt 200 (length id) then Err (LongId n)
+    else if nat_lt most_id_bytes (length id) then Err (LongId n)
     else Ok (record { number = n; id = id; text = text })
 
 -- the row of a numbered record under a header of so many fields: another number of fields is the first fault
@@ -89,7 +89,7 @@ text_reading read text = if is_blank text then Ok [] else read text
 abbrev pub with_feature : ℕ → List Feature → Feature → LayerRead
 with_feature n features feature =
     if nat_le (2 ^ 18) (length features) then Err (ManyFeatures n)
-    else if nat_lt (2 ^ 20) (points_of features + point_count feature) then Err (ManyPoints n)
+    else if nat_lt (2 ^ 20) (layer_points features + point_count feature) then Err (ManyPoints n)
     else Ok (features ++ feature ∷ [])
 
 -- the features with that of one more row, by what its text reads as

@@ -11,6 +11,7 @@ ghost use Rattle.loc_spec_text.specs.Reading.{reading};
 ghost use Rattle.loc_csvform.specs.Faults.{IsFaultOf};
 ghost use Rattle.loc_csvform.specs.Layer.{column, csv_row, features_from, layer_of, row_id, row_of};
 ghost use Rattle.loc_csvform.specs.Records.{IsReading, bytes_of, records_of};
+ghost use Rattle.loc_rings.specs.Values.{most_id_bytes};
 
 use crate::LayerFault;
 use crate::records::{field, next_record, reader_of};
@@ -87,6 +88,9 @@ fn is_text(bytes: &[u8]) -> bool
     str::from_utf8(bytes).is_ok()
 }
 
+// The most bytes of an id.
+const MOST_ID_BYTES: usize = 200;
+
 // The id of a row, or what is wrong with it.
 fn read_id(
     alloc: Global,
@@ -95,7 +99,7 @@ fn read_id(
     fields: &ByteRecord,
 ) -> Result<Vec<u8>, LayerFault>
     ensures ok { IfOk result (λ id. (text : List ℕ) → row_of row (row_id columns.now.id row (fields_of fields.now)) text ≡ Ok (record { number = row; id = id.items; text = text })) }
-    ensures short { IfOk result (λ id. length id.items ≤ 200) }
+    ensures short { IfOk result (λ id. length id.items ≤ most_id_bytes) }
     ensures err { IfErr result (λ fault. (text : List ℕ) → IsFaultOf (row_of row (row_id columns.now.id row (fields_of fields.now)) text) fault) }
 {
     let mut buffer = Buffer::new();
@@ -103,7 +107,7 @@ fn read_id(
     if !is_text(id) {
         return Err(LayerFault::BadText { row });
     }
-    if id.len() > 200 {
+    if id.len() > MOST_ID_BYTES {
         return Err(LayerFault::LongId { row });
     }
     Ok(Vec::from_slice(alloc, id)?)

@@ -5,6 +5,7 @@ ghost use Rattle.std.specs.Fmt.{decimal};
 ghost use Rattle.loc_spec_text.specs.Reading.{reading};
 ghost use Rattle.loc_csvform.specs.Layer.{features_from, line_rows};
 ghost use Rattle.loc_csvform.specs.Faults.{IsFaultOf};
+ghost use Rattle.loc_rings.specs.Values.{most_id_bytes};
 
 use crate::LayerFault;
 use crate::rows::add_row;
@@ -16,7 +17,7 @@ use std::alloc::{AllocError, Global};
 // The number of a line in decimal, which is the feature's id.
 fn id_of(alloc: Global, row: u32) -> Result<Vec<u8>, AllocError>
     ensures value { IfOk result (λ id. id.items ≡ decimal row) }
-    ensures short { IfOk result (λ id. length id.items ≤ 200) }
+    ensures short { IfOk result (λ id. length id.items ≤ most_id_bytes) }
 {
     let mut buffer = Buffer::new();
     Vec::from_slice(alloc, buffer.format(row).as_bytes())

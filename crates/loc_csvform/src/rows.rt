@@ -4,6 +4,7 @@ ghost use Rattle.std.specs.Prelude.{◌≡◌, ◌≢◌, ◌≤◌, ◌^◌, le
 ghost use Rattle.loc_spec_text.specs.Reading.{reading};
 ghost use Rattle.loc_csvform.specs.Layer.{text_reading, with_feature, with_row};
 ghost use Rattle.loc_csvform.specs.Faults.{IsFaultOf};
+ghost use Rattle.loc_rings.specs.Values.{most_id_bytes};
 
 use crate::LayerFault;
 use loc_rings::{Feature, Layer, Rings};
@@ -50,7 +51,7 @@ pub(crate) fn add_row(
 ) -> Result<(), LayerFault>
     requires scale { scale ≤ 15 }
     requires size { length text.now ≤ 2 ^ 28 }
-    requires short { length id.items ≤ 200 }
+    requires short { length id.items ≤ most_id_bytes }
     ensures ok { OnOk result (with_row layer.old (record { number = row; id = id.items; text = text.now }) (text_reading (reading scale) text.now) ≡ Ok layer.new) }
     ensures err { IfErr result (IsFaultOf (with_row layer.old (record { number = row; id = id.items; text = text.now }) (text_reading (reading scale) text.now))) }
 {

@@ -1,14 +1,15 @@
 -- The table of a layer: how many rows it has, and that its rows stand in order.
-use Rattle.std.proofs.Common.{◌≡◌, suc, ◌≤◌, Bool, true, false, ◌||◌, List, [], ◌∷◌, ◌++◌, length, refl, sym, ◌∙◌, ap, inl, inr, ◌⊎◌, arith, length-append}
+use Rattle.std.proofs.Common.{◌≡◌, suc, ◌≤◌, Bool, true, false, ◌||◌, List, [], ◌∷◌, ◌++◌, length, refl, sym, ◌∙◌, ap, inl, inr, arith, length-append}
 use Rattle.std.specs.List.{list_any, flat_map}
-use Rattle.std.proofs.lemmas.Bool.{cases_Bool, cond-true, cond-false, both_ways, or_cases}
+use Rattle.std.proofs.lemmas.Bool.{cases_Bool, cond-true, cond-false, both_ways, or_cases, or_left, or_right}
 use Rattle.std.proofs.lemmas.List.Concat.{flat_map-append}
 use Rattle.std.proofs.lemmas.List.Folds.{list_any-append}
 use Rattle.loc_spec_plane.specs.Points.{Point, Edge, before, same_point, edge_before}
 use Rattle.loc_spec_plane.specs.Lists.{with_member, sorted_set}
 use Rattle.loc_spec_plane.specs.Rings.{Ring, Rings, ring_segments, segments, segment_between}
 use Rattle.loc_spec_plane.specs.Tables.{layer_segments, layer_corners, pieces_of, whole}
-use Rattle.loc_edges.specs.Kept.{points_of}
+use Rattle.loc_laws_order.proofs.Sets.{or_true}
+use Rattle.loc_edges.specs.Kept.{written_points}
 use Rattle.loc_edges.specs.Layers.{ends_of}
 use Rattle.loc_edges.proofs.Orders.{points_by_before}
 use Rattle.loc_edges.proofs.Layers.{pieces_of-whole}
@@ -37,10 +38,6 @@ module _ {X : Type 0} (comes_before : X → X → Bool) where
   length-sorted_set_part [] ys = omega arith
   length-sorted_set_part (x ∷ xs) ys = (let one = length-with_member x (sorted_set comes_before (xs ++ ys)) in omega (arith, one.0, length-sorted_set_part xs ys))
 
-pub or_true : (t : Bool) → (t || true) ≡ true
-or_true true = refl
-or_true false = refl
-
 -- a test that an end of a segment of a ring passes is passed by a point of the ring
 ring_points : (p : Point → Bool) (ring : Ring) → list_any p (ends_of (ring_segments ring)) ≡ true → list_any p ring ≡ true
 ring_points p [] h = h
@@ -68,30 +65,24 @@ ring_points p (a ∷ b ∷ ps) h = elim (cases_Bool (same_point a b)) [
           | inr down ↦ ap (λ s. list_any p (ends_of (s ∷ ring_segments (b ∷ ps)))) (cond-false _ _ _ down) ∙ (ap (λ t. t || (p a || list_any p (ends_of (ring_segments (b ∷ ps))))) nb ∙ ap (λ t. t || list_any p (ends_of (ring_segments (b ∷ ps)))) na)
         ]
 
--- the same of the rings of a feature
-rings_points : (p : Point → Bool) (rings : Rings) → list_any p (ends_of (segments rings)) ≡ true → list_any p (flat_map (λ ring. ring) rings) ≡ true
-rings_points p [] h = h
-rings_points p (ring ∷ rings) h = list_any-append p ring (flat_map (λ r. r) rings) ∙ either (or_cases _ _ (sym (ap (list_any p) (flat_map-append (λ (e : Edge). e.lo ∷ e.hi ∷ []) (ring_segments ring) (segments rings)) ∙ list_any-append p (ends_of (ring_segments ring)) (ends_of (segments rings))) ∙ h)) (rings_points p rings)
-  where
-    either : (list_any p (ends_of (ring_segments ring)) ≡ true) ⊎ (list_any p (ends_of (segments rings)) ≡ true) → (list_any p (ends_of (segments rings)) ≡ true → list_any p (flat_map (λ r. r) rings) ≡ true) → (list_any p ring || list_any p (flat_map (λ r. r) rings)) ≡ true
-    either (inl here) rest = ap (λ b. b || list_any p (flat_map (λ r. r) rings)) (ring_points p ring here)
-    either (inr there) rest = ap (λ b. list_any p ring || b) (rest there) ∙ or_true (list_any p ring)
+-- the same of lists of such
+parts_points : {X : Type 0} (f : X → List Edge) (g : X → List Point) → ((p : Point → Bool) (x : X) → list_any p (ends_of (f x)) ≡ true → list_any p (g x) ≡ true) → (p : Point → Bool) (xs : List X) → list_any p (ends_of (flat_map f xs)) ≡ true → list_any p (flat_map g xs) ≡ true
+parts_points f g each p [] h = h
+parts_points f g each p (x ∷ xs) h = list_any-append p (g x) (flat_map g xs) ∙ elim (or_cases _ _ (sym (ap (list_any p) (flat_map-append (λ (e : Edge). e.lo ∷ e.hi ∷ []) (f x) (flat_map f xs)) ∙ list_any-append p (ends_of (f x)) (ends_of (flat_map f xs))) ∙ h)) [
+  | inl here ↦ or_left (list_any p (g x)) _ (each p x here)
+  | inr there ↦ or_right (list_any p (g x)) _ (parts_points f g each p xs there)
+]
 
--- and of a layer
-layer_points : (p : Point → Bool) (layer : List Rings) → list_any p (ends_of (layer_segments layer)) ≡ true → list_any p (points_of layer) ≡ true
-layer_points p [] h = h
-layer_points p (rings ∷ layer) h = list_any-append p (flat_map (λ r. r) rings) (points_of layer) ∙ either (or_cases _ _ (sym (ap (list_any p) (flat_map-append (λ (e : Edge). e.lo ∷ e.hi ∷ []) (segments rings) (layer_segments layer)) ∙ list_any-append p (ends_of (segments rings)) (ends_of (layer_segments layer))) ∙ h)) (layer_points p layer)
-  where
-    either : (list_any p (ends_of (segments rings)) ≡ true) ⊎ (list_any p (ends_of (layer_segments layer)) ≡ true) → (list_any p (ends_of (layer_segments layer)) ≡ true → list_any p (points_of layer) ≡ true) → (list_any p (flat_map (λ r. r) rings) || list_any p (points_of layer)) ≡ true
-    either (inl here) rest = ap (λ b. b || list_any p (points_of layer)) (rings_points p rings here)
-    either (inr there) rest = ap (λ b. list_any p (flat_map (λ r. r) rings) || b) (rest there) ∙ or_true (list_any p (flat_map (λ r. r) rings))
+-- so of the rings of a feature, and of a layer
+layer_points : (p : Point → Bool) (layer : List Rings) → list_any p (ends_of (layer_segments layer)) ≡ true → list_any p (written_points layer) ≡ true
+layer_points = parts_points segments (λ rings. flat_map (λ ring. ring) rings) (parts_points ring_segments (λ ring. ring) ring_points)
 
 -- so there are no more corners than points: with the ends of the segments the points have no further member
-pub few_corners : (layer : List Rings) → length (layer_corners layer) ≤ length (points_of layer)
+pub few_corners : (layer : List Rings) → length (layer_corners layer) ≤ length (written_points layer)
 few_corners layer =
     let ends : List Point = ends_of (layer_segments layer) in
-    let same : sorted_set before (points_of layer ++ ends) ≡ sorted_set before (points_of layer) = same-sorted_set points_by_before (points_of layer ++ ends) (points_of layer) (λ p. list_any-append p (points_of layer) ends ∙ absorb (list_any p (points_of layer)) (list_any p ends) (layer_points p layer)) in
-    omega (arith, length-sorted_set_part before (points_of layer) ends, ap length same, length-sorted_set before (points_of layer))
+    let same : sorted_set before (written_points layer ++ ends) ≡ sorted_set before (written_points layer) = same-sorted_set points_by_before (written_points layer ++ ends) (written_points layer) (λ p. list_any-append p (written_points layer) ends ∙ absorb (list_any p (written_points layer)) (list_any p ends) (layer_points p layer)) in
+    omega (arith, length-sorted_set_part before (written_points layer) ends, ap length same, length-sorted_set before (written_points layer))
   where
     absorb : (a b : Bool) → (b ≡ true → a ≡ true) → (a || b) ≡ a
     absorb true b h = refl
@@ -107,14 +98,13 @@ few_ring_segments (a ∷ b ∷ ps) = elim (cases_Bool (same_point a b)) [
   | inr other ↦ (let e : length (ring_segments (a ∷ b ∷ ps)) ≡ suc (length (ring_segments (b ∷ ps))) = ap length (cond-false _ _ _ other) in omega (arith, e, few_ring_segments (b ∷ ps)))
 ]
 
-few_segments : (rings : Rings) → length (segments rings) ≤ length (flat_map (λ (ring : Ring). ring) rings)
-few_segments [] = omega arith
-few_segments (ring ∷ rings) = omega (arith, length-append (ring_segments ring) (segments rings), length-append ring (flat_map (λ (r : Ring). r) rings), few_ring_segments ring, few_segments rings)
+few_parts : {X : Type 0} (f : X → List Edge) (g : X → List Point) → ((x : X) → length (f x) ≤ length (g x)) → (xs : List X) → length (flat_map f xs) ≤ length (flat_map g xs)
+few_parts f g each [] = omega arith
+few_parts f g each (x ∷ xs) = omega (arith, length-append (f x) (flat_map f xs), length-append (g x) (flat_map g xs), each x, few_parts f g each xs)
 
-few_layer_segments : (layer : List Rings) → length (layer_segments layer) ≤ length (points_of layer)
-few_layer_segments [] = omega arith
-few_layer_segments (rings ∷ layer) = omega (arith, length-append (segments rings) (layer_segments layer), length-append (flat_map (λ (r : Ring). r) rings) (points_of layer), few_segments rings, few_layer_segments layer)
+few_layer_segments : (layer : List Rings) → length (layer_segments layer) ≤ length (written_points layer)
+few_layer_segments = few_parts segments (λ rings. flat_map (λ ring. ring) rings) (few_parts ring_segments (λ ring. ring) few_ring_segments)
 
 -- nor more edges
-pub few_edges : (layer : List Rings) → length (pieces_of whole layer) ≤ length (points_of layer)
+pub few_edges : (layer : List Rings) → length (pieces_of whole layer) ≤ length (written_points layer)
 few_edges layer = omega (arith, ap length (pieces_of-whole layer), length-sorted_set edge_before (layer_segments layer), few_layer_segments layer)

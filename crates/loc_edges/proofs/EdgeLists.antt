@@ -1,8 +1,7 @@
 -- The edges of a table as a list: in order, and two of the list conflict exactly where two of the table do.
-use Rattle.std.proofs.Common.{◌≡◌, ℕ, ◌<◌, Bool, true, false, ◌||◌, ◌&&◌, List, length, get_or, Some, sym, ◌∙◌, ap, subst, inl, inr, arith, slice_get}
+use Rattle.std.proofs.Common.{◌≡◌, ℕ, ◌<◌, true, ◌||◌, ◌&&◌, length, get_or, Some, ◌∙◌, ap, subst, inl, inr, arith, slice_get}
 use Rattle.std.specs.Prelude.{IsTrue, not, nat_lt, ◌==◌}
-use Rattle.std.specs.List.{list_any}
-use Rattle.std.proofs.lemmas.Bool.{and_from, and_parts, both_ways, eqb-true, false_from_ne_true, ltb-true, not-true, not_from_false, or_cases, or_right}
+use Rattle.std.proofs.lemmas.Bool.{and_from, and_parts, eqb-true, ltb-true, not-true, not_from_false, or_cases, or_right}
 use Rattle.std.proofs.lemmas.List.{length-map}
 use Rattle.std.proofs.lemmas.List.Folds.{list_any_at, list_any_none}
 use Rattle.std.proofs.lemmas.List.FromFn.{get_or-map-range_with_len, length-range_with_len}
@@ -11,17 +10,17 @@ use Rattle.loc_spec_plane.specs.Points.{Edge, before, same_point, edge_before, c
 use Rattle.loc_spec_plane.specs.Tables.{Table, IsTable, NoConflict, corner, edge, edge_numbers, lo_of, hi_of, pair_before}
 use Rattle.loc_laws_order.proofs.Sides.{same_point_refl}
 use Rattle.loc_laws_order.proofs.TableOrder.{corner_before, rises}
-use Rattle.loc_edges.specs.Conflicts.{conflicts_with, edges_of, has_conflict}
+use Rattle.loc_edges.specs.Conflicts.{conflicts_with, table_edges, has_conflict}
 
-length-edges_of : (t : Table) → length (edges_of t) ≡ length t.ends
-length-edges_of t = length-map (edge_numbers t) (edge t) ∙ length-range_with_len 0 (length t.ends)
+length-table_edges : (t : Table) → length (table_edges t) ≡ length t.ends
+length-table_edges t = length-map (edge_numbers t) (edge t) ∙ length-range_with_len 0 (length t.ends)
 
-edges_of-at : (t : Table) (k : ℕ) (d : Edge) → k < length t.ends → get_or (edges_of t) k d ≡ edge t k
-edges_of-at t k d fits = get_or-map-range_with_len (edge t) 0 (length t.ends) k k d fits (omega arith)
+table_edges-at : (t : Table) (k : ℕ) (d : Edge) → k < length t.ends → get_or (table_edges t) k d ≡ edge t k
+table_edges-at t k d fits = get_or-map-range_with_len (edge t) 0 (length t.ends) k k d fits (omega arith)
 
 -- edge k stands at place k
-pub edges_of-get : (t : Table) (k : ℕ) → k < length t.ends → slice_get (edges_of t) k ≡ Some (edge t k)
-edges_of-get t k fits = slice_get-get_or (edges_of t) k (edge t k) (omega (arith, length-edges_of t)) ∙ ap Some (edges_of-at t k (edge t k) fits)
+pub table_edges-get : (t : Table) (k : ℕ) → k < length t.ends → slice_get (table_edges t) k ≡ Some (edge t k)
+table_edges-get t k fits = slice_get-get_or (table_edges t) k (edge t k) (omega (arith, length-table_edges t)) ∙ ap Some (table_edges-at t k (edge t k) fits)
 
 -- of two edges of a table the lesser number is the lesser edge
 pub edges_in_order : (t : Table) → IsTable t → (a b : ℕ) → a < b → b < length t.ends → edge_before (edge t a) (edge t b) ≡ true
@@ -36,31 +35,19 @@ edges_in_order t ok a b less fits =
           or_right (before (edge t a).lo (edge t b).lo) (same_point (edge t a).lo (edge t b).lo && before (edge t a).hi (edge t b).hi) (and_from (same_point (edge t a).lo (edge t b).lo) (before (edge t a).hi (edge t b).hi) one_end (corner_before t ok (hi_of t a) (hi_of t b) (ltb-true (hi_of t a) (hi_of t b) parts.1) up_b.1)))
     ]
 
--- a member of a list of which none passes
-fails-at : {X : Type 0} (p : X → Bool) (xs : List X) (i : ℕ) (d : X) → list_any p xs ≡ false → i < length xs → p (get_or xs i d) ≡ false
-fails-at p xs i d none fits = false_from_ne_true _ (λ h. both_ways _ none (list_any_at p xs i d fits h))
-
 -- the places of two edges of the list, and the two of the table, conflict alike
-conflict-at : (t : Table) (a b : ℕ) (d e : Edge) → a < length t.ends → b < length t.ends → conflict (get_or (edges_of t) a d) (get_or (edges_of t) b e) ≡ conflict (edge t a) (edge t b)
-conflict-at t a b d e a_fits b_fits = ap (λ x. conflict x (get_or (edges_of t) b e)) (edges_of-at t a d a_fits) ∙ ap (conflict (edge t a)) (edges_of-at t b e b_fits)
-
--- where none of them conflicts with another, no two edges of the table do
-pub none_conflict : (t : Table) → IsTrue (not (has_conflict (edges_of t))) → NoConflict t
-none_conflict t none a b a_fits b_fits =
-    let e : Edge = edge t a in
-    let alone : list_any (conflict (get_or (edges_of t) a e)) (edges_of t) ≡ false = fails-at (conflicts_with (edges_of t)) (edges_of t) a e (not-true (has_conflict (edges_of t)) none) (omega (arith, length-edges_of t)) in
-    let apart : conflict (get_or (edges_of t) a e) (get_or (edges_of t) b e) ≡ false = fails-at (conflict (get_or (edges_of t) a e)) (edges_of t) b e alone (omega (arith, length-edges_of t)) in
-    not_from_false (conflict (edge t a) (edge t b)) (sym (conflict-at t a b e e a_fits b_fits) ∙ apart)
+conflict-at : (t : Table) (a b : ℕ) (d e : Edge) → a < length t.ends → b < length t.ends → conflict (get_or (table_edges t) a d) (get_or (table_edges t) b e) ≡ conflict (edge t a) (edge t b)
+conflict-at t a b d e a_fits b_fits = ap (λ x. conflict x (get_or (table_edges t) b e)) (table_edges-at t a d a_fits) ∙ ap (conflict (edge t a)) (table_edges-at t b e b_fits)
 
 -- and the other way round
-pub edges_apart : (t : Table) → NoConflict t → IsTrue (not (has_conflict (edges_of t)))
-edges_apart t apart = not_from_false (has_conflict (edges_of t)) (list_any_none (conflicts_with (edges_of t)) (edges_of t) (λ a d a_in. list_any_none (conflict (get_or (edges_of t) a d)) (edges_of t) (λ b e b_in.
-    (let a_fits : a < length t.ends = omega (arith, length-edges_of t) in
-    let b_fits : b < length t.ends = omega (arith, length-edges_of t) in
+pub edges_apart : (t : Table) → NoConflict t → IsTrue (not (has_conflict (table_edges t)))
+edges_apart t apart = not_from_false (has_conflict (table_edges t)) (list_any_none (conflicts_with (table_edges t)) (table_edges t) (λ a d a_in. list_any_none (conflict (get_or (table_edges t) a d)) (table_edges t) (λ b e b_in.
+    (let a_fits : a < length t.ends = omega (arith, length-table_edges t) in
+    let b_fits : b < length t.ends = omega (arith, length-table_edges t) in
     conflict-at t a b d e a_fits b_fits ∙ not-true (conflict (edge t a) (edge t b)) (apart a b a_fits b_fits)))))
 
 -- two edges of the table that conflict are two of the list
-pub edges_conflict : (t : Table) (a b : ℕ) → a < length t.ends → b < length t.ends → IsTrue (conflict (edge t a) (edge t b)) → IsTrue (has_conflict (edges_of t))
+pub edges_conflict : (t : Table) (a b : ℕ) → a < length t.ends → b < length t.ends → IsTrue (conflict (edge t a) (edge t b)) → IsTrue (has_conflict (table_edges t))
 edges_conflict t a b a_fits b_fits meet =
     let e : Edge = edge t a in
-    list_any_at (conflicts_with (edges_of t)) (edges_of t) a e (omega (arith, length-edges_of t)) (list_any_at (conflict (get_or (edges_of t) a e)) (edges_of t) b e (omega (arith, length-edges_of t)) (conflict-at t a b e e a_fits b_fits ∙ meet))
+    list_any_at (conflicts_with (table_edges t)) (table_edges t) a e (omega (arith, length-table_edges t)) (list_any_at (conflict (get_or (table_edges t) a e)) (table_edges t) b e (omega (arith, length-table_edges t)) (conflict-at t a b e e a_fits b_fits ∙ meet))

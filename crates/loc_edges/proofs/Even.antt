@@ -1,26 +1,26 @@
 -- The table of a layer of closed rings: every corner is an end, and marks are even at every corner.
 use Rattle.std.proofs.Common.{◌≡◌, ℕ, zero, suc, ◌+◌, ◌-◌, ◌<◌, ◌≤◌, Bool, true, false, ◌||◌, ◌&&◌, Some, List, [], ◌∷◌, length, get_or, refl, sym, ◌∙◌, ap, subst, inl, inr, ◌⊎◌, arith}
-use Rattle.std.specs.Prelude.{◌==◌, All, slice_get}
+use Rattle.std.specs.Prelude.{nat_lt, ◌==◌, All, slice_get}
 use Rattle.std.specs.List.{list_any, list_all, filter_map, enumerate_from, cons_option, range_with_len}
-use Rattle.std.proofs.lemmas.Bool.{cases_Bool, cases_eq, cases_lt, cond-true, cond-false, false_from_ne_true, both_ways, not_from_false, and_parts, eq-eqb, ne_eqb}
+use Rattle.std.proofs.lemmas.Bool.{cases_Bool, cases_eq, cases_lt, cond-true, cond-false, false_from_ne_true, both_ways, not_from_false, and_parts, eq-eqb, ltb-true, ne_eqb, or_from, or_right}
 use Rattle.std.proofs.lemmas.List.{get_or-map, get_or_past}
 use Rattle.std.proofs.lemmas.List.Folds.{list_any-append, list_any_at}
 use Rattle.loc_spec_plane.specs.declared.Mark.{Mark}
 use Rattle.loc_spec_plane.specs.Points.{Point, Edge, before, same_point, same_edge, edge_before, is_end}
 use Rattle.loc_spec_plane.specs.Lists.{numbers, exactly_one, odd_many, is_rising}
 use Rattle.loc_spec_plane.specs.Rings.{Ring, Rings, ring_segments, segments, segment_between}
-use Rattle.loc_spec_plane.specs.Tables.{table_of, table_by, corner, ends_at, has_odd, edge_marks, mark_of, whole, pieces_of, layer_segments, layer_corners, AllEnds, AllEven}
+use Rattle.loc_spec_plane.specs.Tables.{mark_before, table_of, table_by, corner, ends_at, has_odd, edge_marks, mark_of, whole, pieces_of, layer_segments, layer_corners, AllEnds, AllEven}
+use Rattle.loc_laws_order.proofs.Sets.{and_none, or_none, or_true}
 use Rattle.loc_laws_order.proofs.Sides.{same_point-true, same_point_refl}
 use Rattle.loc_laws_order.proofs.Tests.{same_edge_decides}
 use Rattle.loc_laws_order.proofs.TableOrder.{is_end_is, origin_point}
-use Rattle.loc_laws_rays.proofs.Parity.{exactly_one_chain, exactly_one_same, exactly_one-false, odd_many-exactly_one, odd_many-same, odd_many-append, never}
+use Rattle.loc_laws_rays.proofs.Parity.{and_true, exactly_one_chain, exactly_one_comm, exactly_one_same, exactly_one-false, odd_many-exactly_one, odd_many-same, odd_many-append, never}
 use Rattle.loc_rings.specs.Values.{IsRing}
 use Rattle.loc_edges.specs.Layers.{ends_of}
 use Rattle.loc_edges.proofs.Layers.{pieces_of-whole, pieces_rise, corners_from_edges, any-ends_of}
 use Rattle.loc_edges.proofs.MarkRows.{is_hit, odd_none}
-use Rattle.loc_edges.proofs.Ordered.{edge_is_piece, as_many_ends, table_of-is_table}
+use Rattle.loc_edges.proofs.Ordered.{edge_is_piece, as_many_ends, marks_above, table_of-is_table}
 use Rattle.loc_edges.proofs.Orders.{points_by_before, edges_by_before}
-use Rattle.loc_edges.proofs.Counts.{or_true}
 use Rattle.loc_edges.proofs.SortedSet.{any-sorted_set, irrefl}
 
 -- ---- rings
@@ -34,7 +34,7 @@ module _ (p : Point) where
   end_between : (a b : Point) → same_point a b ≡ false → is_end (segment_between a b) p ≡ exactly_one (same_point p a) (same_point p b)
   end_between a b other = elim (cases_Bool (before a b)) [
     | inl up ↦ ap (λ s. is_end s p) (cond-true _ _ _ up) ∙ one_of (same_point p a) (same_point p b) apart
-    | inr down ↦ ap (λ s. is_end s p) (cond-false _ _ _ down) ∙ (or_swap (same_point p b) (same_point p a) ∙ one_of (same_point p a) (same_point p b) apart)
+    | inr down ↦ ap (λ s. is_end s p) (cond-false _ _ _ down) ∙ (one_of (same_point p b) (same_point p a) (λ at_b at_a. apart at_a at_b) ∙ exactly_one_comm (same_point p b) (same_point p a))
   ]
     where
       apart : same_point p a ≡ true → same_point p b ≡ true → ⊥
@@ -44,12 +44,6 @@ module _ (p : Point) where
       one_of true true h = absurd (h refl refl)
       one_of true false h = refl
       one_of false t h = refl
-
-      or_swap : (s t : Bool) → (s || t) ≡ (t || s)
-      or_swap true true = refl
-      or_swap true false = refl
-      or_swap false true = refl
-      or_swap false false = refl
 
   -- along a ring this telescopes to its first and its last point
   ring_ends : (a : Point) (ps : List Point) → odd_many (λ s. is_end s p) (ring_segments (a ∷ ps)) ≡ exactly_one (same_point p a) (same_point p (last_of a ps))
@@ -82,11 +76,7 @@ module _ (q : Edge → Bool) (s : Edge) where
   not_again e [] all same = refl
   not_again e (d ∷ es) all same = (let parts = and_parts (edge_before e d) (list_all (edge_before e) es) all in
       let other : same_edge d s ≡ false = false_from_ne_true _ (λ here. both_ways _ (irrefl edges_by_before d) (subst (λ z. edge_before z d ≡ true) ((same_edge_decides e s).0 same ∙ sym ((same_edge_decides d s).0 here)) parts.0)) in
-      ap (λ t. exactly_one (q d && t) (odd_many (λ z. q z && same_edge z s) es)) other ∙ (ap (λ t. exactly_one t (odd_many (λ z. q z && same_edge z s) es)) (no_part (q d)) ∙ not_again e es parts.1 same))
-    where
-      no_part : (t : Bool) → (t && false) ≡ false
-      no_part true = refl
-      no_part false = refl
+      ap (λ t. exactly_one (q d && t) (odd_many (λ z. q z && same_edge z s) es)) other ∙ (ap (λ t. exactly_one t (odd_many (λ z. q z && same_edge z s) es)) (and_none (q d)) ∙ not_again e es parts.1 same))
 
   -- in a list in order an edge that stands there stands there once
   once : (es : List Edge) → is_rising edge_before es ≡ true → list_any (same_edge s) es ≡ true → odd_many (λ d. q d && same_edge d s) es ≡ q s
@@ -94,74 +84,64 @@ module _ (q : Edge → Bool) (s : Edge) where
   once (e ∷ es) up there =
       let parts = and_parts (list_all (edge_before e) es) (is_rising edge_before es) up in
       elim (cases_Bool (same_edge e s)) [
-        | inl same ↦ ap (λ t. exactly_one (q e && t) (odd_many (λ d. q d && same_edge d s) es)) same ∙ (ap (exactly_one (q e && true)) (not_again e es parts.0 same) ∙ (exactly_one-false (q e && true) ∙ (all_part (q e) ∙ ap q ((same_edge_decides e s).0 same))))
-        | inr other ↦ ap (λ t. exactly_one (q e && t) (odd_many (λ d. q d && same_edge d s) es)) other ∙ (ap (λ t. exactly_one t (odd_many (λ d. q d && same_edge d s) es)) (no_part (q e)) ∙ once es parts.1 (sym (ap (λ t. t || list_any (same_edge s) es) (false_from_ne_true _ (λ h. both_ways _ other ((same_edge_decides e s).1 (sym ((same_edge_decides s e).0 h)))))) ∙ there))
+        | inl same ↦ ap (λ t. exactly_one (q e && t) (odd_many (λ d. q d && same_edge d s) es)) same ∙ (ap (exactly_one (q e && true)) (not_again e es parts.0 same) ∙ (exactly_one-false (q e && true) ∙ (and_true (q e) ∙ ap q ((same_edge_decides e s).0 same))))
+        | inr other ↦ ap (λ t. exactly_one (q e && t) (odd_many (λ d. q d && same_edge d s) es)) other ∙ (ap (λ t. exactly_one t (odd_many (λ d. q d && same_edge d s) es)) (and_none (q e)) ∙ once es parts.1 (sym (ap (λ t. t || list_any (same_edge s) es) (false_from_ne_true _ (λ h. both_ways _ other ((same_edge_decides e s).1 (sym ((same_edge_decides s e).0 h)))))) ∙ there))
       ]
-    where
-      no_part : (t : Bool) → (t && false) ≡ false
-      no_part true = refl
-      no_part false = refl
-
-      all_part : (t : Bool) → (t && true) ≡ t
-      all_part true = refl
-      all_part false = refl
 
 -- the segments by a test are counted by the edges, each as often as it is a segment
 pub by_edges : (q : Edge → Bool) (es ss : List Edge) → is_rising edge_before es ≡ true → ((s : Edge) → list_any (same_edge s) ss ≡ true → list_any (same_edge s) es ≡ true) → odd_many (λ e. q e && odd_many (same_edge e) ss) es ≡ odd_many q ss
-by_edges q es [] up part = odd_many-same (λ e. q e && false) (λ e. false) es (λ e. no_part (q e)) ∙ never es
-  where
-    no_part : (t : Bool) → (t && false) ≡ false
-    no_part true = refl
-    no_part false = refl
+by_edges q es [] up part = odd_many-same (λ e. q e && false) (λ e. false) es (λ e. and_none (q e)) ∙ never es
 by_edges q es (s ∷ ss) up part =
     odd_many-same (λ e. q e && exactly_one (same_edge e s) (odd_many (same_edge e) ss)) (λ e. exactly_one (q e && same_edge e s) (q e && odd_many (same_edge e) ss)) es (λ e. shared (q e) (same_edge e s) (odd_many (same_edge e) ss))
     ∙ (odd_many-exactly_one (λ e. q e && same_edge e s) (λ e. q e && odd_many (same_edge e) ss) es
     ∙ (ap (λ t. exactly_one t (odd_many (λ e. q e && odd_many (same_edge e) ss) es)) (once q s es up (part s (ap (λ t. t || list_any (same_edge s) ss) ((same_edge_decides s s).1 refl))))
-    ∙ ap (exactly_one (q s)) (by_edges q es ss up (λ z there. part z (later (same_edge z s) (list_any (same_edge z) ss) there)))))
+    ∙ ap (exactly_one (q s)) (by_edges q es ss up (λ z there. part z (or_right (same_edge z s) (list_any (same_edge z) ss) there)))))
   where
     shared : (a b c : Bool) → (a && exactly_one b c) ≡ exactly_one (a && b) (a && c)
     shared true b c = refl
     shared false b c = refl
 
-    later : (a b : Bool) → b ≡ true → (a || b) ≡ true
-    later true b h = refl
-    later false b h = h
-
 -- ---- the mark of a feature
--- feature f has an odd mark in the row
-abbrev odd_mark : ℕ → Mark → Bool
-odd_mark f m = (m.feature == f) && m.odd
+-- the marks of an edge in a layer whose first feature has this number
+abbrev pub marks_from : Edge → ℕ → List Rings → List Mark
+marks_from e a layer = filter_map (λ (numbered : ℕ × Rings). mark_of whole e numbered.0 (segments numbered.1)) (enumerate_from a layer)
 
-module _ (e : Edge) (f : ℕ) where
-  -- later features have no mark of it
-  no_odd_mark : (a : ℕ) (layer : List Rings) → f < a → list_any (odd_mark f) (filter_map (λ (numbered : ℕ × Rings). mark_of whole e numbered.0 (segments numbered.1)) (enumerate_from a layer)) ≡ false
-  no_odd_mark a [] less = refl
-  no_odd_mark a (r ∷ rs) less =
-      let rest = filter_map (λ (numbered : ℕ × Rings). mark_of whole e numbered.0 (segments numbered.1)) (enumerate_from (a + 1) rs) in
-      elim (cases_Bool (list_any (is_hit e) (segments r))) [
-        | inl some ↦ ap (λ o. list_any (odd_mark f) (cons_option o rest)) (cond-true _ _ _ some) ∙ (ap (λ t. (t && odd_many (is_hit e) (segments r)) || list_any (odd_mark f) rest) (ne_eqb a f (λ same. omega arith)) ∙ no_odd_mark (a + 1) rs (omega arith))
-        | inr none ↦ ap (λ o. list_any (odd_mark f) (cons_option o rest)) (cond-false _ _ _ none) ∙ no_odd_mark (a + 1) rs (omega arith)
-      ]
+-- what asks for feature f is passed by no mark of later ones
+none_later : (test : Mark → Bool) (f : ℕ) → ((m : Mark) → (m.feature ≡ f → ⊥) → test m ≡ false) → (ms : List Mark) → list_all (mark_before (record { feature = f; odd = true })) ms ≡ true → list_any test ms ≡ false
+none_later test f asks [] later = refl
+none_later test f asks (m ∷ ms) later =
+    let parts = and_parts (nat_lt f m.feature) (list_all (mark_before (record { feature = f; odd = true })) ms) later in
+    or_from (test m) (list_any test ms) (asks m (λ same. (let less : f < m.feature = ltb-true f m.feature parts.0 in omega arith))) (none_later test f asks ms parts.1)
 
-  -- its mark is odd where an odd number of its segments are the edge
-  odd_mark_is : (a : ℕ) (layer : List Rings) → a ≤ f → list_any (odd_mark f) (filter_map (λ (numbered : ℕ × Rings). mark_of whole e numbered.0 (segments numbered.1)) (enumerate_from a layer)) ≡ odd_many (is_hit e) (segments (get_or layer (f - a) []))
-  odd_mark_is a [] le = refl
-  odd_mark_is a (r ∷ rs) le =
-      let rest = filter_map (λ (numbered : ℕ × Rings). mark_of whole e numbered.0 (segments numbered.1)) (enumerate_from (a + 1) rs) in
-      elim (cases_eq a f) [
-        | inl same ↦ (let here : f - a ≡ 0 = omega arith in let after : list_any (odd_mark f) rest ≡ false = no_odd_mark (a + 1) rs (omega arith) in elim (cases_Bool (list_any (is_hit e) (segments r))) [
-          | inl some ↦ ap (λ o. list_any (odd_mark f) (cons_option o rest)) (cond-true _ _ _ some) ∙ (ap (λ t. (t && odd_many (is_hit e) (segments r)) || list_any (odd_mark f) rest) (eq-eqb a f same) ∙ (ap (λ t. odd_many (is_hit e) (segments r) || t) after ∙ (or_none (odd_many (is_hit e) (segments r)) ∙ ap (λ n. odd_many (is_hit e) (segments (get_or (r ∷ rs) n []))) (sym here))))
-          | inr none ↦ ap (λ o. list_any (odd_mark f) (cons_option o rest)) (cond-false _ _ _ none) ∙ (after ∙ (sym (odd_none (is_hit e) (segments r) none) ∙ ap (λ n. odd_many (is_hit e) (segments (get_or (r ∷ rs) n []))) (sym here)))
-        ])
-        | inr differ ↦ (let next : f - a ≡ suc (f - (a + 1)) = omega arith in let further : list_any (odd_mark f) rest ≡ odd_many (is_hit e) (segments (get_or (r ∷ rs) (f - a) [])) = odd_mark_is (a + 1) rs (omega arith) ∙ ap (λ n. odd_many (is_hit e) (segments (get_or (r ∷ rs) n []))) (sym next) in elim (cases_Bool (list_any (is_hit e) (segments r))) [
-          | inl some ↦ ap (λ o. list_any (odd_mark f) (cons_option o rest)) (cond-true _ _ _ some) ∙ (ap (λ t. (t && odd_many (is_hit e) (segments r)) || list_any (odd_mark f) rest) (ne_eqb a f differ) ∙ further)
-          | inr none ↦ ap (λ o. list_any (odd_mark f) (cons_option o rest)) (cond-false _ _ _ none) ∙ further
-        ])
-      ]
+module _ (test : Mark → Bool) (e : Edge) (f : ℕ) (asks : (m : Mark) → (m.feature ≡ f → ⊥) → test m ≡ false) where
+  mark_is : (a : ℕ) (layer : List Rings) → a ≤ f → list_any test (marks_from e a layer) ≡ (list_any (is_hit e) (segments (get_or layer (f - a) [])) && test (record { feature = f; odd = odd_many (is_hit e) (segments (get_or layer (f - a) [])) }))
+  mark_is a [] le = refl
+  mark_is a (r ∷ rs) le = elim (cases_eq a f) [
+    | inl same ↦ (let here : f - a ≡ 0 = omega arith in
+        let after : list_any test rest ≡ false = none_later test f asks rest (marks_above e f (a + 1) true rs (omega arith)) in
+        elim (cases_Bool hit) [
+          | inl some ↦ ap (λ o. list_any test (cons_option o rest)) (cond-true _ _ _ some) ∙ (ap (λ t. test made || t) after ∙ (or_none (test made) ∙ sym (ap (λ t. t && test made) some)))
+          | inr none ↦ ap (λ o. list_any test (cons_option o rest)) (cond-false _ _ _ none) ∙ (after ∙ sym (ap (λ t. t && test made) none))
+        ] ∙ (ap (λ k. list_any (is_hit e) (segments r) && test (record { feature = k; odd = odd_many (is_hit e) (segments r) })) same ∙ ap (λ n. list_any (is_hit e) (segments (get_or (r ∷ rs) n [])) && test (record { feature = f; odd = odd_many (is_hit e) (segments (get_or (r ∷ rs) n [])) })) (sym here)))
+    | inr other ↦ (let next : f - a ≡ suc (f - (a + 1)) = omega arith in
+        elim (cases_Bool hit) [
+          | inl some ↦ ap (λ o. list_any test (cons_option o rest)) (cond-true _ _ _ some) ∙ ap (λ t. t || list_any test rest) (asks made other)
+          | inr none ↦ ap (λ o. list_any test (cons_option o rest)) (cond-false _ _ _ none)
+        ] ∙ (mark_is (a + 1) rs (omega arith) ∙ ap (λ n. list_any (is_hit e) (segments (get_or (r ∷ rs) n [])) && test (record { feature = f; odd = odd_many (is_hit e) (segments (get_or (r ∷ rs) n [])) })) (sym next)))
+  ]
     where
-      or_none : (t : Bool) → (t || false) ≡ t
-      or_none true = refl
-      or_none false = refl
+      rest : List Mark
+      rest = marks_from e (a + 1) rs
+
+      hit : Bool
+      hit = list_any (is_hit e) (segments r)
+
+      made : Mark
+      made = record { feature = a; odd = odd_many (is_hit e) (segments r) }
+
+  -- it is passed where the feature has the edge, and its mark passes it
+  pub mark_passes : (layer : List Rings) → list_any test (edge_marks whole layer e) ≡ (list_any (is_hit e) (segments (get_or layer f [])) && test (record { feature = f; odd = odd_many (is_hit e) (segments (get_or layer f [])) }))
+  mark_passes layer = let same : f - 0 ≡ f = omega arith in mark_is 0 layer (omega arith) ∙ ap (λ n. list_any (is_hit e) (segments (get_or layer n [])) && test (record { feature = f; odd = odd_many (is_hit e) (segments (get_or layer n [])) })) same
 
 -- ---- the table
 -- numbers stand for the members of a list
@@ -205,15 +185,14 @@ module _ (layer : List Rings) where
   unfolding table_by
   piece_odd f k d fits =
       let piece : Edge = get_or (pieces_of whole layer) k d in
-      let same : f - 0 ≡ f = omega arith in
-      ap (list_any (odd_mark f)) (get_or-map (edge_marks whole layer) (pieces_of whole layer) k d [] fits)
-      ∙ (odd_mark_is piece f 0 layer (omega arith)
-      ∙ (ap (λ n. odd_many (is_hit piece) (segments (get_or layer n []))) same
-      ∙ odd_many-same (is_hit piece) (same_edge piece) (segments (get_or layer f [])) (λ s. or_none (same_edge piece s))))
-    where
-      or_none : (t : Bool) → (t || false) ≡ t
-      or_none true = refl
-      or_none false = refl
+      let own : List Edge = segments (get_or layer f []) in
+      ap (list_any (λ (m : Mark). (m.feature == f) && m.odd)) (get_or-map (edge_marks whole layer) (pieces_of whole layer) k d [] fits)
+      ∙ (mark_passes (λ (m : Mark). (m.feature == f) && m.odd) piece f (λ m other. ap (λ t. t && m.odd) (ne_eqb m.feature f other)) layer
+      ∙ (ap (λ t. list_any (is_hit piece) own && (t && odd_many (is_hit piece) own)) (eq-eqb f f refl)
+      ∙ (elim (cases_Bool (list_any (is_hit piece) own)) [
+        | inl some ↦ ap (λ t. t && odd_many (is_hit piece) own) some
+        | inr none ↦ ap (λ t. t && odd_many (is_hit piece) own) none ∙ sym (odd_none (is_hit piece) own none)
+      ] ∙ odd_many-same (is_hit piece) (same_edge piece) own (λ s. or_none (same_edge piece s)))))
 
   -- marks are even at every corner: by edges the odd marks are counted as the segments of the feature, and those of a closed ring are even
   pub table_of-all_even : All (All IsRing) layer → AllEven (table_of layer)

@@ -3,7 +3,7 @@ use Rattle.std.proofs.Common.{◌≡◌, true, false, not, ◌&&◌, sym, ◌∙
 use Rattle.std.proofs.lemmas.Bool.{cases_Bool, and_parts, and_from, and_left, and_right, or_cases, or_left, or_right, or_from, both_ways, not-true, not_from_false, false_from_ne_true, cond-true, cond-false}
 use Rattle.loc_spec_plane.specs.Points.{Point, Edge, before, up_to, same_point, same_edge, is_above, is_on, is_below, is_end, lies_on, inside, ends_inside, touch}
 use Rattle.loc_spec_plane.specs.Places.{alive}
-use Rattle.loc_laws_order.proofs.Sides.{same_point-true, same_point_refl, same_point_sym, before_decides, before-differ, before-asym_test, same-from_neither, on-not_above, on-not_below}
+use Rattle.loc_laws_order.proofs.Sides.{before_either, same_point-true, same_point_refl, same_point_sym, before_decides, before-differ, before-asym_test, same-from_neither, on-not_above, on-not_below}
 use Rattle.loc_geom.proofs.Symmetry.{on_flip}
 use Rattle.loc_edges.specs.Placing.{hits, deciding_end}
 
@@ -20,12 +20,7 @@ between_inside e p on_line from to = and_from (lies_on e p) (not (is_end e p))
 module _ (a b : Edge) where
   -- where the sweep line at b's lower end meets a, and the two do not begin together, that end comes after a's
   begins_later : alive a b.lo ≡ true → same_point a.lo b.lo ≡ false → before a.lo b.lo ≡ true
-  begins_later live apart_lo = elim (cases_Bool (before a.lo b.lo)) [
-    | inl first ↦ first
-    | inr not_first ↦ absurd (both_ways (same_point a.lo b.lo) apart_lo (
-        let same : a.lo ≡ b.lo = same-from_neither a.lo b.lo (λ k. both_ways (before a.lo b.lo) not_first ((before_decides a.lo b.lo).1 k)) (λ k. both_ways (before b.lo a.lo) (not-true (before b.lo a.lo) (and_parts (up_to a.lo b.lo) (before b.lo a.hi) live).0) ((before_decides b.lo a.lo).1 k)) in
-        subst (λ r. same_point a.lo r ≡ true) same (same_point_refl a.lo)))
-  ]
+  begins_later live apart_lo = before_either b.lo a.lo (same_point_sym b.lo a.lo apart_lo) (not-true (before b.lo a.lo) (and_parts (up_to a.lo b.lo) (before b.lo a.hi) live).0)
 
   -- b hits a where its deciding end is on the line
   pub on-hits : alive a b.lo ≡ true → is_on a (deciding_end a b) ≡ true → hits a b ≡ true

@@ -1,5 +1,5 @@
 -- The edges of a layer are its sorted segments, and the ends of its edges are the ends of its segments.
-use Rattle.std.proofs.Common.{◌≡◌, Bool, ◌||◌, true, false, List, [], ◌∷◌, refl, sym, ◌∙◌, ap}
+use Rattle.std.proofs.Common.{◌≡◌, Bool, ◌||◌, true, List, [], ◌∷◌, refl, sym, ◌∙◌, ap}
 use Rattle.std.specs.List.{list_any, flat_map}
 use Rattle.std.proofs.lemmas.List.{map-id}
 use Rattle.std.proofs.lemmas.List.Concat.{flat_map_single}
@@ -7,6 +7,7 @@ use Rattle.loc_spec_plane.specs.Points.{Point, Edge, before, edge_before}
 use Rattle.loc_spec_plane.specs.Lists.{is_rising, sorted_set}
 use Rattle.loc_spec_plane.specs.Rings.{Rings}
 use Rattle.loc_spec_plane.specs.Tables.{layer_segments, layer_corners, pieces_of, whole}
+use Rattle.loc_laws_order.proofs.Sets.{or_assoc}
 use Rattle.loc_edges.specs.Layers.{ends_of}
 use Rattle.loc_edges.proofs.Orders.{points_by_before, edges_by_before}
 use Rattle.loc_edges.proofs.SortedSet.{rising-sorted_set, any-sorted_set, same-sorted_set}
@@ -18,11 +19,6 @@ pieces_of-whole layer = ap (sorted_set edge_before) (sym (flat_map_single (λ (s
 -- the edges of a layer are in order
 pub pieces_rise : (layer : List Rings) → is_rising edge_before (pieces_of whole layer) ≡ true
 pieces_rise layer = rising-sorted_set edges_by_before (flat_map whole (layer_segments layer))
-
--- or, with the parts joined otherwise
-or_assoc : (a b c : Bool) → (a || (b || c)) ≡ ((a || b) || c)
-or_assoc true b c = refl
-or_assoc false b c = refl
 
 -- some end passes where some edge has an end that passes
 pub any-ends_of : (p : Point → Bool) (es : List Edge) → list_any p (ends_of es) ≡ list_any (λ (e : Edge). p e.lo || p e.hi) es

@@ -1,8 +1,8 @@
 -- The table of a layer is a table: its rows stand in order, and its edges are the pieces.
-use Rattle.std.proofs.Common.{◌≡◌, ℕ, zero, suc, ◌+◌, ◌<◌, Bool, true, false, not, ◌||◌, ◌&&◌, List, [], ◌∷◌, length, get_or, map, refl, sym, ◌∙◌, ap, subst, inl, inr, arith}
+use Rattle.std.proofs.Common.{◌≡◌, ℕ, ◌+◌, ◌^◌, ◌<◌, ◌≤◌, Bool, true, false, not, ◌||◌, ◌&&◌, List, [], ◌∷◌, length, get_or, map, flat_map, refl, sym, ◌∙◌, ap, subst, inl, inr, arith}
 use Rattle.std.specs.Prelude.{nat_lt, ◌==◌, unwrap_or}
 use Rattle.std.specs.List.{list_any, list_all, filter_map, enumerate_from, cons_option, position_or_len}
-use Rattle.std.proofs.lemmas.Bool.{cases_Bool, cases_order, cases_lt, cond-true, cond-false, false_from_ne_true, both_ways, lt-ltb, and_from, and_parts, or_from, or_cases, eq-eqb}
+use Rattle.std.proofs.lemmas.Bool.{cases_Bool, cases_order, cases_lt, cond-true, cond-false, false_from_ne_true, both_ways, lt-ltb, and_from, and_parts, or_from, not-false, or_cases, or_left, or_right, eq-eqb}
 use Rattle.std.proofs.lemmas.List.{length-map, get_or-map, get_or_past}
 use Rattle.std.proofs.lemmas.List.Folds.{list_any-append, list_any_at, list_any_none}
 use Rattle.std.proofs.lemmas.List.Sums.{fails_before_first, passes_at_first}
@@ -11,9 +11,10 @@ use Rattle.loc_spec_plane.specs.Points.{Point, Edge, before, same_point, same_ed
 use Rattle.loc_spec_plane.specs.Lists.{is_rising, odd_many}
 use Rattle.loc_spec_plane.specs.Rings.{Ring, Rings, ring_segments, segments, segment_between}
 use Rattle.loc_spec_plane.specs.Tables.{IsTable, table_of, table_by, corner, edge, lo_of, hi_of, layer_segments, layer_corners, pieces_of, whole, number_of, edge_marks, mark_of, pair_before, mark_before}
+use Rattle.loc_laws_order.proofs.Sets.{or_true}
 use Rattle.loc_laws_order.proofs.Sides.{before_irrefl, before-asym_test, same_point-true, same_point_refl}
-use Rattle.loc_laws_order.proofs.TableOrder.{rises, origin_point}
-use Rattle.loc_edges.specs.Kept.{IsSmallLayer, AreEdges}
+use Rattle.loc_laws_order.proofs.TableOrder.{all_from, rises, origin_point}
+use Rattle.loc_edges.specs.Kept.{AreEdges, written_points}
 use Rattle.loc_edges.specs.Small.{IsSmallTable}
 use Rattle.loc_edges.specs.Layers.{ends_of}
 use Rattle.loc_edges.proofs.Layers.{pieces_of-whole, pieces_rise, corners_from_edges, any-ends_of}
@@ -65,12 +66,8 @@ module _ (cs : List Point) (up : is_rising before cs ≡ true) where
         | inl low ↦ ap (λ t. t || ((number_of cs a.lo == number_of cs b.lo) && nat_lt (number_of cs a.hi) (number_of cs b.hi))) (lt-ltb (number_of cs a.lo) (number_of cs b.lo) (number_up a.lo b.lo in_a.0 in_b.0 low))
         | inr high ↦ (let parts = and_parts (same_point a.lo b.lo) (before a.hi b.hi) high in
             let same : number_of cs a.lo ≡ number_of cs b.lo = ap (number_of cs) (same_point-true a.lo b.lo parts.0) in
-            either (nat_lt (number_of cs a.lo) (number_of cs b.lo)) _ (and_from (number_of cs a.lo == number_of cs b.lo) (nat_lt (number_of cs a.hi) (number_of cs b.hi)) (eq-eqb _ _ same) (lt-ltb _ _ (number_up a.hi b.hi in_a.1 in_b.1 parts.1))))
+            or_right (nat_lt (number_of cs a.lo) (number_of cs b.lo)) _ (and_from (number_of cs a.lo == number_of cs b.lo) (nat_lt (number_of cs a.hi) (number_of cs b.hi)) (eq-eqb _ _ same) (lt-ltb _ _ (number_up a.hi b.hi in_a.1 in_b.1 parts.1))))
       ]
-    where
-      either : (s t : Bool) → t ≡ true → (s || t) ≡ true
-      either true t h = refl
-      either false t h = h
 
   pairs_up : (a : Edge) (es : List Edge) → has_ends a ≡ true → list_all has_ends es ≡ true → list_all (edge_before a) es ≡ true → list_all (pair_before (ends_by_number a)) (map ends_by_number es) ≡ true
   pairs_up a [] ha hs less = refl
@@ -109,13 +106,12 @@ ring_up (a ∷ b ∷ ps) = elim (cases_Bool (same_point a b)) [
   | inr other ↦ ap (list_any is_down) (cond-false _ _ _ other) ∙ or_from _ _ (between_up a b other) (ring_up (b ∷ ps))
 ]
 
-rings_up : (rings : Rings) → list_any is_down (segments rings) ≡ false
-rings_up [] = refl
-rings_up (ring ∷ rings) = list_any-append is_down (ring_segments ring) (segments rings) ∙ or_from _ _ (ring_up ring) (rings_up rings)
+parts_up : {X : Type 0} (f : X → List Edge) → ((x : X) → list_any is_down (f x) ≡ false) → (xs : List X) → list_any is_down (flat_map f xs) ≡ false
+parts_up f each [] = refl
+parts_up f each (x ∷ xs) = list_any-append is_down (f x) (flat_map f xs) ∙ or_from _ _ (each x) (parts_up f each xs)
 
 layer_up : (layer : List Rings) → list_any is_down (layer_segments layer) ≡ false
-layer_up [] = refl
-layer_up (rings ∷ layer) = list_any-append is_down (segments rings) (layer_segments layer) ∙ or_from _ _ (rings_up rings) (layer_up layer)
+layer_up = parts_up segments (parts_up ring_segments ring_up)
 
 -- ---- marks are in order
 -- a lesser feature than all marks that follow
@@ -144,12 +140,6 @@ marks_rise_from e a (r ∷ rs) =
 abbrev has_end : Point → Edge → Bool
 has_end q d = same_point q d.lo || same_point q d.hi
 
--- what all members pass a member passes
-at_place : {X : Type 0} (p : X → Bool) (xs : List X) (n : ℕ) (d : X) → list_all p xs ≡ true → n < length xs → p (get_or xs n d) ≡ true
-at_place p [] n d h fits = absurd (omega arith)
-at_place p (x ∷ xs) zero d h fits = (and_parts (p x) (list_all p xs) h).0
-at_place p (x ∷ xs) (suc n) d h fits = at_place p xs n d (and_parts (p x) (list_all p xs) h).1 (omega arith)
-
 module _ (layer : List Rings) where
   pub corners_rise : is_rising before (layer_corners layer) ≡ true
   corners_rise = rising-sorted_set points_by_before (ends_of (layer_segments layer))
@@ -157,21 +147,13 @@ module _ (layer : List Rings) where
   -- the ends of the edges are corners
   ends_there : (es : List Edge) → ((p : Edge → Bool) → list_any p es ≡ true → list_any p (pieces_of whole layer) ≡ true) → list_all (has_ends (layer_corners layer) corners_rise) es ≡ true
   ends_there [] part = refl
-  ends_there (e ∷ es) part = and_from _ _ (and_from _ _ (is_corner e.lo low) (is_corner e.hi high)) (ends_there es (λ p h. part p (either (p e) (list_any p es) h)))
+  ends_there (e ∷ es) part = and_from _ _ (and_from _ _ (is_corner e.lo low) (is_corner e.hi high)) (ends_there es (λ p h. part p (or_right (p e) (list_any p es) h)))
     where
-      either : (s t : Bool) → t ≡ true → (s || t) ≡ true
-      either true t h = refl
-      either false t h = h
-
-      or_second : (s t : Bool) → ((s || true) || t) ≡ true
-      or_second true t = refl
-      or_second false t = refl
-
       low : list_any (has_end e.lo) (e ∷ es) ≡ true
       low = ap (λ b. (b || same_point e.lo e.hi) || list_any (has_end e.lo) es) (same_point_refl e.lo)
 
       high : list_any (has_end e.hi) (e ∷ es) ≡ true
-      high = ap (λ b. (same_point e.hi e.lo || b) || list_any (has_end e.hi) es) (same_point_refl e.hi) ∙ or_second (same_point e.hi e.lo) (list_any (has_end e.hi) es)
+      high = ap (λ b. (same_point e.hi e.lo || b) || list_any (has_end e.hi) es) (same_point_refl e.hi) ∙ or_left _ (list_any (has_end e.hi) es) (or_true (same_point e.hi e.lo))
 
       is_corner : (q : Point) → list_any (has_end q) (e ∷ es) ≡ true → list_any (same_point q) (layer_corners layer) ≡ true
       is_corner q h =
@@ -185,14 +167,10 @@ module _ (layer : List Rings) where
 
   -- piece n has its ends among the corners, and goes up
   piece_there : (n : ℕ) (d : Edge) → n < length (pieces_of whole layer) → has_ends (layer_corners layer) corners_rise (get_or (pieces_of whole layer) n d) ≡ true
-  piece_there n d fits = at_place (has_ends (layer_corners layer) corners_rise) (pieces_of whole layer) n d all_there fits
+  piece_there n d fits = all_from (λ _ e. has_ends (layer_corners layer) corners_rise e) d d (pieces_of whole layer) n all_there fits
 
   piece_up : (n : ℕ) (d : Edge) → n < length (pieces_of whole layer) → before (get_or (pieces_of whole layer) n d).lo (get_or (pieces_of whole layer) n d).hi ≡ true
-  piece_up n d fits = from_not (before (get_or (pieces_of whole layer) n d).lo (get_or (pieces_of whole layer) n d).hi) (false_from_ne_true _ (λ down. both_ways _ (ap (list_any is_down) (sym (pieces_of-whole layer)) ∙ (any-sorted_set edges_by_before is_down (layer_segments layer) ∙ layer_up layer)) (list_any_at is_down (pieces_of whole layer) n d fits down)))
-    where
-      from_not : (b : Bool) → not b ≡ false → b ≡ true
-      from_not true h = refl
-      from_not false h = sym h
+  piece_up n d fits = not-false (before (get_or (pieces_of whole layer) n d).lo (get_or (pieces_of whole layer) n d).hi) (false_from_ne_true _ (λ down. both_ways _ (ap (list_any is_down) (sym (pieces_of-whole layer)) ∙ (any-sorted_set edges_by_before is_down (layer_segments layer) ∙ layer_up layer)) (list_any_at is_down (pieces_of whole layer) n d fits down)))
 
   -- the numbers of its ends
   row_is : (n : ℕ) (d : Edge) → n < length (pieces_of whole layer) → get_or (table_of layer).ends n (0, 0) ≡ (number_of (layer_corners layer) (get_or (pieces_of whole layer) n d).lo, number_of (layer_corners layer) (get_or (pieces_of whole layer) n d).hi)
@@ -252,11 +230,11 @@ module _ (layer : List Rings) where
   ends_is cs es ends cs_are es_are ends_are = ends_are ∙ (ap (λ ps. map (λ (e : Edge). (number_of ps e.lo, number_of ps e.hi)) es) cs_are ∙ ap (map (λ (e : Edge). (number_of (layer_corners layer) e.lo, number_of (layer_corners layer) e.hi))) es_are)
 
   -- it is small
-  pub table_of-small : IsSmallLayer layer → IsSmallTable (table_of layer)
+  pub table_of-small : length (written_points layer) ≤ 2 ^ 20 → IsSmallTable (table_of layer)
   unfolding table_by
-  table_of-small small = record {
-    few_corners = omega (arith, few_corners layer, small.few_points);
-    few_edges = omega (arith, few_edges layer, as_many_ends, small.few_points);
+  table_of-small few = record {
+    few_corners = omega (arith, few_corners layer, few);
+    few_edges = omega (arith, few_edges layer, as_many_ends, few);
   }
 
   -- its edges are the pieces

@@ -1,9 +1,9 @@
 -- What a binary search finds in a list in order that has each member once.
-use Rattle.std.proofs.Common.{◌≡◌, ℕ, ◌+◌, ◌<◌, Bool, true, false, List, length, get_or, Ok, Err, refl, sym, ◌∙◌, ap, subst, inl, inr, arith, Ordering, Less, Equal, Greater}
+use Rattle.std.proofs.Common.{◌≡◌, ℕ, ◌+◌, ◌<◌, Bool, true, false, List, length, get_or, Ok, Err, sym, ◌∙◌, ap, subst, inl, inr, arith, Ordering, Less, Equal, Greater}
 use Rattle.std.specs.Bool.{Decides}
 use Rattle.std.specs.List.{position, position_or_len}
 use Rattle.std.specs.List.Sorted.{IsBinarySearchResult, IsNonDecreasingBy}
-use Rattle.std.specs.Ordering.{ordering_index, is_lt}
+use Rattle.std.specs.Ordering.{ordering_index}
 use Rattle.std.specs.Prelude.{unwrap_or, nat_lt}
 use Rattle.std.proofs.lemmas.Bool.{both_ways, cases_lt, cond-true, cond-false, false_from_ne_true, lt-ltb, le-ltb}
 use Rattle.std.proofs.lemmas.Cmp.{by_ranked}
@@ -11,18 +11,18 @@ use Rattle.std.proofs.lemmas.List.Sorted.{searchable_from_sorted}
 use Rattle.std.proofs.lemmas.List.Sums.{position_or_len_is}
 use Rattle.loc_spec_plane.specs.Lists.{is_rising}
 use Rattle.loc_laws_order.proofs.TableOrder.{rises}
-use Rattle.loc_edges.proofs.SortedSet.{IsOrderBy, irrefl, from_less}
+use Rattle.loc_edges.proofs.SortedSet.{IsOrderBy, is_less, irrefl, from_less}
+
+no_less : Less ≡ Equal → ⊥
+no_less e = grind arith
+
+no_greater : Greater ≡ Equal → ⊥
+no_greater e = grind arith
 
 module _ {X : Type 0} {R : X → X → Ordering} {comes_before : X → X → Bool} (order : IsOrderBy R comes_before) (E : X → X → Bool) (exact : (x y : X) → Decides (E x y) (x ≡ y)) (x : X) (xs : List X) (up : is_rising comes_before xs ≡ true) where
   -- where R answers `Equal` the two are one
   tie : (y : X) → R y x ≡ Equal → y ≡ x
   tie y h = by_ranked _ _ _ (R y x) (order.ranked y x) (λ e _. absurd (no_less (sym e ∙ h))) (λ _ same. same) (λ e _. absurd (no_greater (sym e ∙ h)))
-    where
-      no_less : Less ≡ Equal → ⊥
-      no_less e = grind arith
-
-      no_greater : Greater ≡ Equal → ⊥
-      no_greater e = grind arith
 
   -- x itself is neither less nor greater than x
   apart : (y : X) → (R y x ≡ Equal → ⊥) → E x y ≡ false
@@ -38,11 +38,6 @@ module _ {X : Type 0} {R : X → X → Ordering} {comes_before : X → X → Boo
   -- the answers rise along the list
   searchable : IsNonDecreasingBy (λ y. ordering_index (R y x)) xs
   searchable = searchable_from_sorted order.total (λ y. y) xs x (λ k d low lt. false_from_ne_true _ (λ h. order.asym _ _ (rises comes_before d xs k (k + 1) up (omega arith) lt) (from_less order _ _ (is_less _ h))))
-    where
-      is_less : (o : Ordering) → is_lt o ≡ true → o ≡ Less
-      is_less Less h = refl
-      is_less Equal h = grind arith
-      is_less Greater h = grind arith
 
   -- what is found is x, and stands there first
   pub found_there : (i : ℕ) → IsBinarySearchResult (λ y. R y x) xs (Ok i) → (d : X) → get_or xs i d ≡ x
@@ -59,12 +54,6 @@ module _ {X : Type 0} {R : X → X → Ordering} {comes_before : X → X → Boo
     | inl lt ↦ apart (get_or xs k x) (λ e. no_less (sym ((h searchable).0 k x (omega arith) lt) ∙ e))
     | inr ge ↦ apart (get_or xs k x) (λ e. no_greater (sym ((h searchable).1 k x ge fits) ∙ e))
   ]
-    where
-      no_less : Less ≡ Equal → ⊥
-      no_less e = grind arith
-
-      no_greater : Greater ≡ Equal → ⊥
-      no_greater e = grind arith
 
   -- the place of x by the definition, or 0
   pub place_if_found : (i : ℕ) → i < length xs → IsBinarySearchResult (λ y. R y x) xs (Ok i) → i ≡ unwrap_or (position (E x) xs) 0

@@ -1,65 +1,27 @@
 -- Touching and covering by the marks of the table of a layer are touching and covering by its rings, and no mark is of another feature.
-use Rattle.std.proofs.Common.{◌≡◌, ℕ, zero, suc, ◌+◌, ◌-◌, ◌<◌, ◌≤◌, Bool, true, false, not, ◌||◌, ◌&&◌, List, [], ◌∷◌, ◌++◌, length, get_or, map, refl, sym, ◌∙◌, ap, subst, inl, inr, arith}
+use Rattle.std.proofs.Common.{◌≡◌, ℕ, ◌+◌, ◌<◌, ◌≤◌, Bool, true, not, ◌||◌, ◌&&◌, List, [], ◌∷◌, length, get_or, map, refl, sym, ◌∙◌, ap, subst, inl, inr, arith}
 use Rattle.std.specs.Prelude.{All, ◌==◌}
-use Rattle.std.specs.List.{list_any, filter_map, flat_map, enumerate_from, cons_option}
-use Rattle.std.proofs.lemmas.Bool.{and_from, and_parts, cases_Bool, cases_eq, cases_lt, cond-true, cond-false, eq-eqb, ne_eqb, or_cases, or_left, or_right, true≢false}
-use Rattle.std.proofs.lemmas.List.{get_or-map, get_or_past}
+use Rattle.std.specs.List.{list_any, flat_map, cons_option}
+use Rattle.std.proofs.lemmas.Bool.{and_from, and_parts, cases_Bool, cond-true, cond-false, eq-eqb, ne_eqb, or_cases, or_left, or_right, true≢false}
+use Rattle.std.proofs.lemmas.List.{get_or-map}
 use Rattle.std.proofs.lemmas.List.Elements.{All-append, All-cons}
 use Rattle.loc_spec_plane.specs.declared.Mark.{Mark}
 use Rattle.loc_spec_plane.specs.Points.{Point, Edge, same_edge, lies_on}
 use Rattle.loc_spec_plane.specs.Lists.{numbers, odd_many}
 use Rattle.loc_spec_plane.specs.Rays.{crosses_right}
 use Rattle.loc_spec_plane.specs.Rings.{Rings, segments, touches, covers}
-use Rattle.loc_spec_plane.specs.Tables.{table_of, table_by, edge, edge_marks, edge_numbers, has, has_odd, mark_of, whole, pieces_of, layer_segments, touches_by_marks, covers_by_marks}
+use Rattle.loc_spec_plane.specs.Tables.{table_of, table_by, edge, edge_marks, edge_numbers, has, has_odd, whole, pieces_of, layer_segments, touches_by_marks, covers_by_marks}
 use Rattle.loc_spec_plane.specs.Covers.{feature_count}
+use Rattle.loc_laws_order.proofs.Sets.{or_none}
 use Rattle.loc_laws_order.proofs.Tests.{same_edge_decides}
 use Rattle.loc_laws_rays.proofs.Members.{feature_count_within}
-use Rattle.loc_laws_rays.proofs.Parity.{and_swap, same-from_both}
-use Rattle.loc_edges.proofs.Even.{any_by_number, by_edges, odd_by_number, piece_odd, segments_part}
+use Rattle.loc_laws_rays.proofs.Parity.{and_swap, and_true, same-from_both}
+use Rattle.loc_edges.proofs.Even.{any_by_number, by_edges, mark_passes, marks_from, odd_by_number, piece_odd, segments_part}
 use Rattle.loc_edges.proofs.Layers.{pieces_of-whole, pieces_rise}
 use Rattle.loc_edges.proofs.MarkRows.{is_hit}
 use Rattle.loc_edges.proofs.Ordered.{as_many_ends, edge_is_piece}
 use Rattle.loc_edges.proofs.Orders.{edges_by_before}
 use Rattle.loc_edges.proofs.SortedSet.{any-sorted_set}
-
--- the mark is of feature f
-abbrev is_of : ℕ → Mark → Bool
-is_of f m = m.feature == f
-
--- the marks of an edge in a layer whose first feature has this number
-abbrev marks_from : Edge → ℕ → List Rings → List Mark
-marks_from e a layer = filter_map (λ (numbered : ℕ × Rings). mark_of whole e numbered.0 (segments numbered.1)) (enumerate_from a layer)
-
-or_none : (t : Bool) → (t || false) ≡ t
-or_none true = refl
-or_none false = refl
-
-module _ (e : Edge) (f : ℕ) where
-  -- later features have no mark of it
-  no_mark : (a : ℕ) (layer : List Rings) → f < a → list_any (is_of f) (marks_from e a layer) ≡ false
-  no_mark a [] less = refl
-  no_mark a (r ∷ rs) less =
-      let rest = marks_from e (a + 1) rs in
-      elim (cases_Bool (list_any (is_hit e) (segments r))) [
-        | inl some ↦ ap (λ o. list_any (is_of f) (cons_option o rest)) (cond-true _ _ _ some) ∙ (ap (λ t. t || list_any (is_of f) rest) (ne_eqb a f (λ same. omega arith)) ∙ no_mark (a + 1) rs (omega arith))
-        | inr none ↦ ap (λ o. list_any (is_of f) (cons_option o rest)) (cond-false _ _ _ none) ∙ no_mark (a + 1) rs (omega arith)
-      ]
-
-  -- there is a mark of it where one of its segments is the edge
-  mark_is : (a : ℕ) (layer : List Rings) → a ≤ f → list_any (is_of f) (marks_from e a layer) ≡ list_any (is_hit e) (segments (get_or layer (f - a) []))
-  mark_is a [] le = refl
-  mark_is a (r ∷ rs) le =
-      let rest = marks_from e (a + 1) rs in
-      elim (cases_eq a f) [
-        | inl same ↦ (let here : f - a ≡ 0 = omega arith in let after : list_any (is_of f) rest ≡ false = no_mark (a + 1) rs (omega arith) in elim (cases_Bool (list_any (is_hit e) (segments r))) [
-          | inl some ↦ ap (λ o. list_any (is_of f) (cons_option o rest)) (cond-true _ _ _ some) ∙ (ap (λ t. t || list_any (is_of f) rest) (eq-eqb a f same) ∙ (sym some ∙ ap (λ n. list_any (is_hit e) (segments (get_or (r ∷ rs) n []))) (sym here)))
-          | inr none ↦ ap (λ o. list_any (is_of f) (cons_option o rest)) (cond-false _ _ _ none) ∙ (after ∙ (sym none ∙ ap (λ n. list_any (is_hit e) (segments (get_or (r ∷ rs) n []))) (sym here)))
-        ])
-        | inr differ ↦ (let next : f - a ≡ suc (f - (a + 1)) = omega arith in let further : list_any (is_of f) rest ≡ list_any (is_hit e) (segments (get_or (r ∷ rs) (f - a) [])) = mark_is (a + 1) rs (omega arith) ∙ ap (λ n. list_any (is_hit e) (segments (get_or (r ∷ rs) n []))) (sym next) in elim (cases_Bool (list_any (is_hit e) (segments r))) [
-          | inl some ↦ ap (λ o. list_any (is_of f) (cons_option o rest)) (cond-true _ _ _ some) ∙ (ap (λ t. t || list_any (is_of f) rest) (ne_eqb a f differ) ∙ further)
-          | inr none ↦ ap (λ o. list_any (is_of f) (cons_option o rest)) (cond-false _ _ _ none) ∙ further
-        ])
-      ]
 
 any-alike : {X : Type 0} (p q : X → Bool) (xs : List X) → ((x : X) → p x ≡ q x) → list_any p xs ≡ list_any q xs
 any-alike p q [] same = refl
@@ -100,11 +62,10 @@ module _ (layer : List Rings) (f : ℕ) where
   unfolding table_by
   piece_has k d fits =
       let piece : Edge = get_or (pieces_of whole layer) k d in
-      let same : f - 0 ≡ f = omega arith in
-      ap (list_any (is_of f)) (get_or-map (edge_marks whole layer) (pieces_of whole layer) k d [] fits)
-      ∙ (mark_is piece f 0 layer (omega arith)
-      ∙ (ap (λ n. list_any (is_hit piece) (segments (get_or layer n []))) same
-      ∙ any-alike (is_hit piece) (same_edge piece) own (λ s. or_none (same_edge piece s))))
+      ap (list_any (λ (m : Mark). m.feature == f)) (get_or-map (edge_marks whole layer) (pieces_of whole layer) k d [] fits)
+      ∙ (mark_passes (λ (m : Mark). m.feature == f) piece f (λ m other. ne_eqb m.feature f other) layer
+      ∙ (ap (λ t. list_any (is_hit piece) own && t) (eq-eqb f f refl) ∙ (and_true (list_any (is_hit piece) own)
+      ∙ any-alike (is_hit piece) (same_edge piece) own (λ s. or_none (same_edge piece s)))))
 
   -- its segments are edges of the table
   own_part : (s : Edge) → list_any (same_edge s) own ≡ true → list_any (same_edge s) (pieces_of whole layer) ≡ true

@@ -1,42 +1,17 @@
 -- The sorted set of a list is the one rising list with its members; a sort that then drops equal neighbours makes it.
-use Rattle.std.proofs.Common.{◌≡◌, Bool, true, false, not, ◌&&◌, ◌||◌, List, [], ◌∷◌, refl, sym, ◌∙◌, ap, subst, inl, inr, Ordering, Less, Equal}
+use Rattle.std.proofs.Common.{◌≡◌, Bool, true, false, not, ◌&&◌, ◌||◌, List, [], ◌∷◌, refl, sym, ◌∙◌, ap, subst, inl, inr, Ordering, Less, Equal, Greater, arith}
 use Rattle.std.specs.Bool.{Decides}
 use Rattle.std.specs.Cmp.{IsTotalOrder}
 use Rattle.std.specs.List.{list_any, list_all, dedup, dedup_from, AllByRecursion}
 use Rattle.std.specs.List.Sorted.{IsPermutation, IsSorted, IsStrictlySortedBy}
 use Rattle.std.specs.Ordering.{MatchOrdering, eq_by_cmp, is_eq, is_lt}
-use Rattle.std.proofs.lemmas.Bool.{and_parts, and_from, both_ways, cases_Bool, cond-true, cond-false, false_from_ne_true, true≢false}
+use Rattle.std.proofs.lemmas.Bool.{and_parts, and_from, both_ways, cases_Bool, not-true, not_from_false, cond-true, cond-false, false_from_ne_true}
 use Rattle.std.proofs.lemmas.Cmp.{by_ranked}
 use Rattle.std.proofs.lemmas.List.Kept.{IsStrictlySortedBy-dedup}
 use Rattle.std.proofs.lemmas.List.Sorted.{list_any-IsPermutation}
-use Rattle.loc_spec_plane.specs.Lists.{is_rising, with_member, sorted_set}
-
--- ---- tests of lists
--- or, with the first two exchanged
-or_swap : (a b c : Bool) → (a || (b || c)) ≡ (b || (a || c))
-or_swap true true c = refl
-or_swap true false c = refl
-or_swap false b c = refl
-
--- or, with one part said twice
-or_twice : (a b : Bool) → (a || (a || b)) ≡ (a || b)
-or_twice true b = refl
-or_twice false b = refl
-
--- and, with a second part that holds
-and_true : (a b : Bool) → b ≡ true → (a && b) ≡ a
-and_true true b h = h
-and_true false b h = refl
-
--- where all members pass q, no member fails it
-none_fails : {X : Type 0} (q : X → Bool) (xs : List X) → list_all q xs ≡ true → list_any (λ x. not (q x)) xs ≡ false
-none_fails q [] h = refl
-none_fails q (x ∷ xs) h = let parts = and_parts (q x) (list_all q xs) h in cc (ap not parts.0, none_fails q xs parts.1)
-
--- where all members pass q, a test may ask for q too
-any_passing : {X : Type 0} (p q : X → Bool) (xs : List X) → list_all q xs ≡ true → list_any (λ x. p x && q x) xs ≡ list_any p xs
-any_passing p q [] h = refl
-any_passing p q (x ∷ xs) h = let parts = and_parts (q x) (list_all q xs) h in cc (and_true (p x) (q x) parts.0, any_passing p q xs parts.1)
+use Rattle.loc_spec_plane.specs.Lists.{is_rising, sorted_set}
+use Rattle.loc_laws_order.proofs.Sets.{or_twice, set_of}
+use Rattle.loc_laws_order.proofs.Unique.{one_rising}
 
 -- ---- equal neighbours dropped
 -- the same members are left behind k
@@ -51,6 +26,12 @@ any-dedup_from E exact p k (x ∷ xs) = elim (cases_Bool (E x k)) [
 pub any-dedup : {X : Type 0} (E : X → X → Bool) → ((x y : X) → E x y ≡ true → x ≡ y) → (p : X → Bool) (xs : List X) → list_any p (dedup E xs) ≡ list_any p xs
 any-dedup E exact p [] = refl
 any-dedup E exact p (x ∷ xs) = any-dedup_from E exact p x xs
+
+-- an answer that is less
+pub is_less : (r : Ordering) → is_lt r ≡ true → r ≡ Less
+is_less Less h = refl
+is_less Equal h = grind arith
+is_less Greater h = grind arith
 
 -- R is an order, comes_before says where it answers `Less`, and only equals tie
 pub record IsOrderBy {X : Type 0} (R : X → X → Ordering) (comes_before : X → X → Bool) : Type 0 where
@@ -79,95 +60,30 @@ module _ {X : Type 0} {R : X → X → Ordering} {comes_before : X → X → Boo
   pub same_from_neither : (x y : X) → comes_before x y ≡ false → comes_before y x ≡ false → x ≡ y
   same_from_neither x y h k = by_ranked _ _ _ (R x y) (order.ranked x y) (λ _ lt. absurd (both_ways _ h lt)) (λ _ same. same) (λ _ gt. absurd (both_ways _ k gt))
 
-  -- ---- the sorted set rises
-  -- what comes before a first member comes before all
-  all_later : (x y : X) (ys : List X) → comes_before x y ≡ true → list_all (comes_before y) ys ≡ true → list_all (comes_before x) ys ≡ true
-  all_later x y [] h all = refl
-  all_later x y (z ∷ zs) h all = let parts = and_parts (comes_before y z) (list_all (comes_before y) zs) all in and_from _ _ (trans x y z h parts.0) (all_later x y zs h parts.1)
+  -- ---- the sorted set
+  -- it rises, and has the members of the list
+  sorted_set_is : (xs : List X) → (is_rising comes_before (sorted_set comes_before xs) ≡ true) × ((p : X → Bool) → list_any p (sorted_set comes_before xs) ≡ list_any p xs) × (list_all (λ x. true) (sorted_set comes_before xs) ≡ true)
+  sorted_set_is xs = set_of comes_before (λ x. true) (λ x y _ _. same_from_neither x y) (λ x y z _ _ _. trans x y z) xs (any_all xs)
+    where
+      any_all : (ys : List X) → list_all (λ y. true) ys ≡ true
+      any_all [] = refl
+      any_all (y ∷ ys) = any_all ys
 
-  -- a test that x and all members pass is passed by all of the list with x
-  all-with_member : (p : X → Bool) (x : X) (ys : List X) → p x ≡ true → list_all p ys ≡ true → list_all p (with_member comes_before x ys) ≡ true
-  all-with_member p x [] h all = and_from (p x) true h refl
-  all-with_member p x (y ∷ ys) h all = elim (cases_Bool (comes_before x y)) [
-    | inl first ↦ ap (list_all p) (cond-true _ _ _ first) ∙ and_from (p x) _ h all
-    | inr not_first ↦ elim (cases_Bool (comes_before y x)) [
-      | inl later ↦ ap (list_all p) (cond-false _ _ _ not_first ∙ cond-true _ _ _ later) ∙ (let parts = and_parts (p y) (list_all p ys) all in and_from (p y) _ parts.0 (all-with_member p x ys h parts.1))
-      | inr not_later ↦ ap (list_all p) (cond-false _ _ _ not_first ∙ cond-false _ _ _ not_later) ∙ all
-    ]
-  ]
-
-  -- the list with x is in order
-  rising-with_member : (x : X) (ys : List X) → is_rising comes_before ys ≡ true → is_rising comes_before (with_member comes_before x ys) ≡ true
-  rising-with_member x [] up = refl
-  rising-with_member x (y ∷ ys) up =
-      let parts = and_parts (list_all (comes_before y) ys) (is_rising comes_before ys) up in
-      elim (cases_Bool (comes_before x y)) [
-        | inl first ↦ ap (is_rising comes_before) (cond-true _ _ _ first) ∙ and_from _ _ (and_from (comes_before x y) _ first (all_later x y ys first parts.0)) up
-        | inr not_first ↦ elim (cases_Bool (comes_before y x)) [
-          | inl later ↦ ap (is_rising comes_before) (cond-false _ _ _ not_first ∙ cond-true _ _ _ later) ∙ and_from _ _ (all-with_member (comes_before y) x ys later parts.0) (rising-with_member x ys parts.1)
-          | inr not_later ↦ ap (is_rising comes_before) (cond-false _ _ _ not_first ∙ cond-false _ _ _ not_later) ∙ up
-        ]
-      ]
-
-  -- and so is the sorted set
+  -- it rises
   pub rising-sorted_set : (xs : List X) → is_rising comes_before (sorted_set comes_before xs) ≡ true
-  rising-sorted_set [] = refl
-  rising-sorted_set (x ∷ xs) = rising-with_member x (sorted_set comes_before xs) (rising-sorted_set xs)
-
-  -- ---- and has the members of the list
-  -- its members are x and those of the list
-  any-with_member : (p : X → Bool) (x : X) (ys : List X) → list_any p (with_member comes_before x ys) ≡ (p x || list_any p ys)
-  any-with_member p x [] = refl
-  any-with_member p x (y ∷ ys) = elim (cases_Bool (comes_before x y)) [
-    | inl first ↦ ap (list_any p) (cond-true _ _ _ first)
-    | inr not_first ↦ elim (cases_Bool (comes_before y x)) [
-      | inl later ↦ ap (list_any p) (cond-false _ _ _ not_first ∙ cond-true _ _ _ later) ∙ (ap (λ b. p y || b) (any-with_member p x ys) ∙ or_swap (p y) (p x) (list_any p ys))
-      | inr not_later ↦ ap (list_any p) (cond-false _ _ _ not_first ∙ cond-false _ _ _ not_later) ∙ (sym (or_twice (p y) (list_any p ys)) ∙ ap (λ b. b || (p y || list_any p ys)) (ap p (sym (same_from_neither x y not_first not_later))))
-    ]
-  ]
+  rising-sorted_set xs = (sorted_set_is xs).0
 
   -- the members of the sorted set are those of the list
   pub any-sorted_set : (p : X → Bool) (xs : List X) → list_any p (sorted_set comes_before xs) ≡ list_any p xs
-  any-sorted_set p [] = refl
-  any-sorted_set p (x ∷ xs) = any-with_member p x (sorted_set comes_before xs) ∙ ap (λ b. p x || b) (any-sorted_set p xs)
+  any-sorted_set p xs = (sorted_set_is xs).1 p
 
-  -- ---- two rising lists with the same members are one list
-  -- the first member of one does not come before the first of the other, as all of the other would then fail the test that they are not behind it
-  not_first : (x y : X) (xs ys : List X) → list_all (comes_before y) ys ≡ true → ((p : X → Bool) → list_any p (x ∷ xs) ≡ list_any p (y ∷ ys)) → comes_before x y ≡ false
-  not_first x y xs ys all same = false_from_ne_true _ (λ first.
-      (let test : X → Bool = λ z. not (comes_before x z) in
-      let here : list_any test (x ∷ xs) ≡ true = ap (λ b. not b || list_any test xs) (irrefl x) in
-      let none : list_any test (y ∷ ys) ≡ false = none_fails (comes_before x) (y ∷ ys) (and_from _ _ first (all_later x y ys first all)) in
-      true≢false (sym here ∙ (same test ∙ none))))
-
-  -- where they begin alike their rests have the same members: a test is asked of those behind the first alone
-  tails : (x : X) (xs ys : List X) → list_all (comes_before x) xs ≡ true → list_all (comes_before x) ys ≡ true → ((p : X → Bool) → list_any p (x ∷ xs) ≡ list_any p (x ∷ ys)) → (p : X → Bool) → list_any p xs ≡ list_any p ys
-  tails x xs ys all_x all_y same p =
-      let test : X → Bool = λ z. p z && comes_before x z in
-      let not_x : test x ≡ false = ap (λ b. p x && b) (irrefl x) ∙ never (p x) in
-      let both : list_any test xs ≡ list_any test ys = sym (ap (λ b. b || list_any test xs) not_x) ∙ (same test ∙ ap (λ b. b || list_any test ys) not_x) in
-      sym (any_passing p (comes_before x) xs all_x) ∙ (both ∙ any_passing p (comes_before x) ys all_y)
-    where
-      never : (a : Bool) → (a && false) ≡ false
-      never true = refl
-      never false = refl
-
-  -- by their first members, and then by their rests
-  rising_unique : (xs ys : List X) → is_rising comes_before xs ≡ true → is_rising comes_before ys ≡ true → ((p : X → Bool) → list_any p xs ≡ list_any p ys) → xs ≡ ys
-  rising_unique [] [] rx ry same = refl
-  rising_unique [] (y ∷ ys) rx ry same = absurd (true≢false (sym (same (λ _. true))))
-  rising_unique (x ∷ xs) [] rx ry same = absurd (true≢false (same (λ _. true)))
-  rising_unique (x ∷ xs) (y ∷ ys) rx ry same =
-      let parts_x = and_parts (list_all (comes_before x) xs) (is_rising comes_before xs) rx in
-      let parts_y = and_parts (list_all (comes_before y) ys) (is_rising comes_before ys) ry in
-      let e : x ≡ y = same_from_neither x y (not_first x y xs ys parts_y.0 same) (not_first y x ys xs parts_x.0 (λ p. sym (same p))) in
-      let all_y : list_all (comes_before x) ys ≡ true = subst (λ z. list_all (comes_before z) ys ≡ true) (sym e) parts_y.0 in
-      let all_same : (p : X → Bool) → list_any p (x ∷ xs) ≡ list_any p (x ∷ ys) = λ p. same p ∙ ap (λ z. p z || list_any p ys) (sym e) in
-      ap (λ z. z ∷ xs) e ∙ ap (λ zs. y ∷ zs) (rising_unique xs ys parts_x.1 parts_y.1 (tails x xs ys parts_x.0 all_y all_same))
+  -- the members of which neither comes before the other are one
+  one_decides : (x y : X) → Decides (not (comes_before x y) && not (comes_before y x)) (x ≡ y)
+  one_decides x y = (λ h. (let parts = and_parts _ _ h in same_from_neither x y (not-true _ parts.0) (not-true _ parts.1)), λ e. subst (λ z. (not (comes_before x z) && not (comes_before z x)) ≡ true) e (and_from _ _ (not_from_false _ (irrefl x)) (not_from_false _ (irrefl x))))
 
   -- a rising list with the members of xs is its sorted set
   is-sorted_set : (xs ys : List X) → is_rising comes_before ys ≡ true → ((p : X → Bool) → list_any p ys ≡ list_any p xs) → ys ≡ sorted_set comes_before xs
-  is-sorted_set xs ys up same = rising_unique ys (sorted_set comes_before xs) up (rising-sorted_set xs) (λ p. same p ∙ sym (any-sorted_set p xs))
+  is-sorted_set xs ys up same = one_rising _ one_decides comes_before order.asym ys (sorted_set comes_before xs) up (rising-sorted_set xs) (λ x. same _ ∙ sym (any-sorted_set _ xs))
 
   -- lists with the same members have one sorted set
   pub same-sorted_set : (xs ys : List X) → ((p : X → Bool) → list_any p xs ≡ list_any p ys) → sorted_set comes_before xs ≡ sorted_set comes_before ys

@@ -1,5 +1,5 @@
 -- The segments of a layer with their features, as one more feature comes, and sorted.
-use Rattle.std.proofs.Common.{◌≡◌, ℕ, suc, ◌+◌, ◌-◌, ◌<◌, true, not, List, [], ◌∷◌, ◌++◌, length, get_or, map, refl, sym, ◌∙◌, ap, inl, inr, arith, append-nil, length-append, Ordering, Less, Equal, Greater}
+use Rattle.std.proofs.Common.{◌≡◌, ℕ, suc, ◌+◌, ◌-◌, ◌<◌, not, List, [], ◌∷◌, ◌++◌, length, get_or, map, refl, sym, ◌∙◌, ap, inl, inr, arith, append-nil, length-append}
 use Rattle.std.specs.Prelude.{◌&&◌, All, filter}
 use Rattle.std.specs.List.Sorted.{IsPermutation, IsSorted, IsSortedBy, IsSortedByKey, IsStableByKey}
 use Rattle.std.specs.Ordering.{is_lt}
@@ -15,7 +15,7 @@ use Rattle.loc_laws_order.proofs.Tests.{same_edge_decides}
 use Rattle.loc_edges.specs.Tagged.{tagged_by, tagged_from, segments_in, features_of}
 use Rattle.loc_edges.proofs.Layers.{pieces_of-whole}
 use Rattle.loc_edges.proofs.Orders.{edge_cmp, edges_by_before}
-use Rattle.loc_edges.proofs.SortedSet.{less, from_less, same-sorted_set, tie_is}
+use Rattle.loc_edges.proofs.SortedSet.{is_less, less, from_less, same-sorted_set, tie_is}
 
 -- one more feature
 pub tagged_more : (a : ℕ) (layer : List Rings) (r : Rings) → tagged_from a (layer ++ r ∷ []) ≡ tagged_from a layer ++ tagged_by (a + length layer) (segments r)
@@ -60,11 +60,6 @@ in_order ts sorted k d low lt =
 -- std's word for it
 pub is_sorted : (es : List Edge) → IsSortedBy edge_before es → IsSorted edge_cmp es
 is_sorted es sorted k d low lt = false_from_ne_true _ (λ h. both_ways _ (sorted k d low lt) (from_less edges_by_before (get_or es (k + 1) d) (get_or es k d) (is_less _ h)))
-  where
-    is_less : (r : Ordering) → is_lt r ≡ true → r ≡ Less
-    is_less Less h = refl
-    is_less Equal h = grind arith
-    is_less Greater h = grind arith
 
 -- the features of each edge stand in their order
 pub features_stay : (xs ys : List (Edge × ℕ)) → IsStableByKey (λ (t : Edge × ℕ). t.0) edge_cmp xs ys → (e : Edge) → features_of ys e ≡ features_of xs e

@@ -1,12 +1,12 @@
--- Whether two edges of a list conflict. The words: `edges_of`, `conflicts_with`, `has_conflict`.
+-- Whether two edges of a list conflict. The words: `table_edges`, `conflicts_with`, `has_conflict`.
 use Rattle.std.specs.Prelude.{Bool, List, map}
 use Rattle.std.specs.List.{list_any}
 use Rattle.loc_spec_plane.specs.Points.{Edge, conflict}
 use Rattle.loc_spec_plane.specs.Tables.{Table, edge, edge_numbers}
 
 -- the edges of a table by their points, in order
-abbrev pub edges_of : Table → List Edge
-edges_of t = map (edge t) (edge_numbers t)
+abbrev pub table_edges : Table → List Edge
+table_edges t = map (edge t) (edge_numbers t)
 
 -- the edge conflicts with one of the list
 abbrev pub conflicts_with : List Edge → Edge → Bool

@@ -1,4 +1,4 @@
--- What a table of numbers keeps beside its value: `AreEdges` and `IsKept`; and how large a layer may be.
+-- What a table of numbers keeps beside its value: `AreEdges` and `IsKept`; and the points of a layer.
 use Rattle.std.specs.Prelude.{◌≡◌, ℕ, ◌<◌, ◌≤◌, ◌^◌, List, length, map, slice_index_or}
 use Rattle.std.specs.List.{flat_map}
 use Rattle.loc_spec_plane.specs.Points.{Point, Edge}
@@ -8,13 +8,8 @@ use Rattle.loc_edges.specs.Ending.{AreFirsts, ending_among}
 use Rattle.loc_edges.specs.Small.{IsSmallTable}
 
 -- the points of all rings, as often as they stand there
-abbrev pub points_of : List Rings → List Point
-points_of layer = flat_map (λ (rings : Rings). flat_map (λ ring. ring) rings) layer
-
--- at most 2^20 ring points and 2^18 features
-pub record IsSmallLayer (layer : List Rings) : Type 0 where
-  pub few_points : length (points_of layer) ≤ 2 ^ 20
-  pub few_features : length layer ≤ 2 ^ 18
+abbrev pub written_points : List Rings → List Point
+written_points layer = flat_map (λ (rings : Rings). flat_map (λ ring. ring) rings) layer
 
 -- these are the edges of the table by their points
 pub record AreEdges (t : Table) (edges : List Edge) : Type 0 where

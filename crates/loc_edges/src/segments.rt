@@ -4,7 +4,7 @@ ghost use Rattle.std.specs.Prelude.{◌≡◌, ◌++◌, All, OnOk, IfOk};
 ghost use Rattle.loc_spec_plane.specs.Rings.{ring_segments, segments};
 ghost use Rattle.loc_spec_text.specs.Reading.{all_rings};
 ghost use Rattle.loc_rings.specs.Values.{IsRing};
-ghost use Rattle.loc_edges.specs.Layers.{layer_of};
+ghost use Rattle.loc_edges.specs.Layers.{layer_rings};
 ghost use Rattle.loc_edges.specs.Tagged.{tagged_by, tagged_from};
 
 use loc_geom::{Edge, Point};
@@ -47,8 +47,8 @@ pub(crate) fn tagged_segments(
     alloc: Global,
     features: &[Feature],
 ) -> Result<Vec<(Edge, usize)>, AllocError>
-    ensures value { IfOk result (λ tagged. tagged.items ≡ tagged_from 0 (layer_of features.now)) }
-    ensures closed { IfOk result (λ _. All (All IsRing) (layer_of features.now)) }
+    ensures value { IfOk result (λ tagged. tagged.items ≡ tagged_from 0 (layer_rings features.now)) }
+    ensures closed { IfOk result (λ _. All (All IsRing) (layer_rings features.now)) }
 {
     let mut tagged = Vec::new(alloc);
     for (n, feature) in features.iter().enumerate() {

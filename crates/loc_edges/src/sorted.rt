@@ -6,7 +6,7 @@ ghost use Rattle.loc_spec_plane.specs.Points.{Edge as EdgeOf, before, edge_befor
 ghost use Rattle.loc_spec_plane.specs.Lists.{sorted_set};
 ghost use Rattle.loc_spec_plane.specs.Tables.{pieces_of, whole};
 ghost use Rattle.loc_rings.specs.Values.{IsRing};
-ghost use Rattle.loc_edges.specs.Layers.{layer_of};
+ghost use Rattle.loc_edges.specs.Layers.{layer_rings};
 ghost use Rattle.loc_edges.specs.Tagged.{segments_in, features_of, tagged_from};
 
 use crate::segments::tagged_segments;
@@ -28,11 +28,11 @@ pub(crate) fn sorted_segments(
     alloc: Global,
     features: &[Feature],
 ) -> Result<Vec<(Edge, usize)>, AllocError>
-    ensures closed { IfOk result (λ _. All (All IsRing) (layer_of features.now)) }
+    ensures closed { IfOk result (λ _. All (All IsRing) (layer_rings features.now)) }
     ensures few { IfOk result (λ tagged. All (λ (t : EdgeOf × ℕ). t.1 < length features.now) tagged.items) }
     ensures in_order { IfOk result (λ tagged. IsSortedBy edge_before (segments_in tagged.items)) }
-    ensures edges { IfOk result (λ tagged. sorted_set edge_before (segments_in tagged.items) ≡ pieces_of whole (layer_of features.now)) }
-    ensures features { IfOk result (λ tagged. (e : EdgeOf) → features_of tagged.items e ≡ features_of (tagged_from 0 (layer_of features.now)) e) }
+    ensures edges { IfOk result (λ tagged. sorted_set edge_before (segments_in tagged.items) ≡ pieces_of whole (layer_rings features.now)) }
+    ensures features { IfOk result (λ tagged. (e : EdgeOf) → features_of tagged.items e ≡ features_of (tagged_from 0 (layer_rings features.now)) e) }
 {
     let mut tagged = tagged_segments(alloc, features)?;
     tagged.sort_by_key(|segment| segment.0)?;

@@ -8,7 +8,7 @@ ghost use Rattle.loc_spec_plane.specs.Rings.{touches, covers};
 ghost use Rattle.loc_spec_plane.specs.Tables.{IsTable, AllEnds, AllEven, table_of, corner as corner_of, edge as edge_of, lo_of, hi_of, edge_numbers, mark_before, pair_before, touches_by_marks, covers_by_marks};
 ghost use Rattle.loc_edges.specs.Ending.{IsBeginning};
 ghost use Rattle.loc_edges.specs.Kept.{AreEdges};
-ghost use Rattle.loc_edges.specs.Layers.{layer_of};
+ghost use Rattle.loc_edges.specs.Layers.{layer_rings};
 ghost use Rattle.loc_edges.specs.Parts.{GoesUpBelow, edge_mark_before, table_of_parts, table_with};
 ghost use Rattle.loc_edges.specs.Small.{IsSmallTable};
 
@@ -52,13 +52,13 @@ impl EdgeTable {
     /// The table of a layer. Every corner is an end of an edge, every feature has an even number of odd marks at each corner, and it touches
     /// and covers by its marks what it touches and covers by its rings. It takes time in the order of n log n for n written points.
     pub fn make(alloc: Global, layer: &Layer) -> Result<EdgeTable, AllocError>
-        ensures ok { IfOk result (λ table. table ≡ table_of (layer_of layer.now)) }
+        ensures ok { IfOk result (λ table. table ≡ table_of (layer_rings layer.now)) }
         ensures in_order { IfOk result IsTable }
         ensures all_ends { IfOk result AllEnds }
         ensures all_even { IfOk result AllEven }
         ensures features { IfOk result (λ table. feature_count table ≤ length layer.now) }
-        ensures touching { IfOk result (λ table. (f : ℕ) (p : PointOf) → touches_by_marks table f p ≡ touches (get_or (layer_of layer.now) f []) p) }
-        ensures covering { IfOk result (λ table. (f : ℕ) (p : PointOf) → covers_by_marks table f p ≡ covers (get_or (layer_of layer.now) f []) p) }
+        ensures touching { IfOk result (λ table. (f : ℕ) (p : PointOf) → touches_by_marks table f p ≡ touches (get_or (layer_rings layer.now) f []) p) }
+        ensures covering { IfOk result (λ table. (f : ℕ) (p : PointOf) → covers_by_marks table f p ≡ covers (get_or (layer_rings layer.now) f []) p) }
     {
         let features = layer.features();
         let tagged = sorted_segments(alloc, features)?;

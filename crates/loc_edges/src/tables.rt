@@ -5,7 +5,7 @@ ghost use Rattle.loc_spec_plane.specs.Points.{before, edge_before};
 ghost use Rattle.loc_spec_plane.specs.Lists.{is_rising, sorted_set};
 ghost use Rattle.loc_spec_plane.specs.Rings.{Rings};
 ghost use Rattle.loc_spec_plane.specs.Tables.{layer_corners, pieces_of, whole};
-ghost use Rattle.loc_edges.specs.Layers.{layer_of, ends_of};
+ghost use Rattle.loc_edges.specs.Layers.{layer_rings, ends_of};
 
 use crate::grouped::distinct_edges;
 use crate::sorted::{sorted_points, sorted_segments};
@@ -27,7 +27,7 @@ fn ends(alloc: Global, edges: &[Edge]) -> Result<Vec<Point>, AllocError>
 
 /// The edges of a layer: the segments of its features in order, each once.
 pub fn edges(alloc: Global, features: &[Feature]) -> Result<Vec<Edge>, AllocError>
-    ensures value { IfOk result (λ edges. edges.items ≡ pieces_of whole (layer_of features.now)) }
+    ensures value { IfOk result (λ edges. edges.items ≡ pieces_of whole (layer_rings features.now)) }
     ensures rise { IfOk result (λ edges. IsTrue (is_rising edge_before edges.items)) }
 {
     let tagged = sorted_segments(alloc, features)?;

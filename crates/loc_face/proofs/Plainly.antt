@@ -1,5 +1,6 @@
 -- The course of a face writes at once and makes no file.
 use Rattle.std.proofs.Common.{ℕ, Option, Some, None}
+use Rattle.loc_spec_text.specs.Bytes.{Text}
 use Rattle.loc_spec_plane.specs.declared.Place.{Place}
 use Rattle.loc_spec_plane.specs.declared.Place.TheVariants.{Corner, Border, Area}
 use Rattle.loc_spec_plane.specs.Points.{Point}
@@ -8,7 +9,6 @@ use Rattle.loc_spec_text.specs.Points.{point_of}
 use Rattle.loc_csvform.specs.Layer.{layer_of}
 use Rattle.loc_place.specs.Found.{place_at}
 use Rattle.loc_treeidx.specs.Steps.{most_steps}
-use Rattle.loc_course.specs.Courses.{Text}
 use Rattle.loc_course.specs.Outcomes.{exactly}
 use Rattle.loc_course.specs.Sentences.{IsPlain}
 use Rattle.loc_course.proofs.Plain.{plain_reads, plain_refuses, plain_searches, plain_writes}

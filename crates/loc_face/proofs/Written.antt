@@ -1,5 +1,6 @@
 -- The text of the face above a floor, as it is written, and the lines that refuse a point.
 use Rattle.std.proofs.Common.{◌≡◌, ℕ, ◌+◌, ◌*◌, ◌<◌, ◌≤◌, Option, Some, None, Result, Ok, Err, refl, sym, ◌∙◌, ap, subst, arith}
+use Rattle.loc_spec_text.specs.Bytes.{Text}
 use Rattle.loc_io.specs.Meaning.{Meaning}
 use Rattle.loc_io.specs.Streams.{Stream, TakesAll}
 use Rattle.loc_spec_plane.specs.declared.Place.{Place}
@@ -14,7 +15,7 @@ use Rattle.loc_faces.specs.FaceLists.{FaceLists, AreFaces, face_in}
 use Rattle.loc_faces.specs.FaceTexts.{face_text}
 use Rattle.loc_faces.specs.Subdivision.{next_at}
 use Rattle.loc_faces.proofs.Computed.{face_same, next_same}
-use Rattle.loc_course.specs.Courses.{Text, Stopped, refused, unwritten, refuses, searches, writes}
+use Rattle.loc_course.specs.Courses.{Stopped, refused, unwritten, refuses, searches, writes}
 use Rattle.loc_course.specs.Following.{Follows, moment, refuses_by, searches_by, writes_by}
 use Rattle.loc_course.specs.Outcomes.{exactly}
 use Rattle.loc_course.proofs.Told.{exactly_it}

@@ -3,6 +3,7 @@
 --   place_course, point_course, face_course  what is done at a place, for a point, and for a word behind a layer
 use Rattle.std.specs.Prelude.{ℕ, ◌++◌, Option, Some, None, codes}
 use Rattle.std.specs.Fmt.{decimal}
+use Rattle.loc_spec_text.specs.Bytes.{Text}
 use Rattle.loc_spec_plane.specs.declared.Place.{Place}
 use Rattle.loc_spec_plane.specs.declared.Place.TheVariants.{Corner, Border, Area}
 use Rattle.loc_spec_plane.specs.Points.{Point}
@@ -13,7 +14,7 @@ use Rattle.loc_place.specs.Found.{place_at}
 use Rattle.loc_treeidx.specs.Steps.{most_steps}
 use Rattle.loc_faces.specs.FaceTexts.{face_text}
 use Rattle.loc_faces.specs.Subdivision.{face_at, next_at}
-use Rattle.loc_course.specs.Courses.{Text, Course, refuses, searches, writes}
+use Rattle.loc_course.specs.Courses.{Course, refuses, searches, writes}
 use Rattle.loc_course.specs.Outcomes.{exactly}
 use Rattle.loc_maps.specs.Located.{table_in}
 use Rattle.loc_maps.specs.MapCourses.{LayerFile, accepted_course, layer_course}

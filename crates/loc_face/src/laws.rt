@@ -1,6 +1,6 @@
 //! What the course of a face is.
 
-ghost use Rattle.loc_course.specs.Courses.{Text};
+ghost use Rattle.loc_spec_text.specs.Bytes.{Text};
 ghost use Rattle.loc_course.specs.Sentences.{IsPlain};
 ghost use Rattle.loc_maps.specs.MapCourses.{LayerFile};
 ghost use Rattle.loc_face.specs.FaceCourses.{face_course};

@@ -1,9 +1,8 @@
 -- The nexts and the faces of a table are those that are computed.
-use Rattle.std.proofs.Common.{◌≡◌, ℕ, zero, suc, ◌+◌, ◌*◌, ◌<◌, ◌≤◌, true, length, Option, Some, None, refl, sym, ◌∙◌, ap, subst, inl, inr, arith}
-use Rattle.std.specs.Prelude.{nat_lt, fold}
-use Rattle.std.specs.List.{range_with_len}
+use Rattle.std.proofs.Common.{◌≡◌, ℕ, zero, suc, ◌*◌, ◌<◌, ◌≤◌, true, length, Option, Some, None, refl, sym, ◌∙◌, ap, subst, inl, inr, arith}
+use Rattle.std.specs.Prelude.{nat_lt}
 use Rattle.std.proofs.Math.Path.{fun_ext}
-use Rattle.std.proofs.lemmas.Bool.{cases_Bool, cases_lt, cond-true, cond-false, lt-ltb, le-ltb, not-true, not_from_false, both_ways, and_from, and_parts}
+use Rattle.std.proofs.lemmas.Bool.{cases_Bool, cases_lt, cond-true, cond-false, lt-ltb, le-ltb}
 use Rattle.std.proofs.lemmas.List.{get_or_past}
 use Rattle.loc_spec_plane.specs.Points.{Point}
 use Rattle.loc_spec_plane.specs.Tables.{Table, corner}
@@ -12,9 +11,8 @@ use Rattle.loc_spec_plane.specs.HalfEdges.{half_edge_count, edge_of, leaving, ta
 use Rattle.loc_spec_plane.specs.Lists.{before_round}
 use Rattle.loc_spec_plane.specs.Faces.{face_above, hangs, least_corner, outer_number}
 use Rattle.loc_laws_order.proofs.Unique.{next-unique}
-use Rattle.loc_place.specs.Found.{is_under, with_edge}
+use Rattle.loc_place.proofs.FoundPlace.{floor_folded}
 use Rattle.loc_place.specs.Planar.{IsPlanar}
-use Rattle.loc_place.proofs.Highest.{IsHighestAmong, highest_first, highest_more, under_fits}
 use Rattle.loc_half.specs.HalfEdgeLists.{HalfEdgeLists, AreHalfEdges, next_in}
 use Rattle.loc_half.proofs.Halves.{origin-up}
 use Rattle.loc_faces.specs.FaceLists.{FaceLists, AreFaces, FitsTable, face_in}
@@ -43,21 +41,9 @@ face_past t h past = past_is (half_edge_count t) (face_from t (length t.corners)
 
 module _ (t : Table) (planar : IsPlanar t) where
   -- ---- the floor of a point
-  module _ (p : Point) where
-    highest_from : (m n : ℕ) (highest : Option ℕ) → n + m ≡ length t.ends → IsHighestAmong t p n highest → IsHighestAmong t p (length t.ends) (fold (with_edge t p) highest (range_with_len n m))
-    highest_from zero n highest all best = (let e : n ≡ length t.ends = omega arith in subst (λ k. IsHighestAmong t p k highest) e best)
-    highest_from (suc m) n highest all best = highest_from m (n + 1) (with_edge t p highest n) (omega arith) (highest_more t p planar n highest best)
-
-    floor_from : (floor : Option ℕ) → IsHighestAmong t p (length t.ends) floor → IsFloor t p floor
-    floor_from None none = λ e. elim (cases_Bool (is_under t p e)) [
-      | inl under ↦ absurd (both_ways _ (not-true _ (none e)) (and_from (nat_lt e (length t.ends)) (is_under t p e) (lt-ltb e (length t.ends) (under_fits t p e under)) under))
-      | inr off ↦ not_from_false _ off
-    ]
-    floor_from (Some h) best = ((and_parts (nat_lt h (length t.ends)) (is_under t p h) best.0).1, λ e under other. best.1 e (and_from (nat_lt e (length t.ends)) (is_under t p e) (lt-ltb e (length t.ends) (under_fits t p e under)) under) other)
-
-    -- the computed floor is the floor
-    pub floor_at_is : IsFloor t p (floor_at t p)
-    floor_at_is = floor_from (floor_at t p) (highest_from (length t.ends) 0 None (omega arith) (highest_first t p))
+  -- the computed floor is the floor
+  pub floor_at_is : (p : Point) → IsFloor t p (floor_at t p)
+  floor_at_is p = floor_folded t p planar
 
   -- ---- the nexts
   module _ (half : HalfEdgeLists) (are : AreHalfEdges t half) where
@@ -81,21 +67,13 @@ module _ (t : Table) (planar : IsPlanar t) where
       above_steps k c None lt le is known = refl
       above_steps k c (Some e) lt le is known =
           let begins = floor_begins t planar.in_order c e lt is in
-          let fits = begins.0 in
-          let less = begins.1 in
-          let edge_lt : 2 * e < half_edge_count t = omega (arith, fits) in
-          let low = low_origin t planar.in_order half are (2 * e) edge_lt in
-          let at = origin-up t e in
-          let same = low_at (2 * e) in
-          known (2 * e) edge_lt (omega (arith, low, at, same, less, le))
+          let edge_lt : 2 * e < half_edge_count t = omega (arith, begins.0) in
+          known (2 * e) edge_lt (omega (arith, low_origin t planar.in_order half are (2 * e) edge_lt, origin-up t e, low_at (2 * e), begins.1, le))
 
       by_steps : (k h : ℕ) → h < half_edge_count t → least_corner t (next_at t) h < k → face_in lists h ≡ face_from t k h
       by_steps zero h lt less = absurd (omega arith)
       by_steps (suc k) h lt less =
-          let c = least_corner t (next_at t) h in
-          let low = low_fits t planar.in_order half are h lt in
-          let same = low_at h in
-          let fits : least_corner t (next_at t) h < length t.corners = omega (arith, low, same) in
+          let fits : least_corner t (next_at t) h < length t.corners = omega (arith, low_fits t planar.in_order half are h lt, low_at h) in
           let known = λ (g : ℕ) (lt_g : g < half_edge_count t) (less_g : least_corner t (next_at t) g < k). by_steps k g lt_g less_g in
           elim (cases_Bool (hangs t (next_at t) h)) [
             | inl on ↦ by_next.faces.hanging h (floor_at t (corner t (least_corner t (next_at t) h))) lt on (floor_at_is (corner t (least_corner t (next_at t) h)))

@@ -18,14 +18,10 @@ pub record IsHangingSoFar (t : Table) (half : HalfEdgeLists) (least : List ℕ) 
   pub met : (l : ℕ) → l < half_edge_count t → get_or hanging l false ≡ true → (g : ℕ) × (g < i) × (leader_in half g ≡ l) × (passes_low t half least g ≡ true)
 
 module _ (t : Table) (ok : IsTable t) (half : HalfEdgeLists) (are : AreHalfEdges t half) where
-  pub hanging_start : (least : List ℕ) (hanging : List Bool) → length hanging ≡ half_edge_count t → ((l : ℕ) → l < half_edge_count t → get_or hanging l false ≡ false) → IsHangingSoFar t half least hanging 0
-  hanging_start least hanging size bare = record { as_many = size; noted = λ g lt. absurd (omega arith); met = λ l lt note. absurd (both_ways (get_or hanging l false) (bare l lt) note) }
-
   -- one that passes is noted
   pub hanging_noted : (least : List ℕ) (hanging : List Bool) (i : ℕ) → i < half_edge_count t → passes_low t half least i ≡ true → IsHangingSoFar t half least hanging i → IsHangingSoFar t half least (set hanging (leader_in half i) true) (i + 1)
   hanging_noted least hanging i lt pass so_far =
-      let size = so_far.as_many in
-      let here : leader_in half i < length hanging = (let at = leads_within t ok half are i lt in omega (arith, at, size)) in
+      let here : leader_in half i < length hanging = (let at = leads_within t ok half are i lt in omega (arith, at, so_far.as_many)) in
       record {
         as_many = length-set hanging (leader_in half i) true ∙ so_far.as_many;
         noted = λ g less passed. elim (cases_eq (leader_in half g) (leader_in half i)) [
@@ -66,15 +62,13 @@ module _ (t : Table) (ok : IsTable t) (half : HalfEdgeLists) (are : AreHalfEdges
       forth : (h : ℕ) → h < half_edge_count t → get_or hanging (leader_in half h) false ≡ true → hangs t (next_in half) h ≡ true
       forth h lt note =
           let found = so_far.met (leader_in half h) (leads_within t ok half are h lt) note in
-          let early = found.1 in
           any_member (λ g. (target t g == least_corner t (next_in half) h) && ((edge_of g == edge_of (next_in half g)) || lower_of t (edge_of g) (edge_of (next_in half g)))) found.0 (cycle t (next_in half) h)
-          (on_same t ok half are found.0 h (omega (arith, early, few)) lt found.2)
+          (on_same t ok half are found.0 h (omega (arith, found.1, few)) lt found.2)
           (subst (λ c. ((target t found.0 == c) && ((edge_of found.0 == edge_of (next_in half found.0)) || lower_of t (edge_of found.0) (edge_of (next_in half found.0)))) ≡ true) (low_at found.0 h lt found.2) found.3)
 
       back : (h : ℕ) → h < half_edge_count t → hangs t (next_in half) h ≡ true → get_or hanging (leader_in half h) false ≡ true
       back h lt hung =
           let found = member_any (λ g. (target t g == least_corner t (next_in half) h) && ((edge_of g == edge_of (next_in half g)) || lower_of t (edge_of g) (edge_of (next_in half g)))) (cycle t (next_in half) h) hung in
           let on = same_on t ok half are found.0 h lt found.1 in
-          let within = on.0 in
-          subst (λ l. get_or hanging l false ≡ true) on.1 (so_far.noted found.0 (omega (arith, within, past))
+          subst (λ l. get_or hanging l false ≡ true) on.1 (so_far.noted found.0 (omega (arith, on.0, past))
           (subst (λ c. ((target t found.0 == c) && ((edge_of found.0 == edge_of (next_in half found.0)) || lower_of t (edge_of found.0) (edge_of (next_in half found.0)))) ≡ true) (sym (low_at found.0 h lt on.1)) found.2))

@@ -50,13 +50,8 @@ module _ (t : Table) (planar : IsPlanar t) where
   lesser : (c e : ℕ) → c < length t.corners → IsFloor t (corner t c) (Some e) → (2 * e < half_edge_count t) × (least_corner t (next_at t) (2 * e) < c)
   lesser c e lt is =
       let begins = floor_begins t planar.in_order c e lt is in
-      let inside = begins.0 in
-      let less = begins.1 in
-      let edge_lt : 2 * e < half_edge_count t = omega (arith, inside) in
-      let low = low_origin t planar.in_order halves are_halves (2 * e) edge_lt in
-      let at = origin-up t e in
-      let same = low_at (2 * e) in
-      (edge_lt, omega (arith, low, at, same, less))
+      let edge_lt : 2 * e < half_edge_count t = omega (arith, begins.0) in
+      (edge_lt, omega (arith, low_origin t planar.in_order halves are_halves (2 * e) edge_lt, origin-up t e, low_at (2 * e), begins.1))
 
   -- more steps than the least corner needs change nothing
   steady_above : (k m c : ℕ) (floor : Option ℕ) → c < length t.corners → IsFloor t (corner t c) floor → ((g : ℕ) → g < half_edge_count t → least_corner t (next_at t) g < c → face_from t k g ≡ face_from t m g) → face_above (face_from t k) floor ≡ face_above (face_from t m) floor
@@ -67,7 +62,6 @@ module _ (t : Table) (planar : IsPlanar t) where
   steady zero m h lt low_k low_m = absurd (omega arith)
   steady (suc k) zero h lt low_k low_m = absurd (omega arith)
   steady (suc k) (suc m) h lt low_k low_m =
-      let floor = floor_at t (corner t (least_corner t (next_at t) h)) in
       let known = λ (g : ℕ) (lt_g : g < half_edge_count t) (less_g : least_corner t (next_at t) g < least_corner t (next_at t) h). steady k m g lt_g (omega (arith, less_g, low_k)) (omega (arith, less_g, low_m)) in
       elim (cases_Bool (hangs t (next_at t) h)) [
         | inl on ↦ cond-true (hangs t (next_at t) h) (face_above (face_from t k) (floor_at t (corner t (least_corner t (next_at t) h)))) (outer_number t (next_at t) h) on
@@ -93,9 +87,8 @@ module _ (t : Table) (planar : IsPlanar t) where
       ∙ (ap (face_above (face_from t m)) (floor-unique t (corner t (least_corner t (next_at t) h)) (floor_at t (corner t (least_corner t (next_at t) h))) floor (floor_at_is t planar (corner t (least_corner t (next_at t) h))) is_floor)
       ∙ above_same (face_from t m) (face_at t) floor (λ e at.
       (let less = lesser (least_corner t (next_at t) h) e (fits h lt) (subst (IsFloor t (corner t (least_corner t (next_at t) h))) at is_floor) in
-      let low = less.1 in
       let inside = fits h lt in
-      steady m (length t.corners) (2 * e) less.0 (omega (arith, low, inside, is)) (omega (arith, low, inside)) ∙ sym (face_below t (2 * e) less.0)))))
+      steady m (length t.corners) (2 * e) less.0 (omega (arith, less.1, inside, is)) (omega (arith, less.1, inside)) ∙ sym (face_below t (2 * e) less.0)))))
 
   pub faces_are : IsFaces t (next_at t) (face_at t)
   faces_are = record { outer = λ h lt off. outer_is (length t.corners) h refl lt off; hanging = λ h floor lt on is. hanging_is (length t.corners) h floor refl lt on is }

@@ -1,5 +1,5 @@
 -- Leaders as they are noted: in range, and one for each cycle.
-use Rattle.std.proofs.Common.{◌≡◌, ℕ, ◌<◌, ◌≤◌, Bool, true, List, [], ◌∷◌, map, refl, sym, ◌∙◌, ap, subst, inl, inr, arith}
+use Rattle.std.proofs.Common.{◌≡◌, ℕ, ◌<◌, ◌≤◌, Bool, true, List, [], ◌∷◌, map, refl, sym, ◌∙◌, ap, inl, inr, arith}
 use Rattle.std.specs.Prelude.{◌==◌, All, filter, nat_lt}
 use Rattle.std.specs.List.{list_any}
 use Rattle.std.proofs.lemmas.Bool.{and_parts, ltb-true, or_cases, or_left, or_right, eqb-true, eq-eqb, true≢false}
@@ -9,6 +9,7 @@ use Rattle.loc_spec_plane.specs.Tables.{Table, IsTable}
 use Rattle.loc_spec_plane.specs.HalfEdges.{half_edge_count, cycle, leader}
 use Rattle.loc_laws_order.proofs.TableOrder.{numbers_within}
 use Rattle.loc_laws_order.proofs.Unique.{all-at}
+use Rattle.loc_laws_rays.proofs.Covering.{any-found}
 use Rattle.loc_laws_rays.proofs.Members.{is_in-filter}
 use Rattle.loc_half.specs.HalfEdgeLists.{HalfEdgeLists, AreHalfEdges, leader_in, next_in}
 use Rattle.loc_half.proofs.Orbits.{leader_within, same_cycle, in_cycle, leads_itself, cycle_within}
@@ -16,11 +17,7 @@ use Rattle.loc_half.proofs.Orbits.{leader_within, same_cycle, in_cycle, leads_it
 -- ---- lists
 -- a member that passes a test
 pub any_member : (p : ℕ → Bool) (n : ℕ) (ns : List ℕ) → is_in n ns ≡ true → p n ≡ true → list_any p ns ≡ true
-any_member p n [] here pass = absurd (true≢false (sym here))
-any_member p n (m ∷ ns) here pass = elim (or_cases (m == n) (is_in n ns) here) [
-  | inl first ↦ or_left (p m) (list_any p ns) (subst (λ k. p k ≡ true) (sym (eqb-true m n first)) pass)
-  | inr more ↦ or_right (p m) (list_any p ns) (any_member p n ns more pass)
-]
+any_member p n ns = any-found p ns n
 
 -- where some member passes there is one
 pub member_any : (p : ℕ → Bool) (ns : List ℕ) → list_any p ns ≡ true → (n : ℕ) × (is_in n ns ≡ true) × (p n ≡ true)

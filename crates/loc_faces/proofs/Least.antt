@@ -16,15 +16,10 @@ pub record IsLeastSoFar (t : Table) (half : HalfEdgeLists) (least : List ℕ) (i
   pub met : (l : ℕ) → l < half_edge_count t → (get_or least l 0 ≡ length t.corners) ⊎ ((g : ℕ) × (g < i) × (leader_in half g ≡ l) × (target t g ≡ get_or least l 0))
 
 module _ (t : Table) (ok : IsTable t) (half : HalfEdgeLists) (are : AreHalfEdges t half) where
-  -- nothing looked at
-  pub least_start : (least : List ℕ) → length least ≡ half_edge_count t → ((l : ℕ) → l < half_edge_count t → get_or least l 0 ≡ length t.corners) → IsLeastSoFar t half least 0
-  least_start least size bare = record { as_many = size; under = λ g lt. absurd (omega arith); met = λ l lt. inl (bare l lt) }
-
   -- one half-edge more
   pub least_more : (least : List ℕ) (i v : ℕ) → i < half_edge_count t → v ≡ min (get_or least (leader_in half i) 0) (target t i) → IsLeastSoFar t half least i → IsLeastSoFar t half (set least (leader_in half i) v) (i + 1)
   least_more least i v lt is so_far =
-      let size = so_far.as_many in
-      let here : leader_in half i < length least = (let at = leads_within t ok half are i lt in omega (arith, at, size)) in
+      let here : leader_in half i < length least = (let at = leads_within t ok half are i lt in omega (arith, at, so_far.as_many)) in
       let new : get_or (set least (leader_in half i) v) (leader_in half i) 0 ≡ v = get_or-set_same least (leader_in half i) v 0 here in
       record {
         as_many = length-set least (leader_in half i) v ∙ so_far.as_many;
@@ -64,16 +59,13 @@ module _ (t : Table) (ok : IsTable t) (half : HalfEdgeLists) (are : AreHalfEdges
       at_most : (h : ℕ) → h < half_edge_count t → get_or least (leader_in half h) 0 ≤ least_corner t (next_in half) h
       at_most h lt = le-least (target t) (get_or least (leader_in half h) 0) (target t h) (cycle t (next_in half) h) (so_far.under h (omega (arith, lt, past)))
           (λ g here. (let on = same_on t ok half are g h lt here in
-          let within = on.0 in
-          let under = so_far.under g (omega (arith, within, past)) in
           let e : get_or least (leader_in half g) 0 ≡ get_or least (leader_in half h) 0 = ap (λ l. get_or least l 0) on.1 in
-          omega (arith, under, e)))
+          omega (arith, so_far.under g (omega (arith, on.0, past)), e)))
 
       at_least : (h : ℕ) → h < half_edge_count t → least_corner t (next_in half) h ≤ get_or least (leader_in half h) 0
       at_least h lt = elim (so_far.met (leader_in half h) (leads_within t ok half are h lt)) [
         | inl bare ↦ (let under = so_far.under h (omega (arith, lt, past)) in let fits = target-fits t ok h lt in absurd (omega (arith, bare, under, fits)))
         | inr found ↦ (let early = found.1 in
-            let at = found.3 in
             let le = least-le (target t) (target t h) found.0 (cycle t (next_in half) h) (on_same t ok half are found.0 h (omega (arith, early, few)) lt found.2) in
-            omega (arith, le, at))
+            omega (arith, le, found.3))
       ]

@@ -44,9 +44,8 @@ module _ (p : ℕ → Bool) (k : ℕ) where
       earlier (suc n) h lt pass = subst (λ m. count_by p (numbers h) < length (filter p (numbers m))) (add-one n) (elim (cases_eq h n) [
         | inl last ↦ (let passes : p n ≡ true = subst (λ m. p m ≡ true) last pass in
             let long = ap length (filter_more p n passes) ∙ length-append (filter p (numbers n)) (n ∷ []) in
-            let many = length-filter p (numbers n) in
             let same : count_by p (numbers h) ≡ count_by p (numbers n) = ap (λ m. count_by p (numbers m)) last in
-            omega (arith, long, many, same))
+            omega (arith, long, length-filter p (numbers n), same))
         | inr other ↦ (let ne : h ≢ n = other in let rest = earlier n h (omega (arith, ne, lt)) pass in elim (cases_Bool (p n)) [
           | inl passes ↦ (let long = ap length (filter_more p n passes) ∙ length-append (filter p (numbers n)) (n ∷ []) in omega (arith, rest, long))
           | inr fails ↦ (let long = ap length (filter_past p n fails) in omega (arith, rest, long))
@@ -106,8 +105,7 @@ filter_within p n = all_members (λ h. h < n) (filter p (numbers n)) (λ h here.
 pub outers_many : (t : Table) (next : ℕ → ℕ) (lists : FaceLists) → AreFaces t next lists → length lists.outers + 1 ≡ lists.count
 outers_many t next lists are =
     let listed = ap length are.outers ∙ length-filter (leads_face t next) (numbers (half_edge_count t)) in
-    let count = are.count in
-    omega (arith, listed, count)
+    omega (arith, listed, are.count)
 
 -- each face but face 0 has one outer cycle
 pub outer_many : (t : Table) (next : ℕ → ℕ) (lists : FaceLists) (are : AreFaces t next lists) (f : ℕ) → 0 < f → f < lists.count → length (outer_leaders t next (face_in lists) f) ≡ 1
@@ -125,9 +123,8 @@ inner_within t next face f = filter_within (λ h. leads_hanging t next h && (fac
 pub outer_is : (t : Table) (next : ℕ → ℕ) (lists : FaceLists) (are : AreFaces t next lists) (f : ℕ) (slice : List ℕ) → f < lists.count → (f ≡ 0 → slice ≡ []) → (0 < f → slice ≡ get_or lists.outers (f - 1) 0 ∷ []) → slice ≡ outer_leaders t next (face_in lists) f
 outer_is t next lists are zero slice below none one = none refl ∙ sym (no_outer t next lists are)
 outer_is t next lists are (suc k) slice below none one =
-    let many = outers_many t next lists are in
     let at : suc k - 1 ≡ k = omega arith in
-    one (omega arith) ∙ (ap (λ i. get_or lists.outers i 0 ∷ []) at ∙ sym (one_outer t next lists are k (omega (arith, many, below))))
+    one (omega arith) ∙ (ap (λ i. get_or lists.outers i 0 ∷ []) at ∙ sym (one_outer t next lists are k (omega (arith, outers_many t next lists are, below))))
 
 -- the row of the hanging cycles' leaders
 pub inner_is : (t : Table) (next : ℕ → ℕ) (lists : FaceLists) (are : AreFaces t next lists) (f : ℕ) (row : List ℕ) → f < lists.count → slice_get lists.inner f ≡ Some row → row ≡ inner_leaders t next (face_in lists) f

@@ -1,16 +1,18 @@
 -- Hanging cycles, in the order of their least corners: the floor of a corner begins before it, so its cycle has a lesser corner, and its face stays.
 use Rattle.std.proofs.Common.{◌≡◌, ◌≢◌, ℕ, ◌+◌, ◌*◌, ◌<◌, ◌≤◌, Bool, true, false, ◌&&◌, List, length, get_or, set, Option, Some, None, refl, sym, ◌∙◌, ap, subst, inl, inr, arith, get_or-set_same, get_or-set_other, length-set}
-use Rattle.std.specs.Prelude.{◌==◌, ◌||◌, nat_lt}
-use Rattle.std.proofs.lemmas.Bool.{cases_eq, cases_lt, or_cases, and_parts, and_from, both_ways, eq-eqb, eqb-true, ltb-true, not-true}
+use Rattle.std.specs.Prelude.{◌==◌, ◌||◌}
+use Rattle.std.proofs.lemmas.Bool.{cases_eq, cases_lt, and_parts, and_from, both_ways, eq-eqb, eqb-true, not-true}
 use Rattle.loc_spec_plane.specs.Points.{before, same_point, up_to, is_above}
-use Rattle.loc_spec_plane.specs.Tables.{Table, IsTable, corner, edge, lo_of, hi_of, pair_before}
-use Rattle.loc_spec_plane.specs.Places.{IsFloor, alive, alive_at, is_edge, lower_of}
+use Rattle.loc_spec_plane.specs.Tables.{Table, IsTable, corner, edge, lo_of, hi_of}
+use Rattle.loc_spec_plane.specs.Places.{IsFloor, alive_at, lower_of}
 use Rattle.loc_spec_plane.specs.HalfEdges.{half_edge_count, cycle, edge_of, origin, target}
 use Rattle.loc_spec_plane.specs.Faces.{face_above, hangs, least_corner}
 use Rattle.loc_laws_order.proofs.Sides.{above-not_low, same_point_refl}
-use Rattle.loc_laws_order.proofs.TableOrder.{corner_before, rises}
+use Rattle.loc_laws_order.proofs.AliveAt.{alive_parts}
+use Rattle.loc_laws_order.proofs.TableOrder.{corner_before}
 use Rattle.loc_edges.specs.Floors.{FloorLists, AreFloors}
 use Rattle.loc_half.specs.HalfEdgeLists.{HalfEdgeLists, AreHalfEdges, leader_in, next_in}
+use Rattle.loc_sweep.proofs.EdgesComing.{lo_rises}
 use Rattle.loc_half.proofs.Halves.{either_way, edge-fits, origin-up, target-down, target-up, target-fits}
 use Rattle.loc_half.proofs.Orbits.{comes_from, leaves_there}
 use Rattle.loc_faces.specs.Cycles.{AreHanging, AreLeast, face_by}
@@ -42,19 +44,16 @@ module _ (t : Table) (ok : IsTable t) where
   pub floor_begins : (c f : ℕ) → c < length t.corners → IsFloor t (corner t c) (Some f) → (f < length t.ends) × (lo_of t f < c)
   floor_begins c f lt floor =
       let both = and_parts (alive_at t (corner t c) f) (is_above (edge t f) (corner t c)) floor.0 in
-      let lives = and_parts (is_edge t f) (alive (edge t f) (corner t c)) both.0 in
-      let fits : f < length t.ends = ltb-true f (length t.ends) lives.0 in
+      let lives = alive_parts t (corner t c) f both.0 in
       let from = and_parts (up_to (corner t (lo_of t f)) (corner t c)) (before (corner t c) (corner t (hi_of t f))) lives.1 in (
-        fits,
+        lives.0,
         elim (cases_lt (lo_of t f) c) [
           | inl less ↦ less
           | inr past ↦ elim (cases_eq c (lo_of t f)) [
             | inl same ↦ absurd (both_ways (same_point (corner t c) (corner t (lo_of t f))) (above-not_low (edge t f) (corner t c) both.1) (subst (λ k. same_point (corner t c) (corner t k) ≡ true) same (same_point_refl (corner t c))))
             | inr other ↦ (let ne : c ≢ lo_of t f = other in
-                let up = ok.goes_up f fits in
-                let low = up.0 in
-                let high = up.1 in
-                absurd (both_ways (before (corner t c) (corner t (lo_of t f))) (not-true (before (corner t c) (corner t (lo_of t f))) from.0) (corner_before t ok c (lo_of t f) (omega (arith, past, ne)) (omega (arith, low, high)))))
+                let up = ok.goes_up f lives.0 in
+                absurd (both_ways (before (corner t c) (corner t (lo_of t f))) (not-true (before (corner t c) (corner t (lo_of t f))) from.0) (corner_before t ok c (lo_of t f) (omega (arith, past, ne)) (omega (arith, up.0, up.1)))))
           ]
         ],
       )
@@ -63,14 +62,8 @@ module _ (t : Table) (ok : IsTable t) where
   lows_rise : (e k : ℕ) → e ≤ k → k < length t.ends → lo_of t e ≤ lo_of t k
   lows_rise e k le lt = elim (cases_eq e k) [
     | inl same ↦ (let is : lo_of t e ≡ lo_of t k = ap (lo_of t) same in omega (arith, is))
-    | inr other ↦ (let ne : e ≢ k = other in by (rises pair_before (0, 0) t.ends e k ok.edges_rise (omega (arith, le, ne)) lt))
+    | inr other ↦ (let ne : e ≢ k = other in lo_rises t ok e k (omega (arith, le, ne)) lt)
   ]
-    where
-      by : pair_before (get_or t.ends e (0, 0)) (get_or t.ends k (0, 0)) ≡ true → lo_of t e ≤ lo_of t k
-      by before_k = elim (or_cases (nat_lt (lo_of t e) (lo_of t k)) ((lo_of t e == lo_of t k) && nat_lt (hi_of t e) (hi_of t k)) before_k) [
-        | inl less ↦ (let lt : lo_of t e < lo_of t k = ltb-true (lo_of t e) (lo_of t k) less in omega arith)
-        | inr tied ↦ (let same : lo_of t e ≡ lo_of t k = eqb-true (lo_of t e) (lo_of t k) (and_parts (lo_of t e == lo_of t k) (nat_lt (hi_of t e) (hi_of t k)) tied).0 in omega arith)
-      ]
 
   module _ (half : HalfEdgeLists) (are : AreHalfEdges t half) where
     -- a cycle has a corner that is no greater than where one of its half-edges begins
@@ -79,8 +72,7 @@ module _ (t : Table) (ok : IsTable t) where
         let p = comes_from t ok half are h lt in
         let there : target t p.0 ≡ origin t h = sym (leaves_there t ok half are p.0 p.1) ∙ ap (origin t) p.2 in
         let on = on_same t ok half are p.0 h p.1 lt (leads t ok half are p.0 p.1 ∙ (p.3 ∙ sym (leads t ok half are h lt))) in
-        let le = least-le (target t) (target t h) p.0 (cycle t (next_in half) h) on in
-        omega (arith, le, there)
+        omega (arith, least-le (target t) (target t h) p.0 (cycle t (next_in half) h) on, there)
 
     -- and one of the table
     pub low_fits : (h : ℕ) → h < half_edge_count t → least_corner t (next_in half) h < length t.corners
@@ -95,7 +87,6 @@ module _ (t : Table) (ok : IsTable t) where
     pub comes_down : (h : ℕ) → h < half_edge_count t → hangs t (next_in half) h ≡ true → (e : ℕ) × (e < length t.ends) × (leader_in half (2 * e + 1) ≡ leader_in half h) × (lo_of t e ≡ least_corner t (next_in half) h)
     comes_down h lt hung =
         let found = member_any (λ g. (target t g == least_corner t (next_in half) h) && ((edge_of g == edge_of (next_in half g)) || lower_of t (edge_of g) (edge_of (next_in half g)))) (cycle t (next_in half) h) hung in
-        let g = found.0 in
         let on = same_on t ok half are found.0 h lt found.1 in
         let at : target t found.0 ≡ least_corner t (next_in half) h = eqb-true (target t found.0) (least_corner t (next_in half) h) (and_parts (target t found.0 == least_corner t (next_in half) h) ((edge_of found.0 == edge_of (next_in half found.0)) || lower_of t (edge_of found.0) (edge_of (next_in half found.0))) found.2).0 in
         let fits = edge-fits t found.0 on.0 in
@@ -103,16 +94,12 @@ module _ (t : Table) (ok : IsTable t) where
           | inl up ↦ (let goes = (ok.goes_up (edge_of found.0) fits).0 in
               let high : target t found.0 ≡ hi_of t (edge_of found.0) = ap (target t) up.1 ∙ target-up t (edge_of found.0) in
               let low : origin t found.0 ≡ lo_of t (edge_of found.0) = ap (origin t) up.1 ∙ origin-up t (edge_of found.0) in
-              let least = low_origin half are found.0 on.0 in
               let same : least_corner t (next_in half) found.0 ≡ least_corner t (next_in half) h = one_least found.0 h on.0 lt on.1 in
-              absurd (omega (arith, goes, high, low, least, same, at)))
+              absurd (omega (arith, goes, high, low, low_origin half are found.0 on.0, same, at)))
           | inr down ↦ (edge_of found.0, fits, ap (leader_in half) (sym down.1) ∙ on.1, sym (target-down t (edge_of found.0)) ∙ (ap (target t) (sym down.1) ∙ at))
         ]
 
     module _ (hanging : List Bool) (hung : AreHanging t half hanging) (floors : FloorLists) (floored : AreFloors t floors) where
-      pub nested_start : (old : List ℕ) → length old ≡ half_edge_count t → IsNestedSoFar t half floors old old 0
-      nested_start old size = record { as_many = size; outer = λ h lt off. refl; nested = λ h e lt on below. absurd (omega arith); within = λ most all. all }
-
       down : (k : ℕ) → k < length t.ends → 2 * k + 1 < half_edge_count t
       down k lt = omega (arith, lt)
 
@@ -146,14 +133,10 @@ module _ (t : Table) (ok : IsTable t) where
         apart_from_floor : (c e : ℕ) → c ≤ lo_of t k → c < length t.corners → get_or floors.of_corner c None ≡ Some e → leader_in half (2 * e) ≢ leader_in half (2 * k + 1)
         apart_from_floor c e le fits floor same =
             let begins = floor_begins c e fits (subst (IsFloor t (corner t c)) floor (floored.of_corner c fits)) in
-            let inside = begins.0 in
-            let less = begins.1 in
-            let edge_lt : 2 * e < half_edge_count t = omega (arith, inside) in
-            let least_e = low_origin half are (2 * e) edge_lt in
-            let is_lo = origin-up t e in
+            let edge_lt : 2 * e < half_edge_count t = omega (arith, begins.0) in
             let noted : get_or least (leader_in half (2 * e)) 0 ≡ least_corner t (next_in half) (2 * e) = lows.are (2 * e) edge_lt in
             let both : get_or least (leader_in half (2 * e)) 0 ≡ get_or least (leader_in half (2 * k + 1)) 0 = ap (λ l. get_or least l 0) same in
-            omega (arith, less, least_e, is_lo, noted, both, low, le)
+            omega (arith, begins.1, low_origin half are (2 * e) edge_lt, origin-up t e, noted, both, low, le)
 
         above_stays : (c : ℕ) → c ≤ lo_of t k → c < length t.corners → face_above (face_by half of_cycle) (get_or floors.of_corner c None) ≡ face_above (face_by half now) (get_or floors.of_corner c None)
         above_stays c le fits = above_same (face_by half of_cycle) (face_by half now) (get_or floors.of_corner c None)
@@ -183,8 +166,7 @@ module _ (t : Table) (ok : IsTable t) where
               ]);
           within = λ most all l. elim (cases_eq l (leader_in half (2 * k + 1))) [
             | inl one ↦ (let e : get_or now l 0 ≡ v = ap (λ n. get_or now n 0) one ∙ get_or-set_same of_cycle (leader_in half (2 * k + 1)) v 0 here in
-                let le = above_within (face_by half of_cycle) most (get_or floors.of_corner (lo_of t k) None) (λ h. so_far.within most all (leader_in half h)) in
-                omega (arith, e, is, le))
+                omega (arith, e, is, above_within (face_by half of_cycle) most (get_or floors.of_corner (lo_of t k) None) (λ h. so_far.within most all (leader_in half h))))
             | inr two ↦ (let e : get_or now l 0 ≡ get_or of_cycle l 0 = get_or-set_other of_cycle (leader_in half (2 * k + 1)) l v 0 two in let le = so_far.within most all l in omega (arith, e, le))
           ];
         }

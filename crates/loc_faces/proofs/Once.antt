@@ -62,10 +62,9 @@ module _ (t : Table) (ok : IsTable t) (half : HalfEdgeLists) (are : AreHalfEdges
   count_cycles (l ∷ ls) each =
       let first = each l (or_left (l == l) (is_in l ls) (eq-eqb l l refl)) in
       let apart : count_by (λ g. g == h) (flat_map (cycle t (next_in half)) (l ∷ ls)) ≡ count_by (λ g. g == h) (cycle t (next_in half) l) + count_by (λ g. g == h) (flat_map (cycle t (next_in half)) ls) = sum_by-append (λ g. one_if (g == h)) (cycle t (next_in half) l) (flat_map (cycle t (next_in half)) ls) in
-      let one = count_cycle l first.0 first.1 in
       let rest = count_cycles ls (λ k here. each k (or_right (l == k) (is_in k ls) here)) in
       let here : count_by (λ k. k == leader t (next_in half) h) (l ∷ ls) ≡ one_if (l == leader t (next_in half) h) + count_by (λ k. k == leader t (next_in half) h) ls = sum_by-cons (λ k. one_if (k == leader t (next_in half) h)) l ls in
-      omega (arith, apart, one, rest, here)
+      omega (arith, apart, count_cycle l first.0 first.1, rest, here)
 
   module _ (lists : FaceLists) (faces : AreFaces t (next_in half) lists) (f : ℕ) where
     leading : (p : ℕ → Bool) → ((l : ℕ) → p l ≡ true → (leader t (next_in half) l == l) ≡ true) → (l : ℕ) → is_in l (filter p (numbers (half_edge_count t))) ≡ true → (l < half_edge_count t) × (leader t (next_in half) l ≡ l)
@@ -94,16 +93,11 @@ module _ (t : Table) (ok : IsTable t) (half : HalfEdgeLists) (are : AreHalfEdges
 
     pub stands_once : count_by (λ g. g == h) (boundary t (next_in half) (face_in lists) f) ≡ one_if (face_in lists h == f)
     stands_once =
-        let l = leader t (next_in half) h in
         let within = leader_within t ok half are h lt in
         let leads : (leader t (next_in half) (leader t (next_in half) h) == leader t (next_in half) h) ≡ true = eq-eqb (leader t (next_in half) (leader t (next_in half) h)) (leader t (next_in half) h) (leads_itself t ok half are h lt) in
-        let all = count_cycles (outer_leaders t (next_in half) (face_in lists) f ++ inner_leaders t (next_in half) (face_in lists) f) each in
         let apart : count_by (λ k. k == leader t (next_in half) h) (outer_leaders t (next_in half) (face_in lists) f ++ inner_leaders t (next_in half) (face_in lists) f) ≡ count_by (λ k. k == leader t (next_in half) h) (outer_leaders t (next_in half) (face_in lists) f) + count_by (λ k. k == leader t (next_in half) h) (inner_leaders t (next_in half) (face_in lists) f) = sum_by-append (λ k. one_if (k == leader t (next_in half) h)) (outer_leaders t (next_in half) (face_in lists) f) (inner_leaders t (next_in half) (face_in lists) f) in
-        let outer = count_kept outer_test (half_edge_count t) (leader t (next_in half) h) within in
-        let inner = count_kept inner_test (half_edge_count t) (leader t (next_in half) h) within in
-        let one = one_test (leader t (next_in half) h) leads in
         let same : cond (face_in lists (leader t (next_in half) h) == f) 1 0 ≡ one_if (face_in lists h == f) = ap (λ k. one_if (k == f)) (sym (faces.one_each h lt)) in
-        omega (arith, all, apart, outer, inner, one, same)
+        omega (arith, count_cycles (outer_leaders t (next_in half) (face_in lists) f ++ inner_leaders t (next_in half) (face_in lists) f) each, apart, count_kept outer_test (half_edge_count t) (leader t (next_in half) h) within, count_kept inner_test (half_edge_count t) (leader t (next_in half) h) within, one_test (leader t (next_in half) h) leads, same)
       where
         each : (l : ℕ) → is_in l (outer_leaders t (next_in half) (face_in lists) f ++ inner_leaders t (next_in half) (face_in lists) f) ≡ true → (l < half_edge_count t) × (leader t (next_in half) l ≡ l)
         each l here = elim (or_cases (is_in l (outer_leaders t (next_in half) (face_in lists) f)) (is_in l (inner_leaders t (next_in half) (face_in lists) f)) (sym (list_any-append (λ m. m == l) (outer_leaders t (next_in half) (face_in lists) f) (inner_leaders t (next_in half) (face_in lists) f)) ∙ here)) [

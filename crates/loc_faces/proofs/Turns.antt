@@ -1,92 +1,20 @@
 -- The turn list of a corner, computed: the edges there, put in order one after another.
-use Rattle.std.proofs.Common.{◌≡◌, ℕ, ◌<◌, Bool, true, false, ◌&&◌, ◌||◌, List, [], ◌∷◌, length, filter, refl, sym, ◌∙◌, ap, ◌⊎◌, inl, inr}
+use Rattle.std.proofs.Common.{◌≡◌, ℕ, ◌<◌, true, false, ◌&&◌, length, filter, sym, ◌∙◌, ap, inl, inr}
 use Rattle.std.specs.Prelude.{◌==◌, nat_lt}
 use Rattle.std.specs.List.{list_all}
-use Rattle.std.proofs.lemmas.Bool.{and_parts, and_from, both_ways, cases_Bool, cases_eq, cases_lt, cond-true, cond-false, le-ltb, lt-ltb}
-use Rattle.loc_spec_plane.specs.Lists.{before_round, is_in, is_rising, numbers, with_member, sorted_set}
+use Rattle.std.proofs.lemmas.Bool.{and_from, both_ways, cases_eq, cases_lt, cond-true, le-ltb, lt-ltb}
+use Rattle.loc_spec_plane.specs.Lists.{before_round, is_in, numbers}
 use Rattle.loc_spec_plane.specs.Tables.{Table, IsTable, NoConflict, edge_numbers, ends_at}
 use Rattle.loc_spec_plane.specs.Places.{is_edge}
 use Rattle.loc_spec_plane.specs.HalfEdges.{comes_round, edge_of, half_edge_count, leaving, target, IsTurnList, IsNext}
 use Rattle.loc_spec_plane.proofs.Checks.{is_in-past}
+use Rattle.loc_laws_order.proofs.Kept.{all_filter}
+use Rattle.loc_laws_order.proofs.Sets.{set_of}
 use Rattle.loc_laws_order.proofs.TableOrder.{numbers_within}
 use Rattle.loc_laws_rays.proofs.Members.{in_numbers, is_in-filter}
 use Rattle.loc_half.specs.Turns.{stands_at}
-use Rattle.loc_half.proofs.Corners.{all_filter}
 use Rattle.loc_half.proofs.Turning.{turn-total, turn-trans}
 use Rattle.loc_faces.specs.Subdivision.{turn_list, next_at}
-
-swap : (a b c : Bool) → (a || (b || c)) ≡ (b || (a || c))
-swap true true c = refl
-swap true false c = refl
-swap false true c = refl
-swap false false c = refl
-
-again : (a c : Bool) → (a || (a || c)) ≡ (a || c)
-again true c = refl
-again false c = refl
-
--- an order of the numbers that pass a test
-module _ (p : ℕ → ℕ → Bool) (here : ℕ → Bool) (total : (a b : ℕ) → here a ≡ true → here b ≡ true → (a ≡ b → ⊥) → (p a b ≡ true) ⊎ (p b a ≡ true))
-    (trans : (a b c : ℕ) → here a ≡ true → here b ≡ true → here c ≡ true → p a b ≡ true → p b c ≡ true → p a c ≡ true) where
-  all_with : (q : ℕ → Bool) (x : ℕ) (ys : List ℕ) → q x ≡ true → list_all q ys ≡ true → list_all q (with_member p x ys) ≡ true
-  all_with q x [] qx all = and_from (q x) true qx refl
-  all_with q x (y ∷ ys) qx all = elim (cases_Bool (p x y)) [
-    | inl first ↦ ap (list_all q) (cond-true (p x y) _ _ first) ∙ and_from (q x) (list_all q (y ∷ ys)) qx all
-    | inr later ↦ ap (list_all q) (cond-false (p x y) _ _ later) ∙ elim (cases_Bool (p y x)) [
-      | inl behind ↦ (let parts = and_parts (q y) (list_all q ys) all in ap (list_all q) (cond-true (p y x) _ _ behind) ∙ and_from (q y) (list_all q (with_member p x ys)) parts.0 (all_with q x ys qx parts.1))
-      | inr same ↦ ap (list_all q) (cond-false (p y x) _ _ same) ∙ all
-    ]
-  ]
-
-  -- members are the old ones and the new one
-  in_with : (n x : ℕ) (ys : List ℕ) → here x ≡ true → list_all here ys ≡ true → is_in n (with_member p x ys) ≡ (x == n || is_in n ys)
-  in_with n x [] hx all = refl
-  in_with n x (y ∷ ys) hx all =
-      let parts = and_parts (here y) (list_all here ys) all in
-      elim (cases_Bool (p x y)) [
-        | inl first ↦ ap (is_in n) (cond-true (p x y) _ _ first)
-        | inr later ↦ ap (is_in n) (cond-false (p x y) _ _ later) ∙ elim (cases_Bool (p y x)) [
-          | inl behind ↦ ap (is_in n) (cond-true (p y x) _ _ behind) ∙ (ap (λ b. (y == n) || b) (in_with n x ys hx parts.1) ∙ swap (y == n) (x == n) (is_in n ys))
-          | inr neither ↦ ap (is_in n) (cond-false (p y x) _ _ neither) ∙ elim (cases_eq x y) [
-            | inl same ↦ sym (ap (λ k. (k == n) || ((y == n) || is_in n ys)) same ∙ again (y == n) (is_in n ys))
-            | inr other ↦ elim (total x y hx parts.0 other) [
-              | inl before ↦ absurd (both_ways (p x y) later before)
-              | inr after ↦ absurd (both_ways (p y x) neither after)
-            ]
-          ]
-        ]
-      ]
-
-  all_behind : (x y : ℕ) (ys : List ℕ) → here x ≡ true → here y ≡ true → list_all here ys ≡ true → p x y ≡ true → list_all (p y) ys ≡ true → list_all (p x) ys ≡ true
-  all_behind x y [] hx hy all first up = refl
-  all_behind x y (z ∷ zs) hx hy all first up =
-      let parts = and_parts (here z) (list_all here zs) all in
-      let ups = and_parts (p y z) (list_all (p y) zs) up in
-      and_from (p x z) (list_all (p x) zs) (trans x y z hx hy parts.0 first ups.0) (all_behind x y zs hx hy parts.1 first ups.1)
-
-  rising_with : (x : ℕ) (ys : List ℕ) → here x ≡ true → list_all here ys ≡ true → is_rising p ys ≡ true → is_rising p (with_member p x ys) ≡ true
-  rising_with x [] hx all up = refl
-  rising_with x (y ∷ ys) hx all up =
-      let parts = and_parts (here y) (list_all here ys) all in
-      let ups = and_parts (list_all (p y) ys) (is_rising p ys) up in
-      elim (cases_Bool (p x y)) [
-        | inl first ↦ ap (is_rising p) (cond-true (p x y) _ _ first) ∙ and_from (list_all (p x) (y ∷ ys)) (is_rising p (y ∷ ys)) (and_from (p x y) (list_all (p x) ys) first (all_behind x y ys hx parts.0 parts.1 first ups.0)) up
-        | inr later ↦ ap (is_rising p) (cond-false (p x y) _ _ later) ∙ elim (cases_Bool (p y x)) [
-          | inl behind ↦ ap (is_rising p) (cond-true (p y x) _ _ behind) ∙ and_from (list_all (p y) (with_member p x ys)) (is_rising p (with_member p x ys)) (all_with (p y) x ys behind ups.0) (rising_with x ys hx parts.1 ups.1)
-          | inr neither ↦ ap (is_rising p) (cond-false (p y x) _ _ neither) ∙ up
-        ]
-      ]
-
-  -- numbers that pass, put in order
-  pub set_of : (xs : List ℕ) → list_all here xs ≡ true → (is_rising p (sorted_set p xs) ≡ true) × ((n : ℕ) → is_in n (sorted_set p xs) ≡ is_in n xs) × (list_all here (sorted_set p xs) ≡ true)
-  set_of [] all = (refl, λ n. refl, refl)
-  set_of (x ∷ xs) all =
-      let parts = and_parts (here x) (list_all here xs) all in
-      let rest = set_of xs parts.1 in (
-        rising_with x (sorted_set p xs) parts.0 rest.2 rest.0,
-        λ n. in_with n x (sorted_set p xs) parts.0 rest.2 ∙ ap (λ b. (x == n) || b) (rest.1 n),
-        all_with here x (sorted_set p xs) parts.0 rest.2,
-      )
 
 module _ (t : Table) (ok : IsTable t) (quiet : NoConflict t) where
   -- the edges at a corner, by number
@@ -99,11 +27,18 @@ module _ (t : Table) (ok : IsTable t) (quiet : NoConflict t) where
   all_at : (c : ℕ) → list_all (stands_at t c) (filter (ends_at t c) (edge_numbers t)) ≡ true
   all_at c = all_filter (ends_at t c) (λ k. nat_lt k (length t.ends)) (stands_at t c) (λ n fits ends. and_from (is_edge t n) (ends_at t c n) fits ends) (edge_numbers t) (numbers_within (length t.ends))
 
+  -- of two edges at a corner of which neither comes before the other, going round, the two are one
+  one_at : (c a b : ℕ) → stands_at t c a ≡ true → stands_at t c b ≡ true → comes_round t c a b ≡ false → comes_round t c b a ≡ false → a ≡ b
+  one_at c a b at_a at_b not_ab not_ba = elim (cases_eq a b) [
+    | inl same ↦ same
+    | inr other ↦ absurd (elim (turn-total t ok quiet c a b at_a at_b other) [ inl first ↦ both_ways _ not_ab first | inr second ↦ both_ways _ not_ba second ])
+  ]
+
   -- the computed turn list is one
   pub turn_list_is : (c : ℕ) → IsTurnList t c (turn_list t c)
   turn_list_is c =
-      let set = set_of (comes_round t c) (stands_at t c) (turn-total t ok quiet c) (turn-trans t ok quiet c) (filter (ends_at t c) (edge_numbers t)) (all_at c) in
-      record { rising = set.0; exact = λ e. set.1 e ∙ at_corner c e }
+      let set = set_of (comes_round t c) (stands_at t c) (one_at c) (turn-trans t ok quiet c) (filter (ends_at t c) (edge_numbers t)) (all_at c) in
+      record { rising = set.0; exact = λ e. set.1 (λ m. m == e) ∙ at_corner c e }
 
   -- and the computed next
   pub next_at_is : (h : ℕ) → h < half_edge_count t → IsNext t h (next_at t h)

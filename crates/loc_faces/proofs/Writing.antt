@@ -1,5 +1,5 @@
 -- Texts that are written one after the other.
-use Rattle.std.proofs.Common.{◌≡◌, ℕ, List, [], ◌++◌, Result, Ok, Err, refl, sym, ◌∙◌, subst, arith, ap, ◌+◌, ◌<◌, ◌∷◌, length, get_or, take, drop, take-append-drop, append_assoc, append-nil, ℤ, of_z, to_z}
+use Rattle.std.proofs.Common.{◌≡◌, ℕ, List, [], ◌++◌, Result, Ok, Err, sym, ◌∙◌, subst, arith, ap, ◌+◌, ◌<◌, ◌∷◌, length, get_or, take, drop, take-append-drop, append_assoc, append-nil, ℤ, of_z, to_z}
 use Rattle.std.specs.List.{flat_map}
 use Rattle.std.proofs.lemmas.Grind.{flat_map-append}
 use Rattle.std.proofs.lemmas.List.{take_more}
@@ -11,8 +11,7 @@ use Rattle.loc_spec_text.specs.Points.{grid_text}
 use Rattle.loc_io.specs.declared.sink.WriteFault.{WriteFault}
 use Rattle.loc_io.specs.Causes.{HasCause}
 use Rattle.loc_io.specs.Streams.{Stream, TakesAll}
-use Rattle.loc_io.proofs.Appending.{Appends-more, in_time_after}
-use Rattle.loc_page.proofs.Pages.{appends-none, front-behind, front-of}
+use Rattle.loc_io.proofs.Appending.{Appends-more, in_time_after, front-behind, front-of}
 
 -- what a write that takes no more than a text came to
 abbrev pub Answer : Type 0
@@ -21,10 +20,6 @@ Answer = Result (Unit {0}) WriteFault
 -- all of a text was written
 abbrev pub Took : List ℕ → Stream → Stream → Type 0
 Took text o m = TakesAll {T = Unit {0}} {E = WriteFault} text o m (Ok tt)
-
--- nothing was written
-pub took_none : (o : Stream) → Took [] o o
-took_none o = record { ok = appends-none o.written; err = tt; cause = record { later = omega arith; failed = tt; steady = refl }; in_time = λ _. refl }
 
 behind : {T U E : Type 0} {x : T} (a b : List ℕ) (o m n : Stream) (r : Result U E) → TakesAll {T = T} {E = E} a o m (Ok x) → TakesAll b m n r → TakesAll (a ++ b) o n r
 behind {U = U} {E = E} a b o m n (Ok y) p q = record {

@@ -9,15 +9,11 @@ use Rattle.loc_spec_plane.specs.Lists.{is_rising}
 use Rattle.loc_spec_plane.specs.Covers.{list_before}
 use Rattle.loc_spec_index.specs.declared.IndexFault.{IndexFault}
 use Rattle.loc_spec_index.specs.declared.Part.TheVariants.{Covers}
-use Rattle.loc_spec_index.specs.IndexFile.{Field, number, order, follows, rows_from}
+use Rattle.loc_spec_index.specs.IndexFile.{Field, number, order, follows}
 use Rattle.loc_file.specs.Readings.{Left, IsRead, IsWrong, IsFaultIn, IsRowStop, IsRowsStop, AreRows, stop, no_memory}
 use Rattle.loc_file.specs.Rows.{alone, number_row, cover_row, cover_rows}
+use Rattle.loc_laws_index.proofs.Progress.{map-rows}
 use Rattle.loc_file.proofs.Steps.{read-along, wrong-along, read-next, read-append, fault-first, fault-next, fault-behind, fault-front, rows-none, rows-more, rows-stop}
-
--- rows of a number each are the numbers
-pub numbers-alone : (bound : ℕ) (earlier ns : List ℕ) → rows_from (alone (number_row bound)) earlier ns ≡ map (number w32 bound) ns
-numbers-alone bound earlier [] = refl
-numbers-alone bound earlier (n ∷ ns) = ap (λ l. number w32 bound n ∷ l) (numbers-alone bound (earlier ++ n ∷ []) ns)
 
 module _ (features members row : ℕ) (last : Option (List ℕ)) where
   abbrev bound : ℕ
@@ -28,11 +24,11 @@ module _ (features members row : ℕ) (last : Option (List ℕ)) where
 
   pub members-stop : (count : ℕ) {a b : Left} {f : IndexFault} → IsRead (number w32 bound count ∷ []) a b → IsRowsStop (alone (number_row features)) count b f → IsRowStop (cover_row features members row last) a f
   members-stop count {a} {b} read (stop xs f as_many w) =
-      stop xs f tt (fault-next _ _ (read-along (number w32 bound) (sym as_many) read) (fault-front (map (number w32 features) xs) (order Covers row (holds xs) ∷ []) (subst (λ fs. IsFaultIn fs b f) (numbers-alone features [] xs) w)))
+      stop xs f tt (fault-next _ _ (read-along (number w32 bound) (sym as_many) read) (fault-front (map (number w32 features) xs) (order Covers row (holds xs) ∷ []) (subst (λ fs. IsFaultIn fs b f) (map-rows (number w32 features) [] xs) w)))
   members-stop count read no_memory = no_memory
 
   members-read : (count : ℕ) (list : List ℕ) {a b c : Left} → IsRead (number w32 bound count ∷ []) a b → AreRows (alone (number_row features)) count list b c → IsRead (number w32 bound (length list) ∷ map (number w32 features) list) a c
-  members-read count list {b = b} {c = c} read rows = read-next _ _ (read-along (number w32 bound) (sym rows.as_many) read) (subst (λ fs. IsRead fs b c) (numbers-alone features [] list) rows.read)
+  members-read count list {b = b} {c = c} read rows = read-next _ _ (read-along (number w32 bound) (sym rows.as_many) read) (subst (λ fs. IsRead fs b c) (map-rows (number w32 features) [] list) rows.read)
 
   -- the test, as the code makes it
   pub holds-is : (rises test : Bool) (list slice : List ℕ) → test ≡ (rises && follows list_before last slice) → rises ≡ is_rising nat_lt list → slice ≡ list → test ≡ holds list

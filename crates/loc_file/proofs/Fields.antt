@@ -1,24 +1,21 @@
 -- What a reader of one field finds: the field by its bytes, or what is wrong there.
-use Rattle.std.proofs.Common.{◌≡◌, ℕ, ◌+◌, ◌<◌, ◌≤◌, ◌^◌, Bool, true, false, ◌&&◌, List, [], ◌∷◌, ◌++◌, length, get_or, ◌%◌, refl, sym, ◌∙◌, ap, subst, arith, ℤ, pos, negsuc}
-use Rattle.std.specs.Prelude.{Some, is_none, nat_lt, nat_eq, ◌==◌, ◌||◌, codes, unsigned_abs, FitsSigned}
+use Rattle.std.proofs.Common.{◌≡◌, ℕ, ◌+◌, ◌<◌, ◌≤◌, ◌^◌, Bool, true, false, ◌&&◌, List, [], ◌∷◌, ◌++◌, length, get_or, ◌%◌, refl, sym, ◌∙◌, ap, subst, append-nil, arith, ℤ, pos, negsuc}
+use Rattle.std.specs.Prelude.{Some, nat_lt, nat_eq, ◌==◌, ◌||◌, codes, unsigned_abs, FitsSigned}
 use Rattle.std.specs.List.{starts_with}
 use Rattle.std.specs.Str.{bytes_eq}
 use Rattle.std.proofs.lemmas.Slice.Eq.{bytes_eq-Decides}
 use Rattle.std.specs.Int.{w8, w32, w64, to_be_bytes, from_be_bytes, cast_signed, cast_unsigned}
 use Rattle.std.proofs.lemmas.Nat.{be_bytes_4, be_bytes_8}
-use Rattle.std.proofs.lemmas.Bool.{lt-ltb, ltb-true, eqb-true, true≢false}
+use Rattle.std.proofs.lemmas.Bool.{le-ltb, lt-ltb, eqb-true, true≢false}
 use Rattle.std.proofs.lemmas.Int.{of_z-to_z, to_z-of_z, ints}
 use Rattle.loc_spec_index.specs.declared.IndexFault.{IndexFault}
 use Rattle.loc_spec_index.specs.declared.IndexFault.TheVariants as fault
 use Rattle.loc_spec_index.specs.declared.Part.{Part}
 use Rattle.loc_spec_index.specs.IndexFile.{Field, magic, version, is_version, number, coordinate, order, spelled, is_right, fault_at, with_bytes, unless}
 use Rattle.loc_spec_plane.specs.Points.{Point, point_at, OnGrid}
+use Rattle.loc_laws_index.proofs.RightFields.{unless-holds}
 use Rattle.loc_file.proofs.Steps.{read-next, read-along}
 use Rattle.loc_file.specs.Readings.{Left, IsTaken, IsShort, IsRead, IsWrong, short, wrong}
-
-end : (l : List ℕ) → l ++ [] ≡ l
-end [] = refl
-end (x ∷ l) = ap (λ k. x ∷ k) (end l)
 
 -- ---- any field
 
@@ -32,24 +29,13 @@ wrong-at field count held {a} {b} f as_long t is = wrong held b.rest f t.taken (
 pub read-at : (field : Field) (count : ℕ) (held : List ℕ) {a b : Left} → IsTaken count held a b → spelled field ≡ held → is_right field ≡ true → IsRead (field ∷ []) a b
 read-at field count held {a} {b} t is right = record {
   right = ap (λ r. r && true) right;
-  spelled = t.taken ∙ ap (λ l. l ++ b.rest) (sym is ∙ sym (end (spelled field)));
-  offset = (let o = t.offset in let l = ap length (end (spelled field) ∙ is) ∙ t.as_many in omega (arith, o, l));
+  spelled = t.taken ∙ ap (λ l. l ++ b.rest) (sym is ∙ sym (append-nil (spelled field)));
+  offset = (let o = t.offset in let l = ap length (append-nil (spelled field) ∙ is) ∙ t.as_many in omega (arith, o, l));
 }
 
 fault-is : (holds : Bool) (f : IndexFault) → holds ≡ false → unless holds f ≡ Some f
 fault-is true f e = cc
 fault-is false f e = refl
-
-none-is : (holds : Bool) (f : IndexFault) → holds ≡ true → is_none (unless holds f) ≡ true
-none-is true f e = refl
-none-is false f e = cc
-
-not-less : (a b : ℕ) → b ≤ a → nat_lt a b ≡ false
-not-less a b h = by (nat_lt a b) refl
-  where
-    by : (t : Bool) → nat_lt a b ≡ t → t ≡ false
-    by true e = absurd (let lt : a < b = ltb-true a b e in omega (arith, lt, h))
-    by false e = refl
 
 -- ---- numbers
 
@@ -62,12 +48,12 @@ abbrev pub AreBytes : List ℕ → Type 0
 AreBytes bs = (i : ℕ) → get_or bs i 0 < 256
 
 pub number-read : (bound value : ℕ) (held : List ℕ) {a b : Left} → IsTaken 4 held a b → AreBytes held → value ≡ from_be_bytes w32 held → value < bound → IsRead (number w32 bound value ∷ []) a b
-number-read bound value held t small is lt = read-at (number w32 bound value) 4 held t (be_bytes_4 held value t.as_many small is) (none-is _ _ (lt-ltb value bound lt))
+number-read bound value held t small is lt = read-at (number w32 bound value) 4 held t (be_bytes_4 held value t.as_many small is) (unless-holds _ _ (lt-ltb value bound lt))
 
 pub number-wrong : (bound value n offset : ℕ) (held : List ℕ) {a b : Left} → offset ≡ a.offset → IsTaken 4 held a b → value ≡ from_be_bytes w32 held → bound ≤ value → IsWrong (number w32 bound n) a (fault.Field offset value bound)
 number-wrong bound value n offset held {a} o t is le =
     wrong-at (number w32 bound n) 4 held (fault.Field offset value bound) refl t
-    (ap (λ v. unless (nat_lt v bound) (fault.Field a.offset v bound)) (sym is) ∙ (fault-is _ _ (not-less value bound le) ∙ ap (λ k. Some (fault.Field k value bound)) (sym o)))
+    (ap (λ v. unless (nat_lt v bound) (fault.Field a.offset v bound)) (sym is) ∙ (fault-is _ _ (le-ltb value bound le) ∙ ap (λ k. Some (fault.Field k value bound)) (sym o)))
 
 pub number-short : (bound n : ℕ) {a : Left} {f : IndexFault} → IsShort 4 a f → IsWrong (number w32 bound n) a f
 number-short bound n s = short-at (number w32 bound n) 4 refl s
@@ -77,25 +63,25 @@ byte-short bound n s = short-at (number w8 bound n) 1 refl s
 
 -- the one byte of a list of one
 pub byte-read : (bound value : ℕ) (held : List ℕ) {a b : Left} → IsTaken 1 held a b → AreBytes held → value ≡ get_or held 0 0 → value < bound → IsRead (number w8 bound value ∷ []) a b
-byte-read bound value held t small is lt = read-at (number w8 bound value) 1 held t (one held value t.as_many small is) (none-is _ _ (lt-ltb value bound lt))
+byte-read bound value held t small is lt = read-at (number w8 bound value) 1 held t (one held value t.as_many small is) (unless-holds _ _ (lt-ltb value bound lt))
 
 pub byte-wrong : (bound value n offset : ℕ) (held : List ℕ) {a b : Left} → offset ≡ a.offset → IsTaken 1 held a b → value ≡ get_or held 0 0 → bound ≤ value → IsWrong (number w8 bound n) a (fault.Field offset value bound)
 byte-wrong bound value n offset held {a} o t is le =
     wrong-at (number w8 bound n) 1 held (fault.Field offset value bound) refl t
-    (ap (λ v. unless (nat_lt v bound) (fault.Field a.offset v bound)) (sym is) ∙ (fault-is _ _ (not-less value bound le) ∙ ap (λ k. Some (fault.Field k value bound)) (sym o)))
+    (ap (λ v. unless (nat_lt v bound) (fault.Field a.offset v bound)) (sym is) ∙ (fault-is _ _ (le-ltb value bound le) ∙ ap (λ k. Some (fault.Field k value bound)) (sym o)))
 
 -- ---- coordinates
 
 pub coordinate-read : (x : ℤ) (raw : ℕ) (held : List ℕ) {a b : Left} → IsTaken 8 held a b → AreBytes held → raw ≡ from_be_bytes w64 held → raw < 2 ^ 64 → x ≡ cast_signed w64 raw → unsigned_abs x ≤ 10 ^ 18 → IsRead (coordinate x ∷ []) a b
 coordinate-read x raw held t small is fits signed le = read-at (coordinate x) 8 held t
     (ap (λ z. to_be_bytes w64 (cast_unsigned w64 z)) signed ∙ (ap (to_be_bytes w64) (of_z-to_z w64 raw fits) ∙ be_bytes_8 held raw t.as_many small is))
-    (none-is _ _ (lt-ltb (unsigned_abs x) (10 ^ 18 + 1) (omega (arith, le))))
+    (unless-holds _ _ (lt-ltb (unsigned_abs x) (10 ^ 18 + 1) (omega (arith, le))))
 
 pub coordinate-wrong : (x z : ℤ) (raw size offset : ℕ) (held : List ℕ) {a b : Left} → offset ≡ a.offset → IsTaken 8 held a b → raw ≡ from_be_bytes w64 held → x ≡ cast_signed w64 raw → size ≡ unsigned_abs x → 10 ^ 18 < size → IsWrong (coordinate z) a (fault.Field offset size (10 ^ 18 + 1))
 coordinate-wrong x z raw size offset held {a} o t is signed sized lt =
     let e : unsigned_abs (cast_signed w64 (from_be_bytes w64 held)) ≡ size = ap (λ r. unsigned_abs (cast_signed w64 r)) (sym is) ∙ (ap unsigned_abs (sym signed) ∙ sym sized) in
     wrong-at (coordinate z) 8 held (fault.Field offset size (10 ^ 18 + 1)) refl t
-    (ap (λ v. unless (nat_lt v (10 ^ 18 + 1)) (fault.Field a.offset v (10 ^ 18 + 1))) e ∙ (fault-is _ _ (not-less size (10 ^ 18 + 1) (omega (arith, lt))) ∙ ap (λ k. Some (fault.Field k size (10 ^ 18 + 1))) (sym o)))
+    (ap (λ v. unless (nat_lt v (10 ^ 18 + 1)) (fault.Field a.offset v (10 ^ 18 + 1))) e ∙ (fault-is _ _ (le-ltb size (10 ^ 18 + 1) (omega (arith, lt))) ∙ ap (λ k. Some (fault.Field k size (10 ^ 18 + 1))) (sym o)))
 
 -- a number that was cast and cast back
 pub cast-back : (v : ℤ) (raw : ℕ) → v ≡ cast_signed w64 raw → raw < 2 ^ 64 → cast_signed w64 (cast_unsigned w64 v) ≡ cast_signed w64 raw

@@ -1,5 +1,5 @@
 -- The parts of a file as a table and a legend, and back.
-use Rattle.std.proofs.Common.{◌≡◌, ℕ, ◌-◌, ◌^◌, ◌<◌, ◌≤◌, true, List, [], ◌∷◌, length, map, get_or, refl, sym, ◌∙◌, ap, subst, arith}
+use Rattle.std.proofs.Common.{◌≡◌, ℕ, zero, suc, ◌-◌, ◌^◌, ◌<◌, ◌≤◌, true, List, [], ◌∷◌, length, map, get_or, refl, sym, ◌∙◌, ap, subst, arith}
 use Rattle.std.specs.Prelude.{Option, IfSome, All, nat_lt}
 use Rattle.std.proofs.lemmas.List.{length-map, get_or_read}
 use Rattle.loc_spec_plane.specs.Lists.{is_rising, numbers}
@@ -10,17 +10,29 @@ use Rattle.loc_spec_index.specs.Content.{Content, EdgeRow, table_in, cover_numbe
 use Rattle.loc_spec_index.specs.IndexFile.{IsFileOf, bytes_of}
 use Rattle.loc_edges.specs.Parts.{GoesUpBelow, table_of_parts}
 use Rattle.loc_cover.specs.Legends.{LegendRows, FitsTable, AreLists}
+use Rattle.loc_laws_index.proofs.RightRows.{IsEdgeIn}
+use Rattle.loc_laws_index.proofs.FileFacts.{Facts, facts}
 use Rattle.loc_laws_index.proofs.HeldTable.{file_holds_table}
 use Rattle.loc_file.specs.declared.edges.EdgeOf.{EdgeOf}
 use Rattle.loc_file.specs.Rows.{own}
 use Rattle.loc_file.specs.Keeping.{edge_rows, marks_from, content_of, IsHeld}
 use Rattle.loc_write.proofs.Held.{covers-of}
-use Rattle.loc_file.proofs.RightRows.{IsEdgeIn}
 use Rattle.loc_edges.specs.Ending.{row_of}
 use Rattle.loc_spec_index.specs.declared.NodeRow.{NodeRow}
 use Rattle.loc_file.proofs.Flatten.{marks-flat}
 use Rattle.loc_file.specs.Searches.{IsNodeIn}
-use Rattle.loc_file.proofs.FileFacts.{Facts, facts, all-image, each-or}
+
+-- what holds of the images of rows, read by another way
+all-image : {X Y Z : Type 0} (g : X → Z) (f : X → Y) (P : Z → Type 0) (Q : Y → Type 0) → ((x : X) → P (g x) → Q (f x)) → (xs : List X) → ((i : ℕ) (d : Z) → i < length (map g xs) → P (get_or (map g xs) i d)) → (i : ℕ) (d : Y) → i < length (map f xs) → Q (get_or (map f xs) i d)
+all-image g f P Q each [] h i d lt = absurd (omega (arith, lt))
+all-image g f P Q each (x ∷ xs) h zero d lt = each x (h 0 (g x) (omega arith))
+all-image g f P Q each (x ∷ xs) h (suc i) d lt = all-image g f P Q each xs (λ j e l. h (suc j) e (omega (arith, l))) i d (omega (arith, lt))
+
+-- a member of rows or the default
+each-or : {X : Type 0} (P : X → Type 0) (d : X) (xs : List X) → P d → ((i : ℕ) (e : X) → i < length xs → P (get_or xs i e)) → (i : ℕ) → P (get_or xs i d)
+each-or P d [] none h i = none
+each-or P d (x ∷ xs) none h zero = h 0 d (omega arith)
+each-or P d (x ∷ xs) none h (suc i) = each-or P d xs none (λ j e l. h (suc j) e (omega (arith, l))) i
 
 own-ends : (es : List EdgeOf) → map (λ (e : EdgeRow). e.ends) (map own es) ≡ map (λ (e : EdgeOf). e.ends) es
 own-ends [] = refl
@@ -37,7 +49,7 @@ root-within c d v x e file lt is =
     let r = file.shaped.roots in
     let within : v < length c.roots = omega (arith, r, corners, lt) in
     let same = get_or_read c.roots v x within is 0 in
-    let f = (facts c (bytes_of 1 c) file).roots v within in
+    let f = (facts c (bytes_of 1 c) file).roots v 0 within in
     omega (arith, same, f, nodes)
 
 -- a row of a file
@@ -47,10 +59,10 @@ row-within c d n row e file within is =
     let some = within.0 in
     let nodes : length c.nodes ≡ length d.nodes = ap (λ (k : Content). length k.nodes) e in
     let f = (facts c (bytes_of 1 c) file).nodes (n - 1) row (omega (arith, few, some, nodes)) in
-    subst (λ (k : Content). IsNodeIn (length k.edges) (length k.nodes) row) e (subst (IsNodeIn (length c.edges) (length c.nodes)) (sym is) f)
+    subst (λ (k : Content). IsNodeIn (length k.edges) (length k.nodes) row) e (subst (IsNodeIn (length c.edges) (length c.nodes)) (sym is) (record { item = f.item; left = f.left; right = f.right; extra = f.extra }))
 
 module _ (c : Content) (es : List EdgeOf) (ends : List (ℕ × ℕ)) (above : List ℕ) (file : IsFileOf 1 c (bytes_of 1 c)) (edges_are : c.edges ≡ map own es) (ends_are : ends ≡ map (λ (e : EdgeOf). e.ends) es) (above_are : above ≡ map (λ (e : EdgeOf). e.cover) es) where
-  F : Facts c
+  F : Facts 1 c
   F = facts c (bytes_of 1 c) file
 
   T : IsTable (table_in c)

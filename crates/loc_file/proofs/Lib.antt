@@ -1,14 +1,12 @@
 pub mod CoverRows
 pub mod Deep
 pub mod Fields
-pub mod FileFacts
 pub mod Flatten
 pub mod Holding
 pub mod Loops
 pub mod OneFault
 pub mod Orders
 pub mod Refusals
-pub mod RightRows
 pub mod Searched
 pub mod Steps
 pub mod Stops

@@ -7,7 +7,8 @@ use Rattle.loc_spec_index.specs.declared.IndexFault.{IndexFault}
 use Rattle.loc_spec_index.specs.IndexFile.{Field, rows_from}
 use Rattle.loc_file.specs.Readings.{Left, IsRead, IsRowStop, IsRowsStop, AreRows}
 use Rattle.loc_file.specs.Rows.{alone, rows_of}
-use Rattle.loc_file.proofs.Steps.{last-is, rows-none, rows-more, rows-stop}
+use Rattle.loc_laws_index.proofs.RightRows.{last-is}
+use Rattle.loc_file.proofs.Steps.{rows-none, rows-more, rows-stop}
 
 -- ---- rows that are told by their number and the row before them
 

@@ -1,9 +1,8 @@
 -- Bytes are refused by one fault at most, and those of a file by none.
-use Rattle.std.proofs.Common.{◌≡◌, ℕ, false, List, refl, ◌∙◌, ap}
+use Rattle.std.proofs.Common.{◌≡◌, ℕ, false, List, refl, ap}
 use Rattle.std.proofs.lemmas.Bool.{both_ways, not-true}
 use Rattle.loc_spec_index.specs.Content.{Content}
-use Rattle.loc_spec_index.specs.IndexFile.{IsFileOf, spelled_all}
-use Rattle.loc_laws_index.proofs.AgreeTable.{fields-body}
+use Rattle.loc_spec_index.specs.IndexFile.{IsFileOf, fields}
 use Rattle.loc_laws_index.proofs.OneReading.{one_fault, no_fault_in_file}
 use Rattle.loc_file.specs.Refused.{is_second, faulty, second, unheld, OneRefusal, NoRefusalOfFile}
 
@@ -18,7 +17,8 @@ one_refusal bytes f g (second a) unheld some other = absurd (other refl)
 
 -- a file of the first version does not begin as one of the second
 first : (bytes : List ℕ) (c : Content) → IsFileOf 1 c bytes → is_second bytes ≡ false
-first bytes c file = ap is_second (file.spelled ∙ ap spelled_all (fields-body 1 c))
+unfolding fields
+first bytes c file = ap is_second file.spelled
 
 pub no_refusal : NoRefusalOfFile
 no_refusal bytes c f file (faulty _ a h) = absurd (no_fault_in_file bytes 1 c f file h)

@@ -1,6 +1,7 @@
 -- What a reader of all parts says of the bytes: they are a file, or they have their first fault.
-use Rattle.std.proofs.Common.{◌≡◌, ℕ, ◌+◌, ◌<◌, false, List, [], ◌∷◌, ◌++◌, length, refl, sym, ◌∙◌, ap, subst, arith}
+use Rattle.std.proofs.Common.{◌≡◌, ℕ, ◌+◌, ◌<◌, false, List, ◌++◌, length, refl, sym, ◌∙◌, ap, subst, append-nil, arith}
 use Rattle.std.specs.Prelude.{not}
+use Rattle.std.proofs.lemmas.List.{nil_from_length}
 use Rattle.loc_spec_index.specs.declared.IndexFault.{IndexFault}
 use Rattle.loc_spec_index.specs.declared.IndexFault.TheVariants as fault
 use Rattle.loc_spec_index.specs.Content.{Content}
@@ -8,10 +9,6 @@ use Rattle.loc_spec_index.specs.IndexFile.{Field, fields, spelled, spelled_all, 
 use Rattle.loc_spec_index.specs.IndexFile as file
 use Rattle.loc_file.specs.Readings.{Left, IsRead, IsWrong, IsFaultIn, IsStop, short, wrong, stop, no_memory}
 use Rattle.loc_file.specs.Refused.{is_second, IsRefused, faulty, unheld}
-
-end : (l : List ℕ) → l ++ [] ≡ l
-end [] = refl
-end (x ∷ l) = ap (λ k. x ∷ k) (end l)
 
 module _ (bytes : List ℕ) (start : Left) (all : start.rest ≡ bytes) (none : start.offset ≡ 0) where
   has_fault : (c : Content) (f : IndexFault) → IsShaped 1 c → IsFaultIn (fields 1 c) start f → HasFault bytes f
@@ -47,8 +44,4 @@ module _ (bytes : List ℕ) (start : Left) (all : start.rest ≡ bytes) (none : 
     refused-long first some = faulty _ (ap not first) (file.long 1 c (bytes_of 1 c) later.rest file-front (sym all ∙ read.spelled) (λ e. (let l = ap (λ (r : List ℕ). length r) e in absurd (omega (arith, l, some)))))
 
     pub file-whole : length later.rest ≡ 0 → IsFileOf 1 c bytes
-    file-whole nothing = record { shaped = shaped; right = read.right; spelled = sym all ∙ (read.spelled ∙ (ap (λ r. bytes_of 1 c ++ r) (empty later.rest nothing) ∙ end (bytes_of 1 c))) }
-      where
-        empty : (r : List ℕ) → length r ≡ 0 → r ≡ []
-        empty [] e = refl
-        empty (x ∷ r) e = absurd (omega (arith, e))
+    file-whole nothing = record { shaped = shaped; right = read.right; spelled = sym all ∙ (read.spelled ∙ (ap (λ r. bytes_of 1 c ++ r) (nil_from_length later.rest nothing) ∙ append-nil (bytes_of 1 c))) }

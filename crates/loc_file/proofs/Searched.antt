@@ -1,17 +1,17 @@
 -- What the search finds, by where the point stands among the corners.
 use Rattle.std.proofs.Common.{◌≡◌, ℕ, zero, suc, true, ◌-◌, List, get_or, refl, sym, ◌∙◌, ap, subst, arith}
 use Rattle.std.specs.Prelude.{Some, None, Ok, Err, IfOk, IsOkAnd, count_by}
-use Rattle.std.proofs.lemmas.List.{length-map}
 use Rattle.loc_spec_plane.specs.Points.{Point, before}
 use Rattle.loc_spec_plane.specs.Tables.{Table, IsTable}
 use Rattle.loc_spec_plane.specs.Places.{is_corner_of, IsPlace}
 use Rattle.loc_spec_plane.specs.declared.Place.{Place}
 use Rattle.loc_spec_plane.specs.declared.Place.TheVariants.{Corner, Border, Area}
 use Rattle.loc_spec_index.specs.declared.NodeRow.{NodeRow}
-use Rattle.loc_spec_index.specs.Content.{Content, EdgeRow, table_in, search_in}
+use Rattle.loc_spec_index.specs.Content.{Content, table_in, search_in}
 use Rattle.loc_spec_index.specs.IndexFile.{IsFileOf}
 use Rattle.loc_spec_index.specs.Search.{Found, walk, search_from, search_for}
 use Rattle.loc_spec_index.specs.Laws.{IsPlaceIn}
+use Rattle.loc_laws_index.proofs.FlawKinds.{as_many}
 use Rattle.loc_laws_index.proofs.InRange.{search_in_range}
 use Rattle.loc_laws_search.proofs.Counted.{finds-corner, finds-none, counts-passed}
 use Rattle.loc_place.specs.Answers.{Answer, IsInRange}
@@ -38,9 +38,9 @@ module _ (t : Table) (ok : IsTable t) (p : Point) (rows : List NodeRow) (roots :
 placed : (c : Content) (place : Place) → IsPlaceIn c place → IsInRange (table_in c) place
 unfolding table_in
 placed c (Corner n) h = h
-placed c (Border e) h = let l = length-map c.edges (λ (x : EdgeRow). x.ends) in omega (arith, h, l)
+placed c (Border e) h = let l = as_many c in omega (arith, h, l)
 placed c (Area None) h = tt
-placed c (Area (Some e)) h = let l = length-map c.edges (λ (x : EdgeRow). x.ends) in omega (arith, h, l)
+placed c (Area (Some e)) h = let l = as_many c in omega (arith, h, l)
 
 pub found-in-range : (c : Content) (bytes : List ℕ) (t : Table) (p : Point) (r : Answer) → IsFileOf 1 c bytes → t ≡ table_in c → r ≡ answer_of (search_for t c.nodes p c.roots) → IfOk r (IsInRange t)
 found-in-range c bytes t p r file e is =

@@ -1,7 +1,6 @@
 -- How reading goes on: what was read is appended, and a fault behind what was read is a fault of the whole.
-use Rattle.std.proofs.Common.{◌≡◌, ℕ, ◌+◌, List, [], ◌∷◌, ◌++◌, length, refl, sym, ◌∙◌, ap, subst, arith, replicate}
-use Rattle.std.specs.Prelude.{Result, Ok, Err, IfErr, IsErrAnd, Option, Some}
-use Rattle.std.specs.List.{last_or}
+use Rattle.std.proofs.Common.{◌≡◌, ℕ, ◌+◌, List, [], ◌∷◌, ◌++◌, length, refl, sym, ◌∙◌, ap, subst, append_assoc, append-nil, arith, replicate}
+use Rattle.std.specs.Prelude.{Result, Ok, Err, IfErr, IsErrAnd}
 use Rattle.std.proofs.lemmas.List.{length-append, length-replicate}
 use Rattle.loc_spec_index.specs.declared.IndexFault.{IndexFault}
 use Rattle.loc_spec_index.specs.declared.IndexFault.TheVariants as fault
@@ -9,12 +8,8 @@ use Rattle.loc_spec_index.specs.IndexFile.{Field, spelled_all, rows_from}
 use Rattle.loc_laws_index.proofs.Progress.{rows_from-append, spelled_all-append, are_right-append}
 use Rattle.loc_file.specs.Readings.{Left, IsRead, IsWrong, IsFaultIn, IsStop, IsRowStop, IsRowsStop, stop, no_memory}
 
-assoc : {X : Type 0} (xs ys zs : List X) → (xs ++ ys) ++ zs ≡ xs ++ (ys ++ zs)
-assoc [] ys zs = refl
-assoc (x ∷ xs) ys zs = ap (λ l. x ∷ l) (assoc xs ys zs)
-
 -- what `?` hands on
-pub handed : {T : Type 0} (r : Result T IndexFault) (e : IndexFault) (Q : IndexFault → Type 0) → IsErrAnd r (λ f. f ≡ e) → Q e → IfErr r Q
+pub handed : {T E : Type 0} (r : Result T E) (e : E) (Q : E → Type 0) → IsErrAnd r (λ f. f ≡ e) → Q e → IfErr r Q
 handed (Ok x) e Q h q = tt
 handed (Err f) e Q h q = subst Q (sym h) q
 
@@ -24,7 +19,7 @@ read-none a = record { right = refl; spelled = refl; offset = omega arith }
 pub read-append : (fs gs : List Field) {a b c : Left} → IsRead fs a b → IsRead gs b c → IsRead (fs ++ gs) a c
 read-append fs gs {a} {b} {c} p q = record {
   right = are_right-append fs gs p.right q.right;
-  spelled = p.spelled ∙ (ap (λ r. spelled_all fs ++ r) q.spelled ∙ (sym (assoc (spelled_all fs) (spelled_all gs) c.rest) ∙ ap (λ s. s ++ c.rest) (sym (spelled_all-append fs gs))));
+  spelled = p.spelled ∙ (ap (λ r. spelled_all fs ++ r) q.spelled ∙ (sym (append_assoc (spelled_all fs) (spelled_all gs) c.rest) ∙ ap (λ s. s ++ c.rest) (sym (spelled_all-append fs gs))));
   offset = (let l = ap length (spelled_all-append fs gs) ∙ length-append (spelled_all fs) (spelled_all gs) in let x = p.offset in let y = q.offset in omega (arith, l, x, y));
 }
 
@@ -37,7 +32,7 @@ fault-behind fs gs p w = record {
   field = w.field;
   later = w.later;
   here = w.here;
-  stands = ap (λ l. fs ++ l) w.stands ∙ sym (assoc fs w.earlier (w.field ∷ w.later));
+  stands = ap (λ l. fs ++ l) w.stands ∙ sym (append_assoc fs w.earlier (w.field ∷ w.later));
   read = read-append fs w.earlier p w.read;
   wrong = w.wrong;
 }
@@ -48,7 +43,7 @@ fault-front fs gs w = record {
   field = w.field;
   later = w.later ++ gs;
   here = w.here;
-  stands = ap (λ l. l ++ gs) w.stands ∙ assoc w.earlier (w.field ∷ w.later) gs;
+  stands = ap (λ l. l ++ gs) w.stands ∙ append_assoc w.earlier (w.field ∷ w.later) gs;
   read = w.read;
   wrong = w.wrong;
 }
@@ -85,10 +80,6 @@ unheld P fields_of a r e h is = handed r e (IsStop P fields_of a) h (subst (IsSt
 
 -- ---- rows
 
-pub last-is : {X : Type 0} (o : Option X) (xs : List X) (x : X) → last_or o (xs ++ x ∷ []) ≡ Some x
-last-is o [] x = refl
-last-is o (y ∷ xs) x = last-is (Some y) xs x
-
 pub rows-none : {X : Type 0} (row : List X → X → List Field) (a : Left) → IsRead (rows_from row [] []) a a
 rows-none row a = read-none a
 
@@ -96,11 +87,7 @@ rows-none row a = read-none a
 pub rows-more : {X : Type 0} (row : List X → X → List Field) (xs : List X) (x : X) {a b c : Left} → IsRead (rows_from row [] xs) a b → IsRead (row xs x) b c → IsRead (rows_from row [] (xs ++ x ∷ [])) a c
 rows-more row xs x {a} {b} {c} p q =
     let P : List Field → Type 0 = λ fs. IsRead fs a c in
-    subst P (sym (rows_from-append row [] xs (x ∷ []) ∙ ap (λ l. rows_from row [] xs ++ l) (end (row xs x)))) (read-append (rows_from row [] xs) (row xs x) p q)
-  where
-    end : (l : List Field) → l ++ [] ≡ l
-    end [] = refl
-    end (y ∷ l) = ap (λ k. y ∷ k) (end l)
+    subst P (sym (rows_from-append row [] xs (x ∷ []) ∙ ap (λ l. rows_from row [] xs ++ l) (append-nil (row xs x)))) (read-append (rows_from row [] xs) (row xs x) p q)
 
 -- the row under way is wrong: the rows behind it can be any
 pub rows-stop : {X : Type 0} (row : List X → X → List Field) (xs : List X) (n : ℕ) {a b : Left} {f : IndexFault} → (k : ℕ) → length xs + 1 + k ≡ n → IsRead (rows_from row [] xs) a b → IsRowStop (row xs) b f → IsRowsStop row n a f

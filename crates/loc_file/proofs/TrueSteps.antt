@@ -4,13 +4,13 @@ use Rattle.std.specs.Prelude.{nat_lt, filter, cond}
 use Rattle.std.proofs.Math.Pow.{pow_mono}
 use Rattle.std.proofs.lemmas.Bool.{and_left, cases_lt, le-ltb}
 use Rattle.std.proofs.lemmas.Nat.{mul-le}
-use Rattle.std.proofs.lemmas.List.{length-map}
 use Rattle.std.proofs.lemmas.List.Sums.{length-filter}
 use Rattle.loc_spec_plane.specs.Points.{Point}
 use Rattle.loc_spec_plane.specs.Tables.{Table, IsTable, corner, edge, edge_numbers, lo_of, hi_of}
 use Rattle.loc_spec_plane.specs.Places.{alive, alive_at, is_edge}
-use Rattle.loc_spec_index.specs.Content.{Content, EdgeRow, table_in, root_of}
+use Rattle.loc_spec_index.specs.Content.{Content, table_in, root_of}
 use Rattle.loc_spec_index.specs.TrueIndex.{alive_count as count_at}
+use Rattle.loc_laws_index.proofs.FlawKinds.{as_many}
 use Rattle.loc_place.specs.Standing.{IsBehind}
 use Rattle.loc_place.proofs.Behind.{alive_is}
 use Rattle.loc_status.proofs.AtCorner.{alive_at_corner}
@@ -50,10 +50,6 @@ corners-of : (c : Content) → length (table_in c).corners ≡ length c.corners
 unfolding table_in
 corners-of c = refl
 
-ends-of : (c : Content) → length (table_in c).ends ≡ length c.edges
-unfolding table_in
-ends-of c = length-map c.edges (λ (x : EdgeRow). x.ends)
-
 module _ (c : Content) (t : Table) (s : IsIndexFor c t) where
   shallow-at : (i : ℕ) → i < length c.corners → 2 ^ depth_from c.nodes i 42 (root_of c i) ≤ (count_at t i + 1) * (count_at t i + 1)
   shallow-at i lt =
@@ -66,7 +62,7 @@ module _ (c : Content) (t : Table) (s : IsIndexFor c t) where
       (let h = shallow-at i lt in
       let n = length-filter (alive_at t (corner t i)) (edge_numbers t) in
       let few = alive_few t (corner t i) in
-      let e = ap (λ (u : Table). length u.ends) s.table_is ∙ ends-of c in
+      let e = ap (λ (u : Table). length u.ends) s.table_is ∙ as_many c in
       let k : count_at t i ≤ length c.edges = omega (arith, n, few, e) in
       let q = square_rises (count_at t i) (length c.edges) k in
       omega (arith, h, q))))

@@ -1,5 +1,5 @@
 -- A file as its parts: the fields of a content are those of its header and of its rows, and where a part stops, the rest can be any.
-use Rattle.std.proofs.Common.{◌≡◌, ℕ, ◌+◌, true, ◌&&◌, List, [], ◌∷◌, ◌++◌, length, map, refl, sym, ◌∙◌, ap, subst}
+use Rattle.std.proofs.Common.{◌≡◌, ℕ, ◌+◌, true, ◌&&◌, List, [], ◌∷◌, ◌++◌, length, map, refl, sym, ◌∙◌, ap, append-nil, subst}
 use Rattle.std.specs.Prelude.{Option, Some, None}
 use Rattle.std.specs.Int.{w32}
 use Rattle.std.specs.List.{flat_map, list_all, last_or}
@@ -12,22 +12,14 @@ use Rattle.loc_spec_index.specs.declared.NodeRow.{NodeRow}
 use Rattle.loc_spec_index.specs.declared.Part.TheVariants.{Edges}
 use Rattle.loc_spec_index.specs.Content.{Content, EdgeRow}
 use Rattle.loc_spec_index.specs.IndexFile.{Field, number, order, fields, rows_from, edge_fields, edge_row_before, none_or_next, follows, is_own_source, is_rising_pair, IsShaped}
-use Rattle.loc_laws_index.proofs.AgreeTable.{body, fields-body}
-use Rattle.loc_laws_index.proofs.Progress.{header_of}
+use Rattle.loc_laws_index.proofs.AgreeTable as table
+use Rattle.loc_laws_index.proofs.Progress.{flat-rows, header_of, map-rows, same-numbers}
 use Rattle.loc_file.specs.declared.edges.EdgeOf.{EdgeOf}
 use Rattle.loc_file.specs.declared.header.Header.{Header}
 use Rattle.loc_file.specs.Readings.{Left, IsRead, IsFaultIn, IsStop, stop}
 use Rattle.loc_file.specs.Rows.{own, alone, rows_of, header_row, id_row, corner_row, edge_of_before, edge_row, mark_row, cover_rows, floor_row, number_row, node_row}
 
 -- ---- rows as the definition has them
-
-alone-flat : {X : Type 0} (row : X → List Field) (earlier xs : List X) → flat_map row xs ≡ rows_from (alone row) earlier xs
-alone-flat row earlier [] = refl
-alone-flat row earlier (x ∷ xs) = ap (λ l. row x ++ l) (alone-flat row (earlier ++ x ∷ []) xs)
-
-alone-map : {X : Type 0} (field : X → Field) (earlier xs : List X) → map field xs ≡ rows_from (alone (λ x. field x ∷ [])) earlier xs
-alone-map field earlier [] = refl
-alone-map field earlier (x ∷ xs) = ap (λ l. field x ∷ l) (alone-map field (earlier ++ x ∷ []) xs)
 
 last-own : (o : Option EdgeOf) (p : Option EdgeRow) (es : List EdgeOf) (e : EdgeOf) → follows edge_row_before p (own e) ≡ follows edge_of_before o e → follows edge_row_before (last_or p (map own es)) (own e) ≡ follows edge_of_before (last_or o es) e
 last-own o p [] e h = h
@@ -50,13 +42,6 @@ all-own [] = refl
 all-own (e ∷ es) = and_from _ _ (and_from _ _ (eq-eqb e.ends.0 e.ends.0 refl) (eq-eqb e.ends.1 e.ends.1 refl)) (all-own es)
 
 -- ---- the whole
-
-same-numbers : (F : ℕ → ℕ → ℕ → ℕ → ℕ → ℕ → List Field) (a a' b b' c c' d d' e e' g g' : ℕ) → a ≡ a' → b ≡ b' → c ≡ c' → d ≡ d' → e ≡ e' → g ≡ g' → F a b c d e g ≡ F a' b' c' d' e' g'
-same-numbers F a a' b b' c c' d d' e e' g g' p q r s t u = cc
-
-end : (l : List Field) → l ++ [] ≡ l
-end [] = refl
-end (x ∷ l) = ap (λ k. x ∷ k) (end l)
 
 eight : (F : List Field → List Field → List Field → List Field → List Field → List Field → List Field) (a a' b b' c c' d d' e e' g g' : List Field) → a ≡ a' → b ≡ b' → c ≡ c' → d ≡ d' → e ≡ e' → g ≡ g' → F a b c d e g ≡ F a' b' c' d' e' g'
 eight F a a' b b' c c' d d' e e' g g' p q r s t u = cc
@@ -82,10 +67,10 @@ module _ (h : Header) (ids : List (List ℕ)) (corners : List Point) (edges : Li
     pub nodes_fit : length nodes ≡ h.nodes
 
   pub fields-whole : Fit → fields 1 content ≡ whole
+  unfolding fields
   fields-whole fit =
-      fields-body 1 content
-      ∙ (same-numbers (λ a b c d e g. header_of 1 h.scale a b c d e g ++ body 1 a b c e g content) _ _ _ _ _ _ _ _ _ _ _ _ fit.ids_fit fit.corners_fit (length-map edges own ∙ fit.edges_fit) fit.marks_fit fit.covers_fit fit.nodes_fit
-      ∙ eight (λ a b c d e g. header_row h ++ (a ++ (rows_from (rows_of corner_row) [] corners ++ (b ++ (rows_from (rows_of (mark_row h.edges h.features)) [] marks ++ (rows_from (cover_rows h.features) [] covers ++ (c ++ (d ++ e)))))))) _ _ _ _ _ _ _ _ _ _ [] [] (alone-flat id_row [] ids) (own-rows h.corners h.covers [] edges) (alone-map (λ floor. number w32 (h.edges + 1) (none_or_next floor)) [] floors) (alone-map (number w32 (h.nodes + 1)) [] roots) (end _ ∙ alone-flat (node_row h.edges h.corners h.nodes) [] nodes) refl)
+      same-numbers (λ a b c d e g. header_of 1 h.scale a b c d e g ++ flat_map (λ part. part) (table.rows_of 1 a b c e g content)) fit.ids_fit fit.corners_fit (length-map edges own ∙ fit.edges_fit) fit.marks_fit fit.covers_fit fit.nodes_fit
+      ∙ eight (λ a b c d e g. header_row h ++ (a ++ (rows_from (rows_of corner_row) [] corners ++ (b ++ (rows_from (rows_of (mark_row h.edges h.features)) [] marks ++ (rows_from (cover_rows h.features) [] covers ++ (c ++ (d ++ e)))))))) _ _ _ _ _ _ _ _ _ _ [] [] (sym (flat-rows id_row [] ids)) (own-rows h.corners h.covers [] edges) (sym (map-rows (λ floor. number w32 (h.edges + 1) (none_or_next floor)) [] floors)) (sym (map-rows (number w32 (h.nodes + 1)) [] roots)) (append-nil _ ∙ sym (flat-rows (node_row h.edges h.corners h.nodes) [] nodes)) refl
 
   pub shaped : Fit → IsShaped 1 content
   shaped fit = record { floors = fit.floors_fit ∙ sym fit.corners_fit; roots = fit.roots_fit ∙ sym fit.corners_fit; sources = all-own edges }

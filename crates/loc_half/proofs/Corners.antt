@@ -1,15 +1,16 @@
 -- The edges at a corner, as the table lists them: those that begin there, and then those that end there.
-use Rattle.std.proofs.Common.{◌≡◌, ◌≢◌, ℕ, zero, suc, ◌+◌, ◌-◌, ◌<◌, ◌≤◌, Bool, true, false, not, ◌&&◌, ◌||◌, List, [], ◌∷◌, ◌++◌, length, get_or, filter, refl, sym, ◌∙◌, ap, subst, inl, inr, arith}
+use Rattle.std.proofs.Common.{◌≡◌, ◌≢◌, ℕ, ◌+◌, ◌-◌, ◌<◌, ◌≤◌, Bool, true, false, not, ◌&&◌, ◌||◌, List, [], ◌∷◌, ◌++◌, length, get_or, filter, refl, sym, ◌∙◌, ap, subst, inl, inr, arith}
 use Rattle.std.specs.Prelude.{◌==◌, nat_lt}
 use Rattle.std.specs.List.{list_all, range_with_len}
-use Rattle.std.proofs.lemmas.Bool.{and_parts, and_from, or_cases, or_left, or_right, both_ways, cases_Bool, cond-true, cond-false, eqb-true, eq-eqb, ne_eqb, lt-ltb, le-ltb, ltb-true, not_from_false, or_from}
+use Rattle.std.proofs.lemmas.Bool.{false_from_ne_true, not-true, and_parts, and_from, or_cases, or_left, or_right, both_ways, eqb-true, eq-eqb, ne_eqb, lt-ltb, le-ltb, ltb-true, not_from_false, or_from}
 use Rattle.std.proofs.lemmas.List.Folds.{list_all-append, list_any-append, list_any_at}
 use Rattle.std.proofs.lemmas.List.FromFn.{get_or-range_with_len, length-range_with_len, map-range_with_len_more}
 use Rattle.std.proofs.lemmas.List.{map-id}
 use Rattle.loc_spec_plane.specs.Lists.{is_in, is_rising, numbers}
 use Rattle.loc_spec_plane.specs.Tables.{Table, IsTable, edge_numbers, lo_of, hi_of, ends_at}
 use Rattle.loc_spec_plane.specs.Places.{is_edge}
-use Rattle.loc_laws_order.proofs.Kept.{numbers_rise, rising_kept}
+use Rattle.loc_laws_order.proofs.Kept.{all_filter, all_range, numbers_rise, range_rises, rising_kept}
+use Rattle.loc_laws_order.proofs.Sets.{all_weaker}
 use Rattle.loc_laws_order.proofs.TableOrder.{numbers_within, rises}
 use Rattle.loc_laws_order.proofs.Unique.{all-at}
 use Rattle.loc_laws_rays.proofs.Members.{in_numbers, is_in-filter}
@@ -17,31 +18,9 @@ use Rattle.loc_laws_rays.proofs.Parity.{same-from_both}
 use Rattle.loc_edges.specs.Ending.{IsBeginning}
 use Rattle.loc_half.specs.Turns.{stands_at, AreEdgesAt}
 
--- a test that each number of a range passes
-all_range : (p : ℕ → Bool) (a n : ℕ) → ((k : ℕ) → a ≤ k → k < a + n → p k ≡ true) → list_all p (range_with_len a n) ≡ true
-all_range p a zero each = refl
-all_range p a (suc n) each = and_from (p a) (list_all p (range_with_len (a + 1) n)) (each a (omega arith) (omega arith)) (all_range p (a + 1) n (λ k from lt. each k (omega (arith, from)) (omega (arith, lt))))
-
-all_weaker : (p q : ℕ → Bool) → ((n : ℕ) → p n ≡ true → q n ≡ true) → (ns : List ℕ) → list_all p ns ≡ true → list_all q ns ≡ true
-all_weaker p q weaker [] all = refl
-all_weaker p q weaker (n ∷ ns) all = let parts = and_parts (p n) (list_all p ns) all in and_from (q n) (list_all q ns) (weaker n parts.0) (all_weaker p q weaker ns parts.1)
-
-pub all_filter : (g p q : ℕ → Bool) → ((n : ℕ) → p n ≡ true → g n ≡ true → q n ≡ true) → (ns : List ℕ) → list_all p ns ≡ true → list_all q (filter g ns) ≡ true
-all_filter g p q each [] all = refl
-all_filter g p q each (n ∷ ns) all =
-    let parts = and_parts (p n) (list_all p ns) all in
-    elim (cases_Bool (g n)) [
-      | inl kept ↦ ap (list_all q) (cond-true (g n) (n ∷ filter g ns) (filter g ns) kept) ∙ and_from (q n) (list_all q (filter g ns)) (each n parts.0 kept) (all_filter g p q each ns parts.1)
-      | inr left ↦ ap (list_all q) (cond-false (g n) (n ∷ filter g ns) (filter g ns) left) ∙ all_filter g p q each ns parts.1
-    ]
-
 rising_weaker : (p q : ℕ → ℕ → Bool) → ((a b : ℕ) → p a b ≡ true → q a b ≡ true) → (ns : List ℕ) → is_rising p ns ≡ true → is_rising q ns ≡ true
 rising_weaker p q weaker [] up = refl
 rising_weaker p q weaker (n ∷ ns) up = let parts = and_parts (list_all (p n) ns) (is_rising p ns) up in and_from (list_all (q n) ns) (is_rising q ns) (all_weaker (p n) (q n) (weaker n) ns parts.0) (rising_weaker p q weaker ns parts.1)
-
-range_rises : (a n : ℕ) → is_rising nat_lt (range_with_len a n) ≡ true
-range_rises a zero = refl
-range_rises a (suc n) = and_from (list_all (nat_lt a) (range_with_len (a + 1) n)) (is_rising nat_lt (range_with_len (a + 1) n)) (all_range (nat_lt a) (a + 1) n (λ k from lt. lt-ltb a k (omega (arith, from)))) (range_rises (a + 1) n)
 
 rising-append : (p : ℕ → ℕ → Bool) (xs ys : List ℕ) → is_rising p xs ≡ true → is_rising p ys ≡ true → list_all (λ x. list_all (p x) ys) xs ≡ true → is_rising p (xs ++ ys) ≡ true
 rising-append p [] ys up_x up_y across = up_y
@@ -67,10 +46,8 @@ module _ (t : Table) (ok : IsTable t) (c first past : ℕ) (range : IsBeginning 
 
   in_range : (e : ℕ) → first ≤ e → e < first + (past - first) → (e < length t.ends) × (lo_of t e ≡ c)
   in_range e from lt =
-      let order = range.in_order in
-      let within = range.within in
-      let fits : e < length t.ends = omega (arith, lt, order, within) in
-      (fits, (range.exact e fits).1 (from, omega (arith, lt, order)))
+      let fits : e < length t.ends = omega (arith, lt, range.in_order, range.within) in
+      (fits, (range.exact e fits).1 (from, omega (arith, lt, range.in_order)))
 
   begins : list_all (λ e. (lo_of t e == c) && is_edge t e) (range_with_len first (past - first)) ≡ true
   begins = all_range (λ e. (lo_of t e == c) && is_edge t e) first (past - first) (λ e from lt. (let at = in_range e from lt in and_from (lo_of t e == c) (is_edge t e) (eq-eqb (lo_of t e) c at.1) (lt-ltb e (length t.ends) at.0)))
@@ -89,11 +66,7 @@ module _ (t : Table) (ok : IsTable t) (c first past : ℕ) (range : IsBeginning 
       (range_with_len first (past - first)) begins)
 
   not_before_itself : (e : ℕ) → listed_before e e ≡ false
-  not_before_itself e = or_from (nat_lt e e) ((lo_of t e == c) && not (lo_of t e == c)) (le-ltb e e (omega arith)) (neither (lo_of t e == c))
-    where
-      neither : (b : Bool) → (b && not b) ≡ false
-      neither true = refl
-      neither false = refl
+  not_before_itself e = or_from (nat_lt e e) ((lo_of t e == c) && not (lo_of t e == c)) (le-ltb e e (omega arith)) (false_from_ne_true _ (λ h. (let parts = and_parts (lo_of t e == c) (not (lo_of t e == c)) h in both_ways _ (not-true _ parts.1) parts.0)))
 
   module _ (row : List ℕ) (is : row ≡ range_with_len first (past - first) ++ filter (λ e. hi_of t e == c) (edge_numbers t)) where
     apart : (i j : ℕ) → i < j → j < length row → get_or row i 0 ≢ get_or row j 0
@@ -109,10 +82,8 @@ module _ (t : Table) (ok : IsTable t) (c first past : ℕ) (range : IsBeginning 
         let fits = ltb-true e (length t.ends) both.0 in
         parts_of e ∙ elim (or_cases (lo_of t e == c) (hi_of t e == c) both.1) [
           | inl low ↦ (let within = (range.exact e fits).0 (eqb-true (lo_of t e) c low) in
-              let from = within.0 in
-              let to = within.1 in
-              let place : first + (e - first) ≡ e = omega (arith, from) in
-              let short : e - first < past - first = omega (arith, from, to) in
+              let place : first + (e - first) ≡ e = omega (arith, within.0) in
+              let short : e - first < past - first = omega (arith, within.0, within.1) in
               or_left (is_in e (range_with_len first (past - first))) (is_in e (numbers (length t.ends)) && (hi_of t e == c))
               (list_any_at (λ m. m == e) (range_with_len first (past - first)) (e - first) 0 (let size = length-range_with_len first (past - first) in omega (arith, size, short))
               (eq-eqb (get_or (range_with_len first (past - first)) (e - first) 0) e (get_or-range_with_len first (past - first) (e - first) 0 short ∙ place))))

@@ -39,8 +39,7 @@ module _ (next : ℕ → ℕ) where
   way-below d g (suc steps) (suc fuel) x lt off =
       subst (λ ms. least_of d ms ≤ after next (suc steps) x) (sym (cond-false (x == g) [] (x ∷ way_to next g fuel (next x)) (ne_eqb x g (off 0 (omega arith)))))
       (let rest = way-below x g steps fuel (next x) (omega arith) (λ s le at. off (suc s) (omega arith) (sym (after-next s x) ∙ at)) in
-      let last = after-next steps x in
-      omega (arith, rest, last))
+      omega (arith, rest, after-next steps x))
 
 module _ (nexts : List ℕ) (first period : ℕ) (round : IsRound nexts first period) where
   -- x is on the round
@@ -71,8 +70,7 @@ module _ (nexts : List ℕ) (first period : ℕ) (round : IsRound nexts first pe
     at_most = elim (cases_eq place 0) [
       | inl start ↦ (let e : after (next_of nexts) place first ≡ first = ap (λ k. after (next_of nexts) k first) start in omega (arith, e))
       | inr other ↦ (let ne : place ≢ 0 = other in
-          let few = round.few in
-          let met = way-below (next_of nexts) (after (next_of nexts) place first) (after (next_of nexts) place first) (period - suc place) (length nexts) (next_of nexts (after (next_of nexts) place first)) (omega (arith, few)) (λ s le. away s le (omega (arith, ne))) in
+          let met = way-below (next_of nexts) (after (next_of nexts) place first) (after (next_of nexts) place first) (period - suc place) (length nexts) (next_of nexts (after (next_of nexts) place first)) (omega (arith, round.few)) (λ s le. away s le (omega (arith, ne))) in
           let steps : (period - suc place) + suc place ≡ period = omega arith in
           let back : after (next_of nexts) (period - suc place) (next_of nexts (after (next_of nexts) place first)) ≡ first = on-from (period - suc place) ∙ (ap (λ k. after (next_of nexts) k first) steps ∙ round.closes) in
           omega (arith, met, back))

@@ -95,18 +95,16 @@ module _ (t : Table) where
   pub target-fits : IsTable t → (h : ℕ) → h < half_edge_count t → target t h < length t.corners
   target-fits ok h lt =
       let up = ok.goes_up (edge_of h) (edge-fits h lt) in
-      let rises = up.0 in
       let within = up.1 in
-      cond_both (goes_up h) (hi_of t (edge_of h)) (lo_of t (edge_of h)) (λ c. c < length t.corners) (λ _. within) (λ _. omega (arith, rises, within))
+      cond_both (goes_up h) (hi_of t (edge_of h)) (lo_of t (edge_of h)) (λ c. c < length t.corners) (λ _. within) (λ _. omega (arith, up.0, within))
 
   -- the two half-edges of one more edge
   pub origins_more : (origins more : List ℕ) (e : ℕ) → length origins ≡ 2 * e → ((h : ℕ) → h < 2 * e → get_or origins h 0 ≡ origin t h) → more ≡ (origins ++ lo_of t e ∷ []) ++ hi_of t e ∷ []
       → (length more ≡ 2 * (e + 1)) × ((h : ℕ) → h < 2 * (e + 1) → get_or more h 0 ≡ origin t h)
   origins_more origins more e size each is =
       let first = length-append origins (lo_of t e ∷ []) in
-      let both = length-append (origins ++ lo_of t e ∷ []) (hi_of t e ∷ []) in
       let longer = ap length is in (
-        omega (arith, size, first, both, longer),
+        omega (arith, size, first, length-append (origins ++ lo_of t e ∷ []) (hi_of t e ∷ []), longer),
         λ h lt. ap (λ ns. get_or ns h 0) is ∙ elim (cases_eq h (2 * e + 1)) [
           | inl last ↦ ap (λ k. get_or ((origins ++ lo_of t e ∷ []) ++ hi_of t e ∷ []) k 0) last ∙ (get_or_at (origins ++ lo_of t e ∷ []) (hi_of t e) [] 0 (2 * e + 1) (omega (arith, size, first)) ∙ (sym (origin-down e) ∙ ap (origin t) (sym last)))
           | inr not_last ↦ (let ne : h ≢ 2 * e + 1 = not_last in

@@ -1,18 +1,19 @@
 -- Linking the half-edges at a corner, edge after edge of its turn list.
-use Rattle.std.proofs.Common.{◌≡◌, ◌≢◌, ℕ, suc, ◌+◌, ◌-◌, ◌<◌, ◌≤◌, true, false, List, [], ◌∷◌, length, get_or, set, take, drop, refl, sym, ◌∙◌, ap, subst, inl, inr, arith, get_or-set_same, get_or-set_other, length-set}
+use Rattle.std.proofs.Common.{◌≡◌, ◌≢◌, ℕ, suc, ◌+◌, ◌-◌, ◌<◌, true, false, List, [], ◌∷◌, length, get_or, set, take, drop, refl, sym, ◌∙◌, ap, subst, inl, inr, arith, get_or-set_same, get_or-set_other, length-set}
 use Rattle.std.specs.Prelude.{◌==◌}
 use Rattle.std.proofs.lemmas.Bool.{and_parts, or_cases, or_parts, cases_eq, cond-true, cond-false, eqb-true, eq-eqb, ltb-true, false_from_ne_true, true≢false}
-use Rattle.std.proofs.lemmas.List.{drop_more, take_all, get_or-take, length-take-le}
+use Rattle.std.proofs.lemmas.List.{drop_more, get_or-take, length-take-le}
 use Rattle.std.proofs.lemmas.List.Folds.{list_any_more, list_any_at}
 use Rattle.loc_spec_plane.specs.Lists.{is_in, last_or_else, before_from, before_round}
 use Rattle.loc_spec_plane.specs.Tables.{Table, IsTable, ends_at}
 use Rattle.loc_spec_plane.specs.Places.{is_edge}
 use Rattle.loc_spec_plane.specs.HalfEdges.{comes_round, half_edge_count, edge_of, target, leaving, IsTurnList, IsNext}
 use Rattle.loc_laws_order.proofs.TableOrder.{rises}
+use Rattle.std.proofs.lemmas.Option.{get_or_from_slice_get, slice_get_within}
+use Rattle.loc_status.proofs.Ends.{member_place}
 use Rattle.loc_half.specs.Turns.{arriving}
 use Rattle.loc_half.proofs.Halves.{arriving-fits, arriving-target, edge-arriving, target-arriving}
-use Rattle.loc_half.proofs.Permuting.{edge_in}
-use Rattle.loc_half.proofs.Turning.{turn-asym}
+use Rattle.loc_laws_order.proofs.Unique.{comes_round-asym}
 
 -- the last of a list that is not empty
 pub last_is : (n : ℕ) (ns : List ℕ) → 0 < length ns → get_or ns (length ns - 1) 0 ≡ last_or_else n ns
@@ -25,11 +26,7 @@ last_is n (m ∷ k ∷ ns) some =
 
 -- a member has a place
 place_of : (n : ℕ) (ns : List ℕ) → is_in n ns ≡ true → (j : ℕ) × (j < length ns) × (get_or ns j 0 ≡ n)
-place_of n [] here = absurd (true≢false (sym here))
-place_of n (m ∷ ns) here = elim (or_cases (m == n) (is_in n ns) here) [
-  | inl first ↦ (0, omega arith, eqb-true m n first)
-  | inr more ↦ (let found = place_of n ns more in let lt = found.1 in (suc found.0, omega (arith, lt), found.2))
-]
+place_of n ns here = let found = member_place ns n here in (found.0, slice_get_within ns found.0 n found.1, get_or_from_slice_get ns found.0 n 0 found.1)
 
 -- so far as the first edges of the turn list: the half-edges that arrive by them are linked, and what stands before each other edge is found from the last of them
 pub record IsLinking (t : Table) (c : ℕ) (turns : List ℕ) (old nexts : List ℕ) (done before : ℕ) : Type 0 where
@@ -53,13 +50,11 @@ module _ (t : Table) (ok : IsTable t) (c : ℕ) (turns : List ℕ) (listed : IsT
   new_at : (i : ℕ) → i < length turns → is_in (get_or turns i 0) (take i turns) ≡ false
   new_at i lt = false_from_ne_true (is_in (get_or turns i 0) (take i turns)) (λ here.
       (let found = place_of (get_or turns i 0) (take i turns) here in
-      let size = length-take-le i turns (omega (arith, lt)) in
-      let inside = found.1 in
-      let early : found.0 < i = omega (arith, inside, size) in
+      let early : found.0 < i = omega (arith, found.1, length-take-le i turns (omega (arith, lt))) in
       let same : get_or turns found.0 0 ≡ get_or turns i 0 = sym (get_or-take i turns found.0 0 early) ∙ found.2 in
       let comes = rises (comes_round t c) 0 turns found.0 i listed.rising early lt in
       let self : comes_round t c (get_or turns i 0) (get_or turns i 0) ≡ true = subst (λ e. comes_round t c e (get_or turns i 0) ≡ true) same comes in
-      turn-asym t c (get_or turns i 0) (get_or turns i 0) self self))
+      comes_round-asym t c (get_or turns i 0) (get_or turns i 0) self self))
 
   -- nothing linked yet
   pub linking_start : (old : List ℕ) (before : ℕ) → length old ≡ half_edge_count t → 0 < length turns → before ≡ get_or turns (length turns - 1) 0 → IsLinking t c turns old old 0 before
@@ -78,7 +73,6 @@ module _ (t : Table) (ok : IsTable t) (c : ℕ) (turns : List ℕ) (listed : IsT
     -- one edge more
     pub linking_more : IsLinking t c turns old (set nexts (arriving t c (get_or turns i 0)) (leaving t c before)) (i + 1) (get_or turns i 0)
     linking_more =
-        let size = linking.as_many in
         record {
           as_many = length-set nexts (arriving t c (get_or turns i 0)) (leaving t c before) ∙ linking.as_many;
           known = turn_fits i lt;
@@ -86,7 +80,7 @@ module _ (t : Table) (ok : IsTable t) (c : ℕ) (turns : List ℕ) (listed : IsT
               linking.behind n apart.0 ∙ (ap (before_from before n) first_left ∙ cond-false (get_or turns i 0 == n) before (before_from (get_or turns i 0) n (drop (i + 1) turns)) apart.1));
           linked = λ h fits at here. elim (cases_eq h (arriving t c (get_or turns i 0))) [
             | inl same ↦ (let edge : edge_of h ≡ get_or turns i 0 = ap edge_of same ∙ edge-arriving t c (get_or turns i 0) in
-                let inside : arriving t c (get_or turns i 0) < length nexts = (let below = arriving-fits t c (get_or turns i 0) (turn_fits i lt) in omega (arith, below, size)) in
+                let inside : arriving t c (get_or turns i 0) < length nexts = (let below = arriving-fits t c (get_or turns i 0) (turn_fits i lt) in omega (arith, below, linking.as_many)) in
                 let found : before_round (get_or turns i 0) turns ≡ before = linking.behind (get_or turns i 0) (new_at i lt) ∙ (ap (before_from before (get_or turns i 0)) first_left ∙ cond-true (get_or turns i 0 == get_or turns i 0) before (before_from (get_or turns i 0) (get_or turns i 0) (drop (i + 1) turns)) (eq-eqb (get_or turns i 0) (get_or turns i 0) refl)) in
                 ap (λ k. get_or (set nexts (arriving t c (get_or turns i 0)) (leaving t c before)) k 0) same ∙ (get_or-set_same nexts (arriving t c (get_or turns i 0)) (leaving t c before) 0 inside ∙ ap (leaving t c) (sym (ap (λ k. before_round k turns) edge ∙ found))))
             | inr other ↦ get_or-set_other nexts (arriving t c (get_or turns i 0)) h (leaving t c before) 0 other ∙ linking.linked h fits at (elim (or_cases (is_in (edge_of h) (take i turns)) (get_or turns i 0 == edge_of h) (sym (list_any_more (λ m. m == edge_of h) turns i 0 lt) ∙ here)) [
@@ -96,20 +90,6 @@ module _ (t : Table) (ok : IsTable t) (c : ℕ) (turns : List ℕ) (listed : IsT
           ];
           others = λ h off. get_or-set_other nexts (arriving t c (get_or turns i 0)) h (leaving t c before) 0 (λ same. off (ap (target t) same ∙ target-arriving t c (get_or turns i 0) (at_corner i lt).1)) ∙ linking.others h off;
         }
-
-  -- all linked
-  pub linking_all : (old nexts : List ℕ) (i before : ℕ) → length turns ≤ i → IsLinking t c turns old nexts i before → (h : ℕ) → h < half_edge_count t → target t h ≡ c → IsNext t h (get_or nexts h 0)
-  linking_all old nexts i before end linking h fits at =
-      let here : IsTurnList t (target t h) turns = subst (λ k. IsTurnList t k turns) (sym at) listed in
-      (turns, here, linking.linked h fits at (subst (λ es. is_in (edge_of h) es ≡ true) (sym (take_all i turns end)) (edge_in t ok h turns fits here)) ∙ ap (λ k. leaving t k (before_round (edge_of h) turns)) (sym at))
-
-  -- where no edge ends nothing arrives
-  pub none_arrives : length turns ≡ 0 → (h : ℕ) → h < half_edge_count t → target t h ≢ c
-  none_arrives none h fits at = nothing turns none (edge_in t ok h turns fits (subst (λ k. IsTurnList t k turns) (sym at) listed))
-    where
-      nothing : (ns : List ℕ) → length ns ≡ 0 → is_in (edge_of h) ns ≡ true → ⊥
-      nothing [] size here = true≢false (sym here)
-      nothing (n ∷ ns) size here = omega (arith, size)
 
 -- one corner more is linked
 pub corners_more : (t : Table) (old nexts : List ℕ) (c : ℕ) → ((h : ℕ) → h < half_edge_count t → target t h < c → IsNext t h (get_or old h 0)) → ((h : ℕ) → h < half_edge_count t → target t h ≡ c → IsNext t h (get_or nexts h 0)) → ((h : ℕ) → target t h ≢ c → get_or nexts h 0 ≡ get_or old h 0)

@@ -100,23 +100,17 @@ module _ (t : Table) (ok : IsTable t) (half : HalfEdgeLists) (are : AreHalfEdges
   pub placed : (h : ℕ) → h < half_edge_count t → IsPlaced h
   placed h lt =
       let on = round_of half.nexts permute h (fits h lt) in
-      let first = on.0 in
-      let period = on.1 in
-      let place = on.2 in
-      let within = on.4 in
-      let size = are.as_many_nexts in
-      let few = on.3.few in
-      let leads : leader t (next_in half) h ≡ on.0 = ap (leader t (next_in half)) (sym on.5) ∙ leads_by on.0 on.1 on.3 (omega (arith, within)) on.2 in
+      let leads : leader t (next_in half) h ≡ on.0 = ap (leader t (next_in half)) (sym on.5) ∙ leads_by on.0 on.1 on.3 (omega (arith, on.4)) on.2 in
       record {
         period = on.1;
         place = on.2;
         within = on.4;
-        few = omega (arith, few, size);
+        few = omega (arith, on.3.few, are.as_many_nexts);
         orbit = subst (λ x. IsOrbit (next_in half) x on.1) on.5 (orbit_at half.nexts permute on.0 on.1 on.3 on.2 on.4);
         here = ap (after (next_in half) on.2) leads ∙ on.5;
-        back = ap (after (next_in half) (on.1 - on.2)) (sym on.5) ∙ (after-add (next_in half) (on.1 - on.2) on.2 on.0 ∙ (let e : on.1 - on.2 + on.2 ≡ on.1 = omega (arith, within) in ap (λ k. after (next_in half) k on.0) e ∙ (on.3.closes ∙ sym leads)));
-        leads = λ k. ap (λ x. leader t (next_in half) (after (next_in half) k x)) (sym on.5) ∙ (ap (leader t (next_in half)) (after-add (next_in half) k on.2 on.0) ∙ (leads_by on.0 on.1 on.3 (omega (arith, within)) (k + on.2) ∙ sym leads));
-        inside = λ k. (let at = inside_by h (fits h lt) k in omega (arith, at, size));
+        back = ap (after (next_in half) (on.1 - on.2)) (sym on.5) ∙ (after-add (next_in half) (on.1 - on.2) on.2 on.0 ∙ (let e : on.1 - on.2 + on.2 ≡ on.1 = omega (arith, on.4) in ap (λ k. after (next_in half) k on.0) e ∙ (on.3.closes ∙ sym leads)));
+        leads = λ k. ap (λ x. leader t (next_in half) (after (next_in half) k x)) (sym on.5) ∙ (ap (leader t (next_in half)) (after-add (next_in half) k on.2 on.0) ∙ (leads_by on.0 on.1 on.3 (omega (arith, on.4)) (k + on.2) ∙ sym leads));
+        inside = λ k. (let at = inside_by h (fits h lt) k in omega (arith, at, are.as_many_nexts));
       }
 
   -- the cycle of a half-edge, as so many steps
@@ -167,10 +161,6 @@ module _ (t : Table) (ok : IsTable t) (half : HalfEdgeLists) (are : AreHalfEdges
   -- the leader leads itself
   pub leads_itself : (h : ℕ) → h < half_edge_count t → leader t (next_in half) (leader t (next_in half) h) ≡ leader t (next_in half) h
   leads_itself h lt = same_cycle (leader t (next_in half) h) h lt (leader_in h lt)
-
-  -- the next is on the cycle
-  pub next_leads : (h : ℕ) → h < half_edge_count t → leader t (next_in half) (next_in half h) ≡ leader t (next_in half) h
-  next_leads h lt = (placed h lt).leads 1
 
   pub next_within : (h : ℕ) → h < half_edge_count t → next_in half h < half_edge_count t
   next_within h lt = (placed h lt).inside 1

@@ -7,11 +7,10 @@ use Rattle.loc_spec_plane.specs.Lists.{is_in, is_rising, last_or_else, before_fr
 use Rattle.loc_spec_plane.specs.Tables.{Table, IsTable, ends_at}
 use Rattle.loc_spec_plane.specs.Places.{is_edge}
 use Rattle.loc_spec_plane.specs.HalfEdges.{comes_round, half_edge_count, edge_of, origin, target, leaving, IsTurnList, IsNext, IsNextOfAll}
-use Rattle.loc_laws_order.proofs.Unique.{all-at, turn_list-unique}
+use Rattle.loc_laws_order.proofs.Unique.{all-at, comes_round-asym, turn_list-unique}
 use Rattle.loc_half.specs.Rounds.{IsPermuting}
 use Rattle.loc_half.specs.Turns.{arriving}
 use Rattle.loc_half.proofs.Halves.{edge-fits, edge-leaving, leaving-fits, origin-leaving, ends-target, arriving-target}
-use Rattle.loc_half.proofs.Turning.{turn-asym}
 
 -- no member stands there twice
 abbrev pub AllDiffer : List ℕ → Type 0
@@ -119,7 +118,7 @@ module _ (t : Table) (ok : IsTable t) where
         let list : next_g.0 ≡ next_h.0 = turn_list-unique t (target t g) next_g.0 next_h.0 next_g.1 turns in
         let edges : before_round (edge_of g) next_g.0 ≡ before_round (edge_of h) next_h.0 =
         sym (edge-leaving t (target t g) (before_round (edge_of g) next_g.0)) ∙ (ap edge_of (sym next_g.2 ∙ (same ∙ next_h.2)) ∙ edge-leaving t (target t h) (before_round (edge_of h) next_h.0)) in
-        let differ = differ_from_rising (comes_round t (target t g)) (turn-asym t (target t g)) next_h.0 turns.rising in
+        let differ = differ_from_rising (comes_round t (target t g)) (comes_round-asym t (target t g)) next_h.0 turns.rising in
         let edge : edge_of g ≡ edge_of h = round_one (edge_of g) (edge_of h) next_h.0 differ (subst (λ es. is_in (edge_of g) es ≡ true) list (edge_in g next_g.0 lt_g next_g.1)) (edge_in h next_h.0 lt_h next_h.1) (ap (before_round (edge_of g)) (sym list) ∙ edges) in
         sym (arriving-target t ok g lt_g) ∙ (ap (λ c. arriving t c (edge_of g)) at ∙ (ap (arriving t (target t h)) edge ∙ arriving-target t ok h lt_h))
 

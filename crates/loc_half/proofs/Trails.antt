@@ -62,8 +62,7 @@ module _ (next : ℕ → ℕ) where
   on_orbit h period zero orbit = (0, orbit.some, refl)
   on_orbit h period (suc k) orbit =
       let met = on_orbit h period k orbit in
-      let lt = met.1 in
       elim (cases_eq (suc met.0) period) [
         | inl last ↦ (0, orbit.some, sym orbit.closes ∙ (ap (λ j. after next j h) (sym last) ∙ ap next met.2))
-        | inr other ↦ (let ne : suc met.0 ≢ period = other in (suc met.0, omega (arith, ne, lt), ap next met.2))
+        | inr other ↦ (let ne : suc met.0 ≢ period = other in (suc met.0, omega (arith, ne, met.1), ap next met.2))
       ]

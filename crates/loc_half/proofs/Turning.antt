@@ -4,31 +4,23 @@ use Rattle.std.specs.Prelude.{◌==◌, eqb}
 use Rattle.std.specs.Cmp.{IsStrictWeakOrder}
 use Rattle.std.specs.List.{list_all, IsDistinct}
 use Rattle.std.specs.List.Sorted.{IsPermutation, IsSortedBy}
-use Rattle.std.proofs.lemmas.Bool.{and_parts, and_from, or_cases, both_ways, cases_eq, eqb-true, eqb-false, eq-eqb, ne_eqb, ltb-true, false_from_ne_true, not-true, true≢false}
+use Rattle.std.proofs.lemmas.Bool.{and_parts, and_from, or_cases, both_ways, cases_eq, eqb-true, eqb-false, eq-eqb, ne_eqb, ltb-true, false_from_ne_true, true≢false}
 use Rattle.std.proofs.lemmas.List.{get_or_default}
 use Rattle.std.proofs.lemmas.List.Folds.{list_any_at}
 use Rattle.std.proofs.lemmas.List.Sorted.{list_any-IsPermutation, sorted_far}
 use Rattle.std.proofs.lemmas.Map.Keys.{IsDistinct-from_apart, IsDistinct-IsPermutation, apart_from_distinct}
 use Rattle.loc_spec_plane.specs.Lists.{is_in, is_rising}
-use Rattle.loc_spec_plane.specs.Points.{Point, Edge, before, up_to, conflict}
-use Rattle.loc_spec_plane.specs.Tables.{Table, IsTable, NoConflict, corner, edge, lo_of, hi_of, ends_at}
-use Rattle.loc_spec_plane.specs.Places.{alive, lower, is_chain, is_edge, lower_of}
+use Rattle.loc_spec_plane.specs.Tables.{Table, IsTable, NoConflict, corner, lo_of, hi_of, ends_at}
+use Rattle.loc_spec_plane.specs.Places.{alive_at, is_edge, lower_of}
 use Rattle.loc_spec_plane.specs.HalfEdges.{comes_round, IsTurnList}
-use Rattle.loc_laws_order.proofs.Sides.{lower-asym}
-use Rattle.loc_laws_order.proofs.ChainLaws.{chain_lower}
-use Rattle.loc_laws_order.proofs.PairLaws.{order_is_total}
-use Rattle.loc_laws_order.proofs.TableOrder.{corner_before, corner_up_to, different}
+use Rattle.loc_laws_order.proofs.AliveAt.{alive_between, alive_from, lower_passes, one_is_lower}
+use Rattle.loc_laws_order.proofs.Sets.{number_swap}
+use Rattle.loc_laws_order.proofs.Unique.{comes_round-asym}
 use Rattle.loc_half.specs.Turns.{stands_at, stands_before, AreEdgesAt}
 
 -- ---- the order round a corner, as a table of cases: x and y say which edges begin there, l and m which of the two is lower
 abbrev round : Bool → Bool → Bool → Bool → Bool
 round x y l m = cond x (cond y l true) (cond y false m)
-
-asym_cases : (x y l m : Bool) → (l ≡ true → m ≡ true → ⊥) → round x y l m ≡ true → round y x m l ≡ true → ⊥
-asym_cases true true l m both h k = both h k
-asym_cases true false l m both h k = true≢false (sym k)
-asym_cases false true l m both h k = true≢false (sym h)
-asym_cases false false l m both h k = both k h
 
 total_cases : (x y l m : Bool) → (x ≡ true → y ≡ true → (l ≡ true) ⊎ (m ≡ true)) → (x ≡ false → y ≡ false → (l ≡ true) ⊎ (m ≡ true)) → (round x y l m ≡ true) ⊎ (round y x m l ≡ true)
 total_cases true true l m up down = up refl refl
@@ -64,45 +56,17 @@ behind_cases true true l h k off = off
 behind_cases true false l h k off = absurd (true≢false (sym k))
 behind_cases false y l h k off = absurd (true≢false (sym h))
 
--- not both of two edges come before the other
-pub turn-asym : (t : Table) (c a b : ℕ) → comes_round t c a b ≡ true → comes_round t c b a ≡ true → ⊥
-turn-asym t c a b = asym_cases (lo_of t a == c) (lo_of t b == c) (lower_of t a b) (lower_of t b a) (lower-asym (edge t a) (edge t b))
-
--- three edges, the lowest first, are a chain
-trio_is_chain : (a b d : Edge) (p : Point) → alive a p ≡ true → alive b p ≡ true → alive d p ≡ true → lower a b ≡ true → lower b d ≡ true → not (conflict a b) ≡ true → not (conflict b d) ≡ true → is_chain p (a ∷ b ∷ d ∷ []) ≡ true
-trio_is_chain a b d p live_a live_b live_d ab bd quiet_ab quiet_bd =
-    and_from (alive a p && (alive b p && (alive d p && true))) ((lower a b && not (conflict a b)) && ((lower b d && not (conflict b d)) && true))
-    (and_from (alive a p) (alive b p && (alive d p && true)) live_a (and_from (alive b p) (alive d p && true) live_b (and_from (alive d p) true live_d refl)))
-    (and_from (lower a b && not (conflict a b)) ((lower b d && not (conflict b d)) && true) (and_from (lower a b) (not (conflict a b)) ab quiet_ab)
-    (and_from (lower b d && not (conflict b d)) true (and_from (lower b d) (not (conflict b d)) bd quiet_bd) refl))
-
 module _ (t : Table) (ok : IsTable t) (quiet : NoConflict t) where
-  alive_between : (e m : ℕ) → e < length t.ends → lo_of t e ≤ m → m < hi_of t e → alive (edge t e) (corner t m) ≡ true
-  alive_between e m fits from under =
-      let up = ok.goes_up e fits in
-      and_from (up_to (corner t (lo_of t e)) (corner t m)) (before (corner t m) (corner t (hi_of t e))) (corner_up_to t ok (lo_of t e) m from (let high = up.1 in omega (arith, under, high))) (corner_before t ok m (hi_of t e) under up.1)
-
-  calm : (a b : ℕ) → a < length t.ends → b < length t.ends → conflict (edge t a) (edge t b) ≡ false
-  calm a b fa fb = not-true (conflict (edge t a) (edge t b)) (quiet a b fa fb)
-
-  lower-total : (m a b : ℕ) → a < length t.ends → b < length t.ends → alive (edge t a) (corner t m) ≡ true → alive (edge t b) (corner t m) ≡ true → a ≢ b → (lower_of t a b ≡ true) ⊎ (lower_of t b a ≡ true)
-  lower-total m a b fa fb la lb other = order_is_total (edge t a) (edge t b) (corner t m) la lb (different t ok a b fa fb other) (calm a b fa fb)
-
-  lower-trans : (m a b d : ℕ) → a < length t.ends → b < length t.ends → d < length t.ends → alive (edge t a) (corner t m) ≡ true → alive (edge t b) (corner t m) ≡ true → alive (edge t d) (corner t m) ≡ true → lower_of t a b ≡ true → lower_of t b d ≡ true → lower_of t a d ≡ true
-  lower-trans m a b d fa fb fd la lb ld ab bd =
-      let chain = trio_is_chain (edge t a) (edge t b) (edge t d) (corner t m) la lb ld ab bd (quiet a b fa fb) (quiet b d fb fd) in
-      chain_lower (edge t a ∷ edge t b ∷ edge t d ∷ []) (corner t m) chain 0 2 (edge t a) (edge t d) (omega arith) refl refl (calm a d fa fd)
-
   module _ (c : ℕ) where
     fits : (e : ℕ) → stands_at t c e ≡ true → e < length t.ends
     fits e at = ltb-true e (length t.ends) (and_parts (is_edge t e) (ends_at t c e) at).0
 
     -- an edge that begins at the corner is alive there
-    begun : (e : ℕ) → stands_at t c e ≡ true → (lo_of t e == c) ≡ true → alive (edge t e) (corner t c) ≡ true
+    begun : (e : ℕ) → stands_at t c e ≡ true → (lo_of t e == c) ≡ true → alive_at t (corner t c) e ≡ true
     begun e at low =
         let start : lo_of t e ≡ c = eqb-true (lo_of t e) c low in
         let up = (ok.goes_up e (fits e at)).0 in
-        alive_between e c (fits e at) (omega (arith, start)) (omega (arith, start, up))
+        alive_from t (corner t c) e (fits e at) (alive_between t ok c e (fits e at) (omega (arith, start)) (omega (arith, start, up)))
 
     -- an edge that does not begin there ends there
     ended : (e : ℕ) → stands_at t c e ≡ true → (lo_of t e == c) ≡ false → hi_of t e ≡ c
@@ -112,8 +76,8 @@ module _ (t : Table) (ok : IsTable t) (quiet : NoConflict t) where
     ]
 
     -- and is alive at each corner between
-    ending : (e m : ℕ) → stands_at t c e ≡ true → (lo_of t e == c) ≡ false → lo_of t e ≤ m → m < c → alive (edge t e) (corner t m) ≡ true
-    ending e m at not_low from under = let end = ended e at not_low in alive_between e m (fits e at) from (omega (arith, under, end))
+    ending : (e m : ℕ) → stands_at t c e ≡ true → (lo_of t e == c) ≡ false → lo_of t e ≤ m → m < c → alive_at t (corner t m) e ≡ true
+    ending e m at not_low from under = let end = ended e at not_low in alive_from t (corner t m) e (fits e at) (alive_between t ok m e (fits e at) from (omega (arith, under, end)))
 
     before_end : (e : ℕ) → stands_at t c e ≡ true → (lo_of t e == c) ≡ false → lo_of t e < c
     before_end e at not_low = let end = ended e at not_low in let up = (ok.goes_up e (fits e at)).0 in omega (arith, end, up)
@@ -121,16 +85,16 @@ module _ (t : Table) (ok : IsTable t) (quiet : NoConflict t) where
     -- of two different edges at the corner one comes before the other
     pub turn-total : (a b : ℕ) → stands_at t c a ≡ true → stands_at t c b ≡ true → a ≢ b → (comes_round t c a b ≡ true) ⊎ (comes_round t c b a ≡ true)
     turn-total a b at_a at_b other = total_cases (lo_of t a == c) (lo_of t b == c) (lower_of t a b) (lower_of t b a)
-        (λ low_a low_b. lower-total c a b (fits a at_a) (fits b at_b) (begun a at_a low_a) (begun b at_b low_b) other)
+        (λ low_a low_b. one_is_lower t quiet ok (corner t c) a b (begun a at_a low_a) (begun b at_b low_b) other)
         (λ high_a high_b. (let ea = before_end a at_a high_a in let eb = before_end b at_b high_b in
-        lower-total (max (lo_of t a) (lo_of t b)) a b (fits a at_a) (fits b at_b) (ending a (max (lo_of t a) (lo_of t b)) at_a high_a (omega arith) (omega (arith, ea, eb))) (ending b (max (lo_of t a) (lo_of t b)) at_b high_b (omega arith) (omega (arith, ea, eb))) other))
+        one_is_lower t quiet ok (corner t (max (lo_of t a) (lo_of t b))) a b (ending a (max (lo_of t a) (lo_of t b)) at_a high_a (omega arith) (omega (arith, ea, eb))) (ending b (max (lo_of t a) (lo_of t b)) at_b high_b (omega arith) (omega (arith, ea, eb))) other))
 
     -- the order round the corner passes on
     pub turn-trans : (a b d : ℕ) → stands_at t c a ≡ true → stands_at t c b ≡ true → stands_at t c d ≡ true → comes_round t c a b ≡ true → comes_round t c b d ≡ true → comes_round t c a d ≡ true
     turn-trans a b d at_a at_b at_d = trans_cases (lo_of t a == c) (lo_of t b == c) (lo_of t d == c) (lower_of t a b) (lower_of t b a) (lower_of t b d) (lower_of t d b) (lower_of t a d) (lower_of t d a)
-        (λ low_a low_b low_d. lower-trans c a b d (fits a at_a) (fits b at_b) (fits d at_d) (begun a at_a low_a) (begun b at_b low_b) (begun d at_d low_d))
+        (λ low_a low_b low_d. lower_passes t quiet (corner t c) a b d (begun a at_a low_a) (begun b at_b low_b) (begun d at_d low_d))
         (λ high_a high_b high_d. (let ea = before_end a at_a high_a in let eb = before_end b at_b high_b in let ed = before_end d at_d high_d in
-        lower-trans (max (lo_of t a) (max (lo_of t b) (lo_of t d))) d b a (fits d at_d) (fits b at_b) (fits a at_a)
+        lower_passes t quiet (corner t (max (lo_of t a) (max (lo_of t b) (lo_of t d)))) d b a
         (ending d (max (lo_of t a) (max (lo_of t b) (lo_of t d))) at_d high_d (omega arith) (omega (arith, ea, eb, ed)))
         (ending b (max (lo_of t a) (max (lo_of t b) (lo_of t d))) at_b high_b (omega arith) (omega (arith, ea, eb, ed)))
         (ending a (max (lo_of t a) (max (lo_of t b) (lo_of t d))) at_a high_a (omega arith) (omega (arith, ea, eb, ed)))))
@@ -147,7 +111,7 @@ module _ (t : Table) (ok : IsTable t) (quiet : NoConflict t) where
     -- the order by which edges are sorted is one
     pub sorts : IsStrictWeakOrder (stands_before t c)
     sorts = record {
-      one_way = λ x y. one_way_cases (stands_at t c x) (stands_at t c y) (comes_round t c x y) (comes_round t c y x) (λ first. false_from_ne_true (comes_round t c y x) (turn-asym t c x y first));
+      one_way = λ x y. one_way_cases (stands_at t c x) (stands_at t c y) (comes_round t c x y) (comes_round t c y x) (λ first. false_from_ne_true (comes_round t c y x) (comes_round-asym t c x y first));
       chain = λ x y z. chain_cases (stands_at t c x) (stands_at t c y) (stands_at t c z) (comes_round t c x y) (comes_round t c y z) (comes_round t c x z) (turn-chain x y z);
     }
 
@@ -159,14 +123,8 @@ module _ (t : Table) (ok : IsTable t) (quiet : NoConflict t) where
       standing : (i : ℕ) → i < length es → stands_at t c (get_or es i 0) ≡ true
       standing i lt = sym (members (get_or es i 0)) ∙ list_any_at (λ m. m == get_or es i 0) es i 0 lt (eq-eqb (get_or es i 0) (get_or es i 0) refl)
 
-      flips : (x y : ℕ) → eqb x y ≡ eqb y x
-      flips x y = elim (cases_eq x y) [
-        | inl same ↦ eq-eqb x y same ∙ sym (eq-eqb y x (sym same))
-        | inr other ↦ ne_eqb x y other ∙ sym (ne_eqb y x (λ e. other (sym e)))
-      ]
-
       distinct : IsDistinct eqb es
-      distinct = IsDistinct-IsPermutation eqb flips row es moved (IsDistinct-from_apart eqb row (λ i j d less lt.
+      distinct = IsDistinct-IsPermutation eqb number_swap row es moved (IsDistinct-from_apart eqb row (λ i j d less lt.
           ne_eqb (get_or row i d) (get_or row j d) (λ same. edges.apart i j less lt (get_or_default row i 0 d (omega (arith, less, lt)) ∙ (same ∙ get_or_default row j d 0 lt)))))
 
       ordered : (i j : ℕ) → i < j → j < length es → comes_round t c (get_or es i 0) (get_or es j 0) ≡ true

@@ -3,6 +3,7 @@ use Rattle.std.proofs.Common.{◌≡◌, ◌⊎◌, ℕ, ◌<◌, ◌≤◌, Boo
 use Rattle.std.specs.Prelude.{IsTrue, codes, nat_lt}
 use Rattle.std.proofs.lemmas.Bool.{cond-true, cond-false, le-ltb}
 use Rattle.std.proofs.lemmas.Bool.Decides.{Decides-ltb}
+use Rattle.loc_spec_text.specs.Bytes.{Text}
 use Rattle.loc_io.specs.Meaning.{Told, holds}
 use Rattle.loc_io.specs.Streams.{Stream}
 use Rattle.loc_spec_plane.specs.Covers.{cover_sum}
@@ -10,7 +11,7 @@ use Rattle.loc_spec_text.specs.Points.{ended}
 use Rattle.loc_rings.specs.Values.{Feature}
 use Rattle.loc_csvform.specs.Layer.{LayerRead, layer_of}
 use Rattle.loc_edges.specs.Conflicts.{has_conflict}
-use Rattle.loc_course.specs.Courses.{Text, Source, Course, makes, refuses, Stopped}
+use Rattle.loc_course.specs.Courses.{Source, Course, makes, refuses, Stopped}
 use Rattle.loc_course.specs.Endings.{AtEnd}
 use Rattle.loc_course.specs.Moments.{IsToldText, Moment}
 use Rattle.loc_course.specs.Outcomes.{Outcome, by_text, exactly, file, outcome, refusal}
@@ -20,7 +21,7 @@ use Rattle.loc_course.proofs.Endings.{at_cut}
 use Rattle.loc_course.proofs.Statuses.{ended_so, rose_not, succeeds_case}
 use Rattle.loc_course.proofs.Told.{ends_so, it_exactly}
 use Rattle.loc_maps.specs.Conflicts.{Accepts, names_conflict}
-use Rattle.loc_maps.specs.LineTexts.{layer_fault_text}
+use Rattle.loc_maps.specs.LineTexts.{layer_fault_text, covers_text}
 use Rattle.loc_maps.specs.Located.{edges_of, table_in}
 use Rattle.loc_maps.specs.MapCourses.{LayerFile, accepted_course, covers_course, layer_in, limit}
 use Rattle.loc_maps.specs.Maps.{has_many_covers}
@@ -30,6 +31,7 @@ use Rattle.loc_indexed.specs.Asks.{OrMemory}
 use Rattle.loc_indexed.specs.Building.{build_course, is_index_text}
 use Rattle.loc_indexed.specs.Builds.{Builds, Built, IsBuiltOf}
 use Rattle.loc_indexed.proofs.MadeCourses.{AcceptedSo, came, makes_one, out_kept}
+use Rattle.loc_cover.specs.Legends.{most_members}
 
 module _ (told : Text → Told) (f : LayerFile) (index text : Text) (is : told f.name ≡ holds text) where
   abbrev next : List Feature → Course
@@ -54,12 +56,12 @@ module _ (told : Text → Told) (f : LayerFile) (index text : Text) (is : told f
     conflict has = layer_read few (Ok layer) reads
         ∙ ap (outcome told) (cond-true (has_conflict (edges_of layer)) (refuses (names_conflict f.scale (edges_of layer))) (covers_course (table_in layer) (next layer)) has)
 
-    covers : Accepts layer → 16777216 < cover_sum (table_in layer) → outcome told (build_course f index) ≡ refusal (exactly (ended (codes "layer: covers past 16777216")))
+    covers : Accepts layer → most_members < cover_sum (table_in layer) → outcome told (build_course f index) ≡ refusal (exactly (ended covers_text))
     covers apart many = layer_read few (Ok layer) reads
         ∙ (ap (outcome told) (on_apart f.scale (edges_of layer) (covers_course (table_in layer) (next layer)) apart)
-        ∙ ap (outcome told) (cond-true (has_many_covers (table_in layer)) (refuses (exactly (ended (codes "layer: covers past 16777216")))) (next layer) ((Decides-ltb 16777216 (cover_sum (table_in layer))).1 many)))
+        ∙ ap (outcome told) (cond-true (has_many_covers (table_in layer)) (refuses (exactly (ended covers_text))) (next layer) ((Decides-ltb most_members (cover_sum (table_in layer))).1 many)))
 
-    accepted : Accepts layer → cover_sum (table_in layer) ≤ 16777216 → outcome told (build_course f index) ≡ file index (is_index_text f.scale layer)
+    accepted : Accepts layer → cover_sum (table_in layer) ≤ most_members → outcome told (build_course f index) ≡ file index (is_index_text f.scale layer)
     accepted apart few_covers = layer_read few (Ok layer) reads
         ∙ (ap (outcome told) (on_apart f.scale (edges_of layer) (covers_course (table_in layer) (next layer)) apart)
         ∙ ap (outcome told) (on_few_covers (table_in layer) (next layer) few_covers))
@@ -119,7 +121,7 @@ module _ (f : LayerFile) (index : Text) (old new : Moment) (n n' : Stream) (stat
     layer_long = λ text is long steady. refused_by (ended (codes "layer: too long")) (layer_long old.shelf.told f index text is long) steady;
     layer_fault = λ text fault is few reads steady. refused_by (ended (layer_fault_text f.form fault)) (layer_read old.shelf.told f index text is few (Err fault) reads) steady;
     conflict = λ text layer is few reads has steady. refused_so (names_conflict f.scale (edges_of layer)) (conflict old.shelf.told f index text is layer few reads has) steady;
-    covers = λ text layer is few reads apart many steady. refused_by (ended (codes "layer: covers past 16777216")) (covers old.shelf.told f index text is layer few reads apart many) steady;
+    covers = λ text layer is few reads apart many steady. refused_by (ended covers_text) (covers old.shelf.told f index text is layer few reads apart many) steady;
     out = out_kept (is_index_text f.scale) f index e.follows;
     kept = s.files.kept;
     others = λ name differ. s.files.others name (makes_one (is_index_text f.scale) f index name differ);

@@ -5,6 +5,7 @@ use Rattle.std.specs.List.{list_any}
 use Rattle.std.proofs.lemmas.Bool.{and_from, or_left, or_right, not-true, true≢false}
 use Rattle.std.proofs.lemmas.Bool.Decides.{Decides-ltb}
 use Rattle.std.proofs.lemmas.List.{length-map}
+use Rattle.loc_spec_text.specs.Bytes.{Text}
 use Rattle.loc_spec_plane.specs.Lists.{is_in}
 use Rattle.loc_spec_plane.specs.Points.{conflict, cross, touch}
 use Rattle.loc_spec_plane.specs.Tables.{Table, edge, edge_numbers}
@@ -20,7 +21,7 @@ use Rattle.loc_faces.proofs.Leaders.{any_member}
 use Rattle.loc_verify.specs.Judged.{IsJudged}
 use Rattle.loc_verify.specs.declared.fault.VerifyFault.{VerifyFault}
 use Rattle.loc_verify.specs.declared.fault.VerifyFault.TheVariants as v
-use Rattle.loc_course.specs.Courses.{Text, refused, writes}
+use Rattle.loc_course.specs.Courses.{refused, writes}
 use Rattle.loc_course.specs.Following.{Follows, Moment, lacks, refuses_by}
 use Rattle.loc_course.specs.Outcomes.{exactly}
 use Rattle.loc_course.proofs.Told.{exactly_it}

@@ -5,6 +5,7 @@ use Rattle.std.specs.Cmp.Lexicographic.{pointwise}
 use Rattle.std.specs.Str.{bytes_eq}
 use Rattle.std.proofs.lemmas.Bool.{and_from, and_parts, eq-eqb, eqb-true}
 use Rattle.std.proofs.lemmas.Slice.Eq.{bytes_eq-Decides, slice_eq-Decides}
+use Rattle.loc_spec_text.specs.Bytes.{Text}
 use Rattle.loc_spec_plane.specs.declared.Mark.{Mark}
 use Rattle.loc_spec_plane.specs.Lists.{exactly_one}
 use Rattle.loc_spec_plane.specs.Points.{Point, same_point}
@@ -15,7 +16,6 @@ use Rattle.loc_spec_index.specs.TrueIndex.{IsIndexOf, IsTrueIndex}
 use Rattle.loc_laws_index.specs.IndexReading.{AreBytes, reading}
 use Rattle.loc_laws_order.proofs.Sides.{same_point-true, same_point_refl}
 use Rattle.loc_rings.specs.Values.{Feature, rings_of}
-use Rattle.loc_course.specs.Courses.{Text}
 use Rattle.loc_indexed.specs.Building.{is_content_for, is_index_text, is_read_for, same_mark, same_pair, same_table}
 use Rattle.loc_indexed.specs.Builds.{IsIndexFileOf}
 use Rattle.loc_indexed.proofs.ReadBack.{file_reads}

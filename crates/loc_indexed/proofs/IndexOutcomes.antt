@@ -4,13 +4,14 @@ use Rattle.std.specs.Prelude.{IsTrue, codes, nat_lt}
 use Rattle.std.specs.Io.KnownBytes.{Appends}
 use Rattle.std.proofs.lemmas.Bool.{cond-true, cond-false, le-ltb}
 use Rattle.std.proofs.lemmas.Bool.Decides.{Decides-ltb}
+use Rattle.loc_spec_text.specs.Bytes.{Text}
 use Rattle.loc_io.specs.Streams.{Stream}
 use Rattle.loc_io.specs.Meaning.{Told, holds}
 use Rattle.loc_spec_text.specs.Points.{ended}
 use Rattle.loc_spec_index.specs.declared.IndexFault.{IndexFault}
 use Rattle.loc_spec_index.specs.Content.{Content}
 use Rattle.loc_laws_index.specs.IndexReading.{reading}
-use Rattle.loc_course.specs.Courses.{Text, Source, Course}
+use Rattle.loc_course.specs.Courses.{Source, Course}
 use Rattle.loc_course.specs.Moments.{Moment}
 use Rattle.loc_course.specs.Outcomes.{Outcome, by_text, exactly, outcome, output, refusal}
 use Rattle.loc_course.specs.Sentences.{EndsSo, IsDoing, NoneFailed, OutSo, Sentences, Steady, Wrote}

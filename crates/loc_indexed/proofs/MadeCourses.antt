@@ -2,13 +2,14 @@
 use Rattle.std.proofs.Common.{◌≡◌, ◌≢◌, ◌≤◌, Bool, true, false, List, length, Option, Ok, Err, refl}
 use Rattle.std.specs.Prelude.{IsTrue, cond, codes}
 use Rattle.std.proofs.lemmas.Bool.{cond_both, ltb-false, not_from_false}
+use Rattle.loc_spec_text.specs.Bytes.{Text}
 use Rattle.loc_io.specs.Meaning.{Meaning}
 use Rattle.loc_spec_plane.specs.Covers.{cover_sum}
 use Rattle.loc_spec_text.specs.Points.{ended}
 use Rattle.loc_rings.specs.Values.{Feature}
 use Rattle.loc_csvform.specs.Layer.{LayerRead, layer_of}
 use Rattle.loc_edges.specs.Conflicts.{has_conflict}
-use Rattle.loc_course.specs.Courses.{Text, Source, Course, reads, refuses, makes, Stopped}
+use Rattle.loc_course.specs.Courses.{Source, Course, reads, refuses, makes, Stopped}
 pub use Rattle.loc_course.specs.Endings.{AtEnd, Did, MadeOf}
 use Rattle.loc_course.specs.Following.{Follows, Moment, lacks, refuses_by, reads_not, reads_by, makes_by}
 use Rattle.loc_course.specs.Moments.{IsToldText}
@@ -22,6 +23,8 @@ use Rattle.loc_maps.specs.Maps.{has_many_covers}
 use Rattle.loc_maps.proofs.Judged.{accepted_all, layer_all}
 use Rattle.loc_query.specs.Headline.{IsAccepted}
 use Rattle.loc_indexed.specs.Building.{made_course}
+use Rattle.loc_maps.specs.LineTexts.{covers_text}
+use Rattle.loc_cover.specs.Legends.{most_members}
 
 -- ---- a wider test
 
@@ -41,7 +44,7 @@ module _ (p q : List Feature → Text → Bool) (wider : (layer : List Feature) 
   behind m n end (Ok layer) follows =
       let F : Course → Type 0 = λ c. Follows c m n end in
       exchanged F (has_conflict (edges_of layer)) (refuses (names_conflict file.scale (edges_of layer))) (covers_course (table_in layer) (makes index (p layer))) (covers_course (table_in layer) (makes index (q layer)))
-      (exchanged F (has_many_covers (table_in layer)) (refuses (exactly (ended (codes "layer: covers past 16777216")))) (makes index (p layer)) (makes index (q layer)) (making layer)) follows
+      (exchanged F (has_many_covers (table_in layer)) (refuses (exactly (ended covers_text))) (makes index (p layer)) (makes index (q layer)) (making layer)) follows
 
   reading_on : (s : Source) {m n : Moment} {end : Option Stopped} → Follows (reads s (λ text. layer_in file.form (layer_of file.form file.scale text) (λ l. accepted_course file.scale l (makes index (p l))))) m n end
       → Follows (reads s (λ text. layer_in file.form (layer_of file.form file.scale text) (λ l. accepted_course file.scale l (makes index (q l))))) m n end
@@ -74,13 +77,13 @@ module _ (passes : List Feature → Text → Bool) (file : LayerFile) (index : T
   by_layer text m n end few told (Err fault) is did = absurd did
   by_layer text m n end few told (Ok layer) is did =
       let P : Course → Type 0 = λ c. Did c m n end → AcceptedSo passes file index m.shelf n.shelf end in
-      let many = exactly (ended (codes "layer: covers past 16777216")) in
+      let many = exactly (ended covers_text) in
       cond_both (has_conflict (edges_of layer)) (refuses (names_conflict file.scale (edges_of layer))) (covers_course (table_in layer) (makes index (passes layer))) P (λ _ none. absurd none)
       (λ apart. cond_both (has_many_covers (table_in layer)) (refuses many) (makes index (passes layer)) P (λ _ none. absurd none) (λ covers made. record {
         text = text;
         layer = layer;
         told = told;
-        accepted = record { within = few; reads = is; apart = not_from_false (has_conflict (edges_of layer)) apart; few_covers = ltb-false 16777216 (cover_sum (table_in layer)) covers };
+        accepted = record { within = few; reads = is; apart = not_from_false (has_conflict (edges_of layer)) apart; few_covers = ltb-false most_members (cover_sum (table_in layer)) covers };
         made = made;
       })) did
 

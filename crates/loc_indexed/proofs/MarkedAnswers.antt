@@ -7,6 +7,7 @@ use Rattle.std.proofs.lemmas.Bool.{and_left, and_parts, and_right, cases_lt, fal
 use Rattle.std.proofs.lemmas.List.{length-map}
 use Rattle.std.proofs.lemmas.List.Elements.{filter_agree}
 use Rattle.std.proofs.lemmas.List.FromFn.{get_or-map-range_with_len, length-map-range_with_len}
+use Rattle.loc_spec_text.specs.Bytes.{Text}
 use Rattle.loc_spec_asked.specs.declared.Index.TheVariants.{Tree}
 use Rattle.loc_spec_plane.specs.declared.Place.{Place}
 use Rattle.loc_spec_plane.specs.declared.Place.TheVariants.{Corner, Border, Area}
@@ -29,7 +30,7 @@ use Rattle.loc_laws_rays.proofs.Parity.{never, odd_many-same}
 use Rattle.loc_laws_search.proofs.FindsPlace.{search_finds_place}
 use Rattle.loc_rings.specs.Values.{Feature}
 use Rattle.loc_edges.proofs.RingMarks.{covers_is, touches_is}
-use Rattle.loc_edges.specs.Layers.{layer_of}
+use Rattle.loc_edges.specs.Layers.{layer_rings}
 use Rattle.loc_treeidx.specs.Steps.{most_steps}
 use Rattle.loc_place.specs.Found.{place_at}
 use Rattle.loc_place.specs.Planar.{IsPlanar}
@@ -38,12 +39,12 @@ use Rattle.loc_cover.specs.Legends.{FitsTable, covering, list_above, list_over, 
 use Rattle.loc_cover.proofs.Covered.{touching_touches}
 use Rattle.loc_cover.proofs.Numbering.{above_rises, under_rises}
 use Rattle.loc_file.specs.Searches.{IsIndexFor, answer_of}
-use Rattle.loc_file.proofs.FileFacts.{facts}
+use Rattle.loc_laws_index.proofs.FileFacts.{facts}
 use Rattle.loc_file.proofs.TrueSteps.{true-most}
 use Rattle.loc_batch.specs.Answering.{answer_at as answer_by_rows, answer_by, face_at, found_answer, names}
 use Rattle.loc_batch.specs.Faces.{unnumbered}
 use Rattle.loc_answering.specs.ByLine.{as_bytes}
-use Rattle.loc_course.specs.Courses.{Text, answers}
+use Rattle.loc_course.specs.Courses.{answers}
 use Rattle.loc_course.specs.Stops.{source}
 use Rattle.loc_maps.specs.Located as maps
 use Rattle.loc_maps.specs.MapCourses.{limit}
@@ -202,13 +203,13 @@ module _ (c : Content) (bytes : Text) (file : IsFileOf 1 c bytes) (is_true : IsT
 
 -- ---- the index of a layer
 
-module _ (scale : ℕ) (layer : List Feature) (c : Content) (of : IsIndexOf scale (map (λ (f : Feature). f.id) layer) (layer_of layer) c) where
+module _ (scale : ℕ) (layer : List Feature) (c : Content) (of : IsIndexOf scale (map (λ (f : Feature). f.id) layer) (layer_rings layer) c) where
   same_table : table_in c ≡ maps.table_in layer
   unfolding maps.table_in
   same_table = of.2
 
   ids_same : (p : Point) (by_marks : Table → ℕ → Point → Bool) (test : Rings → Point → Bool) → test [] p ≡ false
-      → ((f : ℕ) → by_marks (table_of (layer_of layer)) f p ≡ test (get_or (layer_of layer) f []) p) → ((f : ℕ) → by_marks (table_in c) f p ≡ true → f < feature_count (table_in c))
+      → ((f : ℕ) → by_marks (table_of (layer_rings layer)) f p ≡ test (get_or (layer_rings layer) f []) p) → ((f : ℕ) → by_marks (table_in c) f p ≡ true → f < feature_count (table_in c))
       → ids_marked c (λ f. by_marks (table_in c) f p) ≡ ids_where (λ rings. test rings p) layer
   ids_same p by_marks test none same few =
       let list = listed (table_in c) (λ f. by_marks (table_in c) f p) few in
@@ -219,8 +220,8 @@ module _ (scale : ℕ) (layer : List Feature) (c : Content) (of : IsIndexOf scal
   marked_is : (p : Point) → marked c p ≡ located false layer p
   unfolding marked located
   marked_is p =
-      let on = ids_same p (λ t f p. touches_by_marks t f p) touches refl (λ f. touches_is (layer_of layer) f p) (touching_below (table_in c) p) in
-      let over = ids_same p (λ t f p. covers_by_marks t f p) covers refl (λ f. covers_is (layer_of layer) f p) (covering_below (table_in c) p) in
+      let on = ids_same p (λ t f p. touches_by_marks t f p) touches refl (λ f. touches_is (layer_rings layer) f p) (touching_below (table_in c) p) in
+      let over = ids_same p (λ t f p. covers_by_marks t f p) covers refl (λ f. covers_is (layer_rings layer) f p) (covering_below (table_in c) p) in
       ap₂ (λ (t : Table) (ids : List (List ℕ)). answer_at unnumbered (place_at t p) ids (ids_marked c (λ f. covers_by_marks (table_in c) f p))) same_table on
       ∙ ap (answer_at unnumbered (place_at (maps.table_in layer) p) (ids_where (λ rings. touches rings p) layer)) over
 

@@ -5,14 +5,15 @@ use Rattle.std.specs.List.{flat_map}
 use Rattle.loc_io.specs.Streams.{Stream}
 use Rattle.loc_io.specs.Meaning.{Told, holds}
 use Rattle.loc_spec_text.specs.Answered.{Answered, answered, with_answer}
-use Rattle.loc_spec_text.specs.Bytes.{lines}
+use Rattle.loc_spec_text.specs.Bytes.{Text, lines}
 use Rattle.loc_spec_text.specs.Points.{ended}
+use Rattle.loc_spec_text.proofs.AnsweredLaws.{all_of, all_answered, joined}
 use Rattle.loc_spec_index.specs.Content.{Content}
 use Rattle.loc_spec_index.specs.IndexFile.{IsFileOf}
 use Rattle.loc_spec_index.specs.TrueIndex.{IsIndexOf, IsTrueIndex}
 use Rattle.loc_laws_index.specs.IndexReading.{AreBytes, reading}
 use Rattle.loc_rings.specs.Values.{Feature, rings_of}
-use Rattle.loc_course.specs.Courses.{Text, Source}
+use Rattle.loc_course.specs.Courses.{Source}
 use Rattle.loc_course.specs.Moments.{Moment}
 use Rattle.loc_course.specs.Outcomes.{by_lines, by_refusal, outcome}
 use Rattle.loc_course.specs.Sentences.{NoneFailed, Sentences, Steady}
@@ -29,18 +30,6 @@ use Rattle.loc_indexed.proofs.Behind.{ask_makes_none}
 use Rattle.loc_indexed.proofs.IndexOutcomes.{finished, index_long, index_read, memory, refused_by}
 use Rattle.loc_indexed.proofs.MarkedAnswers.{layer_lines, true_answers}
 use Rattle.loc_indexed.proofs.ReadBack.{file_reads}
-
--- where no line is refused, each is answered
-abbrev all_of : (Text → Text) → List Text → Answered Text Text
-all_of f ls = record { answers = map f ls; refusal = None }
-
-all_answered : (f : Text → Text) (ls : List Text) → answered {R = Text} (λ line. Ok (f line)) ls ≡ all_of f ls
-all_answered f [] = refl
-all_answered f (line ∷ ls) = ap (with_answer (Ok (f line))) (all_answered f ls)
-
-joined : (f : Text → Text) (ls : List Text) → flat_map (λ line. line) (map f ls) ≡ flat_map f ls
-joined f [] = refl
-joined f (line ∷ ls) = ap (λ text. f line ++ text) (joined f ls)
 
 module _ (told : Text → Told) (index points bytes : Text) (is : told index ≡ holds bytes) where
   module _ (text : Text) (c : Content) (few : length bytes ≤ index_limit) (reads : reading bytes ≡ Ok c) (also : told points ≡ holds text) (short : length text ≤ limit) where

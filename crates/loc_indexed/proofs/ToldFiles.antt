@@ -3,11 +3,12 @@ use Rattle.std.proofs.Common.{◌≡◌, ◌∷◌, ◌++◌, length, Option, So
 use Rattle.std.specs.Prelude.{IfOk, Result, Ok, Err, nat_lt}
 use Rattle.std.proofs.lemmas.Bool.{cond_both}
 use Rattle.std.proofs.lemmas.List.{append_cancel_left, length-append}
+use Rattle.loc_spec_text.specs.Bytes.{Text}
 use Rattle.loc_io.specs.Meaning.{Told, untold, absent, holds}
 use Rattle.loc_spec_index.specs.Content.{Content}
 use Rattle.loc_spec_index.specs.IndexFile.{IsFileOf}
 use Rattle.loc_laws_index.specs.IndexReading.{AreBytes}
-use Rattle.loc_course.specs.Courses.{Text, Source, Course, reads, refuses, Stopped, refused}
+use Rattle.loc_course.specs.Courses.{Source, Course, reads, refuses, Stopped, refused}
 use Rattle.loc_course.specs.Following.{Follows, Moment, refuses_by}
 use Rattle.loc_course.specs.Moments.{IsToldText}
 use Rattle.loc_course.specs.Outcomes.{Outcome, by_text, exactly, refusal}

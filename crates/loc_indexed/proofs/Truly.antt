@@ -2,10 +2,11 @@
 use Rattle.std.proofs.Common.{◌≡◌, ◌⊎◌, ℕ, Bool, true, false, ◌&&◌, List, Option, Some, None, refl, sym, subst, inl, inr}
 use Rattle.std.specs.Prelude.{IsTrue}
 use Rattle.std.proofs.lemmas.Bool.{and_from, and_parts, true≢false}
+use Rattle.loc_spec_text.specs.Bytes.{Text}
 use Rattle.loc_io.specs.Meaning.{Meaning}
 use Rattle.loc_io.specs.Streams.{Stream, stream}
 use Rattle.loc_rings.specs.Values.{Feature}
-use Rattle.loc_course.specs.Courses.{Text, Stopped, unwritten}
+use Rattle.loc_course.specs.Courses.{Stopped, unwritten}
 use Rattle.loc_course.specs.Endings.{AtEnd}
 use Rattle.loc_course.specs.Following.{Follows, IsCut, IsMade, moment}
 use Rattle.loc_course.specs.Moments.{IsToldText}

@@ -3,6 +3,7 @@ use Rattle.std.proofs.Common.{◌≡◌, ℕ, ◌<◌, ◌≤◌, Bool, not, len
 use Rattle.std.specs.Prelude.{IsTrue, codes}
 use Rattle.std.proofs.lemmas.Bool.{cases_lt}
 use Rattle.std.specs.Io.KnownBytes.{Appends}
+use Rattle.loc_spec_text.specs.Bytes.{Text}
 use Rattle.loc_io.specs.Meaning.{Told, holds}
 use Rattle.loc_io.specs.Streams.{Stream}
 use Rattle.loc_spec_text.specs.Points.{ended}
@@ -16,7 +17,7 @@ use Rattle.loc_laws_judge.specs.FirstFlaw.{first_flaw}
 use Rattle.loc_laws_judge.proofs.First.{true_has_none}
 use Rattle.loc_laws_judge.proofs.Readable.{files_are_readable}
 use Rattle.loc_laws_judge.proofs.Same.{first_is_found}
-use Rattle.loc_course.specs.Courses.{Text, Course}
+use Rattle.loc_course.specs.Courses.{Course}
 use Rattle.loc_course.specs.Moments.{IsToldText, Moment}
 use Rattle.loc_course.specs.Outcomes.{Outcome, exactly, outcome, refusal}
 use Rattle.loc_course.specs.Sentences.{EndsSo, IsPlain, NoneFailed, SearchesNothing, Sentences, Steady, Wrote}

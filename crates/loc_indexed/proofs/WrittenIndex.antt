@@ -3,6 +3,7 @@ use Rattle.std.proofs.Common.{◌≡◌, ℕ, ◌<◌, ◌≤◌, List, [], ◌�
 use Rattle.std.specs.Prelude.{All, ◌^◌, sum_by}
 use Rattle.std.proofs.lemmas.List.{get_or-map, length-map, take_all, take_more}
 use Rattle.std.proofs.lemmas.List.Elements.{All-append, All-cons}
+use Rattle.loc_spec_text.specs.Bytes.{Text}
 use Rattle.loc_io.specs.Meaning.{Meaning, Told, untold, absent, holds}
 use Rattle.loc_spec_plane.specs.Covers.{feature_count}
 use Rattle.loc_spec_plane.specs.Tables.{Table, AllEnds, AllEven, NoConflict, table_of}
@@ -10,8 +11,8 @@ use Rattle.loc_spec_index.specs.Content.{Content}
 use Rattle.loc_spec_index.specs.IndexFile.{IsFileOf, bytes_of}
 use Rattle.loc_spec_index.specs.TrueIndex.{IsIndexOf}
 use Rattle.loc_laws_index.specs.IndexReading.{AreBytes}
-use Rattle.loc_rings.specs.Values.{Feature, rings_of}
-use Rattle.loc_edges.specs.Layers.{layer_of}
+use Rattle.loc_rings.specs.Values.{Feature, rings_of, most_id_bytes}
+use Rattle.loc_edges.specs.Layers.{layer_rings}
 use Rattle.loc_edges.proofs.RingMarks.{table_of-features}
 use Rattle.loc_status.specs.Versions.{AreVersions}
 use Rattle.loc_persist.specs.Meaning.{VersionsMeaning, IsMeaning}
@@ -22,7 +23,7 @@ use Rattle.loc_laws_built.specs.Built.{IsPlaneOf}
 use Rattle.loc_laws_built.proofs.Counted.{layer_fits}
 use Rattle.loc_laws_built.proofs.Spelled.{bytes_of_are}
 use Rattle.loc_laws_built.proofs.True.{content_is_true}
-use Rattle.loc_course.specs.Courses.{Text, unwritten}
+use Rattle.loc_course.specs.Courses.{unwritten}
 use Rattle.loc_course.specs.Following.{IsCut, IsMade, MakesFile}
 use Rattle.loc_maps.specs.Located.{table_in}
 use Rattle.loc_indexed.specs.Builds.{IsIndexFileOf}
@@ -68,12 +69,12 @@ module _ {T E : Type 0} (name text : Text) (old new : Meaning) where
 -- ---- the table and the legend of a layer
 
 -- the table of a layer, in the words of the plane
-table_is : (layer : List Feature) → table_in layer ≡ table_of (layer_of layer)
+table_is : (layer : List Feature) → table_in layer ≡ table_of (layer_rings layer)
 unfolding table_in
 table_is layer = refl
 
 module _ (layer : List Feature) (t : Table) (rows : LegendRows) (laid : IsLaidOut layer t rows) where
-  same : t ≡ table_of (layer_of layer)
+  same : t ≡ table_of (layer_rings layer)
   same = laid.map.table ∙ table_is layer
 
   pub few_edges : length t.ends ≤ 2 ^ 20
@@ -84,7 +85,7 @@ module _ (layer : List Feature) (t : Table) (rows : LegendRows) (laid : IsLaidOu
 
   pub features_within : feature_count t ≤ length rows.ids
   features_within =
-      let few = table_of-features (layer_of layer) in
+      let few = table_of-features (layer_rings layer) in
       let is = ap feature_count same in
       let a = ap (λ (ids : List (List ℕ)). length ids) laid.map.ids in
       let b = length-map layer (λ (f : Feature). f.id) in
@@ -98,14 +99,14 @@ module _ (layer : List Feature) (t : Table) (rows : LegendRows) (laid : IsLaidOu
       let none : Feature = record { id = d; polygons = [] } in
       subst P (sym (get_or-map (λ (f : Feature). f.id) layer i none d fits)) (all i none fits)))
 
-  pub short_ids : All (λ (id : List ℕ). length id ≤ 200) rows.ids
-  short_ids = all_ids (λ (id : List ℕ). length id ≤ 200) laid.ids.short
+  pub short_ids : All (λ (id : List ℕ). length id ≤ most_id_bytes) rows.ids
+  short_ids = all_ids (λ (id : List ℕ). length id ≤ most_id_bytes) laid.ids.short
 
   byte_ids : All AreBytes rows.ids
   byte_ids = all_ids AreBytes laid.ids.bytes
 
   module _ (m : VersionsMeaning) (sound : IsSound rows) (meaning : IsMeaning m) (versions : AreVersions t m.sealed_lists) where
-    plane_of : IsPlaneOf (layer_of layer) rows m
+    plane_of : IsPlaneOf (layer_rings layer) rows m
     plane_of = record {
       ended = subst AllEnds same laid.map.ended;
       even = subst AllEven same laid.map.even;
@@ -120,12 +121,12 @@ module _ (layer : List Feature) (t : Table) (rows : LegendRows) (laid : IsLaidOu
     -- the file of what is written is an index file of the layer
     pub index_written : (scale : ℕ) (c : Content) → IsContentOf scale t rows m c → HoldsParts t rows c → IsFileOf 1 c (bytes_of 1 c) → IsIndexFileOf scale layer (bytes_of 1 c)
     index_written scale c of holds_parts file =
-        let here = content_is_true scale (layer_of layer) rows m c plane_of (subst (λ (u : Table). IsContentOf scale u rows m c) same of) (subst (λ (u : Table). HoldsParts u rows c) same holds_parts) in
+        let here = content_is_true scale (layer_rings layer) rows m c plane_of (subst (λ (u : Table). IsContentOf scale u rows m c) same of) (subst (λ (u : Table). HoldsParts u rows c) same holds_parts) in
         let ids : c.ids ≡ rows.ids = here.1.1 in
         record {
           content = c;
           bytes = bytes_of_are c (subst (All AreBytes) (sym ids) byte_ids);
           file = file;
           is_true = here.0;
-          of_layer = subst (λ (i : List (List ℕ)). IsIndexOf scale i (layer_of layer) c) laid.map.ids here.1;
+          of_layer = subst (λ (i : List (List ℕ)). IsIndexOf scale i (layer_rings layer) c) laid.map.ids here.1;
         }

@@ -5,7 +5,7 @@ use Rattle.std.specs.List.{flat_map}
 use Rattle.loc_io.specs.Streams.{Stream}
 use Rattle.loc_io.specs.Meaning.{holds}
 use Rattle.loc_spec_text.specs.Answered.{answered}
-use Rattle.loc_spec_text.specs.Bytes.{lines}
+use Rattle.loc_spec_text.specs.Bytes.{Text, lines}
 use Rattle.loc_spec_text.specs.Points.{ended}
 use Rattle.loc_spec_index.specs.declared.IndexFault.{IndexFault}
 use Rattle.loc_spec_index.specs.Content.{Content}
@@ -13,7 +13,6 @@ use Rattle.loc_spec_index.specs.IndexFile.{IsFileOf}
 use Rattle.loc_spec_index.specs.TrueIndex.{IsIndexOf, IsTrueIndex}
 use Rattle.loc_laws_index.specs.IndexReading.{AreBytes, reading}
 use Rattle.loc_rings.specs.Values.{Feature, rings_of}
-use Rattle.loc_course.specs.Courses.{Text}
 use Rattle.loc_course.specs.Moments.{Moment}
 use Rattle.loc_course.specs.Sentences.{Steady, Wrote}
 use Rattle.loc_course.specs.Streams.{out_of}

@@ -8,6 +8,7 @@
 use Rattle.std.specs.Prelude.{ℕ, Bool, false, not, ◌&&◌, ◌==◌, List, map, Result, Ok, Err}
 use Rattle.std.specs.Cmp.Lexicographic.{pointwise}
 use Rattle.std.specs.Str.{bytes_eq}
+use Rattle.loc_spec_text.specs.Bytes.{Text}
 use Rattle.loc_spec_plane.specs.declared.Mark.{Mark}
 use Rattle.loc_spec_plane.specs.Lists.{exactly_one}
 use Rattle.loc_spec_plane.specs.Points.{same_point}
@@ -16,7 +17,7 @@ use Rattle.loc_spec_index.specs.declared.IndexFault.{IndexFault}
 use Rattle.loc_spec_index.specs.Content.{Content, table_in}
 use Rattle.loc_laws_index.specs.IndexReading.{reading}
 use Rattle.loc_rings.specs.Values.{Feature, rings_of}
-use Rattle.loc_course.specs.Courses.{Text, Course, makes}
+use Rattle.loc_course.specs.Courses.{Course, makes}
 use Rattle.loc_maps.specs.MapCourses.{LayerFile, accepted_course, layer_course}
 
 -- two marks are one

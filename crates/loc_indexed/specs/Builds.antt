@@ -4,6 +4,7 @@
 --   Built          what is left under the name of the index
 --   Builds         all that a user is told
 use Rattle.std.specs.Prelude.{◌≡◌, ◌≢◌, ◌⊎◌, ℕ, ◌<◌, ◌≤◌, List, length, map, Ok, Err, IsTrue, codes}
+use Rattle.loc_spec_text.specs.Bytes.{Text}
 use Rattle.loc_io.specs.Meaning.{Meaning, KeepsFiles, holds}
 use Rattle.loc_io.specs.Streams.{Stream}
 use Rattle.loc_spec_plane.specs.Covers.{cover_sum}
@@ -16,16 +17,16 @@ use Rattle.loc_rings.specs.Values.{Feature, rings_of}
 use Rattle.loc_csvform.specs.Layer.{layer_of}
 use Rattle.loc_csvform.specs.declared.faults.LayerFault.{LayerFault}
 use Rattle.loc_edges.specs.Conflicts.{has_conflict}
-use Rattle.loc_course.specs.Courses.{Text}
 use Rattle.loc_course.specs.Following.{IsCut, IsMade, IsToldAtMost}
 use Rattle.loc_course.specs.Moments.{Moment, IsToldText}
 use Rattle.loc_course.specs.Sentences.{Steady, Wrote}
 use Rattle.loc_maps.specs.Conflicts.{Accepts, names_conflict}
-use Rattle.loc_maps.specs.LineTexts.{layer_fault_text}
+use Rattle.loc_maps.specs.LineTexts.{layer_fault_text, covers_text}
 use Rattle.loc_maps.specs.Located.{edges_of, table_in}
 use Rattle.loc_maps.specs.MapCourses.{LayerFile, limit}
 use Rattle.loc_query.specs.Headline.{IsAccepted}
 use Rattle.loc_indexed.specs.Asks.{OrMemory}
+use Rattle.loc_cover.specs.Legends.{most_members}
 
 -- the text is the file of a content that is a true index, of this layer at this scale
 pub record IsIndexFileOf (scale : ℕ) (layer : List Feature) (text : Text) : Type 0 where
@@ -68,8 +69,8 @@ pub record Builds (file : LayerFile) (index : Text) (old new : Moment) (n n' : S
       → OrMemory old new status ((status ≡ 1) × (line : Text) × IsTrue (names_conflict file.scale (edges_of layer) line) × Wrote n n' line)
   -- or its distinct cover lists have too many members together.
   pub covers : (text : Text) (layer : List Feature) → old.shelf.told file.name ≡ holds text → length text ≤ limit → layer_of file.form file.scale text ≡ Ok layer
-      → Accepts layer → 16777216 < cover_sum (table_in layer) → Steady old.shelf.read_faults new.shelf.read_faults
-      → OrMemory old new status ((status ≡ 1) × Wrote n n' (ended (codes "layer: covers past 16777216")))
+      → Accepts layer → most_members < cover_sum (table_in layer) → Steady old.shelf.read_faults new.shelf.read_faults
+      → OrMemory old new status ((status ≡ 1) × Wrote n n' (ended covers_text))
   -- Nothing is on out, whatever the status.
   pub out : new.out ≡ old.out
   -- With another status than 0 and 4 every file is told as before, and with these every other file, or it is told no longer.

@@ -10,6 +10,7 @@
 use Rattle.std.specs.Prelude.{ℕ, Bool, true, false, ◌&&◌, ◌||◌, List, ◌++◌, codes, length, nat_lt}
 use Rattle.std.specs.Fmt.{decimal}
 use Rattle.std.specs.List.{list_any}
+use Rattle.loc_spec_text.specs.Bytes.{Text}
 use Rattle.loc_spec_plane.specs.Points.{conflict, cross, touch}
 use Rattle.loc_spec_plane.specs.Tables.{Table, edge, edge_numbers}
 use Rattle.loc_spec_text.specs.Points.{ended}
@@ -19,7 +20,7 @@ use Rattle.loc_geom.specs.declared.kinds.Meeting.{Meeting}
 use Rattle.loc_geom.specs.declared.kinds.Meeting.TheVariants as m
 use Rattle.loc_verify.specs.declared.fault.VerifyFault.{VerifyFault}
 use Rattle.loc_verify.specs.declared.fault.VerifyFault.TheVariants as v
-use Rattle.loc_course.specs.Courses.{Text, Stopped, refused, no_memory}
+use Rattle.loc_course.specs.Courses.{Stopped, refused, no_memory}
 use Rattle.loc_course.specs.Outcomes.{exactly}
 use Rattle.loc_maps.specs.LineTexts.{meeting_text}
 

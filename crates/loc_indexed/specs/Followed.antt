@@ -4,24 +4,25 @@
 --   MakesIndex    the index file of a layer was made, or a write failed
 --   FollowsTruly  a command followed a course in which index files alone pass
 use Rattle.std.specs.Prelude.{ℕ, ◌≤◌, All, Bool, List, length, Option, IsTrue}
+use Rattle.loc_spec_text.specs.Bytes.{Text}
 use Rattle.loc_io.specs.Meaning.{Meaning}
 use Rattle.loc_io.specs.Streams.{Stream}
 use Rattle.loc_spec_plane.specs.Tables.{Table}
 use Rattle.loc_laws_index.specs.IndexReading.{AreBytes}
 use Rattle.loc_rings.specs.Layers.{IsLayer}
-use Rattle.loc_rings.specs.Values.{Feature}
+use Rattle.loc_rings.specs.Values.{Feature, most_id_bytes}
 use Rattle.loc_cover.specs.Legends.{LegendRows}
-use Rattle.loc_course.specs.Courses.{Text, Stopped}
+use Rattle.loc_course.specs.Courses.{Stopped}
 use Rattle.loc_course.specs.Following.{Follows, MakesFile, moment}
 use Rattle.loc_maps.specs.MapCourses.{LayerFile}
 use Rattle.loc_maps.specs.Maps.{IsMapOf}
 use Rattle.loc_indexed.specs.Building.{made_course}
 use Rattle.loc_indexed.specs.Builds.{IsIndexFileOf}
 
--- the layer is within its limits, and each id is one of at most 200 bytes
+-- the layer is within its limits, and each id is a short one
 pub record AreShort (layer : List Feature) : Type 0 where
   pub within : IsLayer layer
-  pub short : All (λ (f : Feature). length f.id ≤ 200) layer
+  pub short : All (λ (f : Feature). length f.id ≤ most_id_bytes) layer
   pub bytes : All (λ (f : Feature). AreBytes f.id) layer
 
 -- the table and the legend are those of a layer with such ids

@@ -7,6 +7,7 @@
 --   asked_course    the lines of a file are answered from a content
 --   ask_course      an index file is asked for the points of another
 use Rattle.std.specs.Prelude.{ℕ, Bool, List, map, filter, Result, Ok, Err, codes}
+use Rattle.loc_spec_text.specs.Bytes.{Text}
 use Rattle.loc_spec_plane.specs.Covers.{feature_count, has_at}
 use Rattle.loc_spec_plane.specs.Lists.{numbers}
 use Rattle.loc_spec_plane.specs.Tables.{Table, corner_numbers, edge_numbers, has}
@@ -20,7 +21,7 @@ use Rattle.loc_file.specs.Searches.{answer_of}
 use Rattle.loc_batch.specs.Answering.{answer_by}
 use Rattle.loc_batch.specs.Faces.{unnumbered}
 use Rattle.loc_answering.specs.ByLine.{by_line}
-use Rattle.loc_course.specs.Courses.{Text, Course, answers, reads, refuses}
+use Rattle.loc_course.specs.Courses.{Course, answers, reads, refuses}
 use Rattle.loc_course.specs.Outcomes.{exactly}
 use Rattle.loc_course.specs.Stops.{source}
 use Rattle.loc_course.specs.Streams.{Answering}

@@ -1,5 +1,6 @@
 -- What is answered by the marks of an index alone, without its nodes, its floors and its cover lists. The words: `ids_marked`, `marked`, `marked_line`, `marked_course`.
 use Rattle.std.specs.Prelude.{ℕ, Bool, List, [], get_or, map, Ok, codes}
+use Rattle.loc_spec_text.specs.Bytes.{Text}
 use Rattle.loc_spec_plane.specs.Points.{Point}
 use Rattle.loc_spec_plane.specs.Tables.{covers_by_marks, touches_by_marks}
 use Rattle.loc_spec_text.specs.Points.{Answer, answer_text, answer_to, ended, point_of}
@@ -7,7 +8,7 @@ use Rattle.loc_spec_index.specs.Content.{Content, table_in}
 use Rattle.loc_place.specs.Found.{place_at}
 use Rattle.loc_treeidx.specs.Steps.{most_steps}
 use Rattle.loc_batch.specs.Faces.{unnumbered}
-use Rattle.loc_course.specs.Courses.{Text, Course, answers}
+use Rattle.loc_course.specs.Courses.{Course, answers}
 use Rattle.loc_course.specs.Stops.{source}
 use Rattle.loc_maps.specs.MapCourses.{limit}
 use Rattle.loc_query.specs.Answered.{answer_at}

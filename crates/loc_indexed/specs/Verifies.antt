@@ -6,6 +6,7 @@
 --   Verifies    all that a user is told
 use Rattle.std.specs.Prelude.{◌≡◌, ◌≢◌, ℕ, ◌<◌, ◌≤◌, length, Err, IsTrue, not, codes}
 use Rattle.std.specs.Io.KnownBytes.{Appends}
+use Rattle.loc_spec_text.specs.Bytes.{Text}
 use Rattle.loc_io.specs.Meaning.{Told, holds}
 use Rattle.loc_io.specs.Streams.{Stream}
 use Rattle.loc_spec_text.specs.Points.{ended}
@@ -15,7 +16,6 @@ use Rattle.loc_spec_index.specs.Flaws.{Flaw, IsFirst, conflicting}
 use Rattle.loc_spec_index.specs.IndexFile.{IsFileOf}
 use Rattle.loc_spec_index.specs.TrueIndex.{IsTrueIndex}
 use Rattle.loc_laws_index.specs.IndexReading.{AreBytes, reading}
-use Rattle.loc_course.specs.Courses.{Text}
 use Rattle.loc_course.specs.Moments.{Moment, IsToldText}
 use Rattle.loc_course.specs.Sentences.{Steady, Wrote}
 use Rattle.loc_indexed.specs.Asks.{IsDone, OrMemory}

@@ -1,6 +1,7 @@
 //! What commands on index files come to.
 
 ghost use Rattle.std.specs.Prelude.{◌≡◌, ◌≢◌, ◌⊎◌, ◌<◌, ◌≤◌, Err, List, Ok, codes, false, length, map, ℕ};
+ghost use Rattle.loc_spec_text.specs.Bytes.{Text};
 ghost use Rattle.loc_io.specs.Meaning.{Told, holds};
 ghost use Rattle.loc_io.specs.Streams.{Stream};
 ghost use Rattle.loc_spec_asked.specs.declared.Index.TheVariants as by;
@@ -12,7 +13,6 @@ ghost use Rattle.loc_spec_index.specs.TrueIndex.{IsIndexOf, IsTrueIndex};
 ghost use Rattle.loc_laws_index.specs.IndexReading.{AreBytes, reading};
 ghost use Rattle.loc_rings.specs.Values.{Feature, rings_of};
 ghost use Rattle.loc_answering.specs.ByLine.{deep_text};
-ghost use Rattle.loc_course.specs.Courses.{Text};
 ghost use Rattle.loc_course.specs.Moments.{Moment};
 ghost use Rattle.loc_course.specs.Outcomes.{exactly, outcome, refusal};
 ghost use Rattle.loc_course.specs.Sentences.{AtOnce, Ended, IsPlain, MakesNone, MayMake, MayRefuseBehind, SearchesNothing, Sentences};

@@ -1,8 +1,9 @@
 -- Pieces that are written one after the other.
-use Rattle.std.proofs.Common.{◌≡◌, ℕ, List, ◌++◌, take, drop, Option, Some, None, Bool, sym, subst, ◌∙◌, ap, append_assoc, take-append-drop}
+use Rattle.std.proofs.Common.{◌≡◌, ℕ, List, [], ◌++◌, take, drop, Option, Some, None, Bool, sym, subst, ◌∙◌, ap, append_assoc, append-nil, take-append-drop}
 use Rattle.std.specs.Prelude.{nat_lt}
 use Rattle.std.specs.Io.KnownBytes.{Appends}
 use Rattle.loc_io.specs.Causes.{CountsLate}
+use Rattle.loc_io.specs.Reading.{WroteFront}
 use Rattle.loc_io.specs.Streams.{InTime, Stream}
 
 -- two pieces that were appended one after the other
@@ -11,6 +12,19 @@ Appends-more None b c front more p q = tt
 Appends-more (Some x) None c front more p q = absurd p
 Appends-more (Some x) (Some y) None front more p q = absurd q
 Appends-more (Some x) (Some y) (Some z) front more p q = q ∙ ap (λ (l : List ℕ). l ++ more) p ∙ append_assoc x front more
+
+-- nothing was appended
+pub appends-none : (o : Option (List ℕ)) → Appends o o []
+appends-none None = tt
+appends-none (Some x) = sym (append-nil x)
+
+-- a front of a text is one of a longer text
+pub front-of : (o m : Option (List ℕ)) (a b : List ℕ) → WroteFront o m a → WroteFront o m (a ++ b)
+front-of o m a b (front, back, is, k) = (front, back ++ b, ap (λ l. l ++ b) is ∙ append_assoc front back b, k)
+
+-- a text, and a front of the one behind it
+pub front-behind : (o m n : Option (List ℕ)) (a b : List ℕ) → Appends o m a → WroteFront m n b → WroteFront o n (a ++ b)
+front-behind o m n a b h (front, back, is, k) = (a ++ front, back, ap (λ l. a ++ l) is ∙ sym (append_assoc a front back), Appends-more o m n a front h k)
 
 -- a loop over a piece: what was written, and what is left
 pub record Wrote (old new : Option (List ℕ)) (piece rest : List ℕ) : Type 0 where

@@ -9,14 +9,14 @@ use Rattle.loc_spec_plane.specs.Points.{Edge, edge_before, same_edge, same_point
 use Rattle.loc_spec_plane.specs.Rings.{Ring, Rings, ring_segments, segments}
 use Rattle.loc_spec_plane.specs.Tables.{edge_marks, pieces_of, table_by, table_of, whole}
 use Rattle.loc_laws_order.proofs.Tests.{same_edge_decides}
-use Rattle.loc_edges.specs.Kept.{points_of}
-use Rattle.loc_edges.specs.Layers.{layer_of}
+use Rattle.loc_edges.specs.Kept.{written_points}
+use Rattle.loc_edges.specs.Layers.{layer_rings}
 use Rattle.loc_edges.proofs.Counts.{few_edges}
 use Rattle.loc_edges.proofs.Layers.{pieces_rise}
 use Rattle.loc_edges.proofs.MarkRows.{is_hit}
 use Rattle.loc_edges.proofs.Ordered.{as_many_ends}
 use Rattle.loc_edges.proofs.Orders.{edges_by_before}
-use Rattle.loc_edges.proofs.SmallLayers.{small_layer}
+use Rattle.loc_edges.proofs.SmallLayers.{few_written_points}
 use Rattle.loc_edges.proofs.SortedSet.{irrefl}
 use Rattle.loc_laws_built.specs.Built.{LayerFits}
 use Rattle.loc_laws_built.proofs.Marked.{marks_from}
@@ -134,17 +134,17 @@ one_mark_more e a rings layer =
       | inr none ↦ ap (λ o. length (cons_option o rest)) (cond-false _ _ _ none) ∙ (let one : bit (list_any (is_hit e) (segments rings)) ≡ 0 = ap bit none in omega (arith, one))
     ]
 
-few_marks : (a : ℕ) (layer : List Rings) (es : List Edge) → is_rising edge_before es ≡ true → sum_by (λ e. length (marks_from e a layer)) es ≤ length (points_of layer)
+few_marks : (a : ℕ) (layer : List Rings) (es : List Edge) → is_rising edge_before es ≡ true → sum_by (λ e. length (marks_from e a layer)) es ≤ length (written_points layer)
 few_marks a [] es rise = let none = no_sum es in omega (arith, none)
 few_marks a (rings ∷ layer) es rise =
     let split = sum_both (λ e. length (marks_from e a (rings ∷ layer))) (λ e. bit (list_any (is_hit e) (segments rings))) (λ e. length (marks_from e (a + 1) layer)) (λ e. one_mark_more e a rings layer) es in
     let here = few_hits (segments rings) es rise in
     let own = few_of_feature rings in
     let rest = few_marks (a + 1) layer es rise in
-    let all = length-append (flat_map (λ (r : Ring). r) rings) (points_of layer) in
+    let all = length-append (flat_map (λ (r : Ring). r) rings) (written_points layer) in
     omega (arith, split, here, own, rest, all)
 
-table_marks : (layer : List Rings) → sum_by length (table_of layer).marks ≤ length (points_of layer)
+table_marks : (layer : List Rings) → sum_by length (table_of layer).marks ≤ length (written_points layer)
 unfolding table_by
 table_marks layer =
     let mapped = sum_mapped (edge_marks whole layer) (pieces_of whole layer) in
@@ -154,8 +154,8 @@ table_marks layer =
 -- a layer within its limits has few edges and few marks
 pub layer_fits : LayerFits
 layer_fits features within =
-    let small = (small_layer features within).few_points in
-    let layer = layer_of features in
+    let small = few_written_points features within in
+    let layer = layer_rings features in
     let ends = as_many_ends layer in
     let edges = few_edges layer in
     let marks = table_marks layer in

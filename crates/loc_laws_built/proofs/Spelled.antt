@@ -1,5 +1,5 @@
 -- What is written of a content is bytes, where its ids are.
-use Rattle.std.proofs.Common.{◌≡◌, ℕ, zero, suc, ◌+◌, ◌<◌, Bool, true, List, [], ◌∷◌, ◌++◌, length, map, refl, ◌∙◌, arith}
+use Rattle.std.proofs.Common.{◌≡◌, ℕ, zero, suc, ◌+◌, ◌<◌, Bool, true, List, [], ◌∷◌, ◌++◌, length, map, refl, sym, ◌∙◌, ap, arith}
 use Rattle.std.specs.Prelude.{All, nat_lt}
 use Rattle.std.specs.Int.{byte_at, byte_len, bytes_high_first, cast_unsigned, w32, w64}
 use Rattle.std.specs.List.{flat_map, list_all}
@@ -8,6 +8,7 @@ use Rattle.std.proofs.lemmas.List.Folds.{list_all-append}
 use Rattle.loc_spec_index.specs.Content.{Content}
 use Rattle.loc_spec_index.specs.IndexFile.{Field, magic, version, number, coordinate, text, order, fields, spelled, spelled_all, rows_from, id_fields, corner_fields, edge_fields, mark_fields, cover_fields, node_fields, none_or_next, parts}
 use Rattle.loc_laws_index.specs.IndexReading.{AreBytes}
+use Rattle.loc_laws_index.proofs.Progress.{flat-rows, map-rows}
 use Rattle.loc_laws_built.specs.Built.{BytesOf}
 
 -- ---- bytes, by a test
@@ -62,17 +63,15 @@ all_spelled (f ∷ fs) small =
 
 -- ---- rows
 
-mapped : {X : Type 0} (f : X → Field) → ((x : X) → is_small (f x) ≡ true) → (xs : List X) → list_all is_small (map f xs) ≡ true
-mapped f each [] = refl
-mapped f each (x ∷ xs) = and_from (is_small (f x)) (list_all is_small (map f xs)) (each x) (mapped f each xs)
-
-flat : {X : Type 0} (row : X → List Field) → ((x : X) → list_all is_small (row x) ≡ true) → (xs : List X) → list_all is_small (flat_map row xs) ≡ true
-flat row each [] = refl
-flat row each (x ∷ xs) = joined is_small (row x) (flat_map row xs) (each x) (flat row each xs)
-
 from : {X : Type 0} (row : List X → X → List Field) → ((earlier : List X) (x : X) → list_all is_small (row earlier x) ≡ true) → (earlier xs : List X) → list_all is_small (rows_from row earlier xs) ≡ true
 from row each earlier [] = refl
 from row each earlier (x ∷ xs) = joined is_small (row earlier x) (rows_from row (earlier ++ x ∷ []) xs) (each earlier x) (from row each (earlier ++ x ∷ []) xs)
+
+mapped : {X : Type 0} (f : X → Field) → ((x : X) → is_small (f x) ≡ true) → (xs : List X) → list_all is_small (map f xs) ≡ true
+mapped f each xs = ap (list_all is_small) (sym (map-rows f [] xs)) ∙ from (λ _ x. f x ∷ []) (λ _ x. and_from (is_small (f x)) true (each x) refl) [] xs
+
+flat : {X : Type 0} (row : X → List Field) → ((x : X) → list_all is_small (row x) ≡ true) → (xs : List X) → list_all is_small (flat_map row xs) ≡ true
+flat row each xs = ap (list_all is_small) (sym (flat-rows row [] xs)) ∙ from (λ _. row) (λ _. each) [] xs
 
 ids_small : (ids : List (List ℕ)) → All AreBytes ids → list_all is_small (flat_map id_fields ids) ≡ true
 ids_small [] are = refl

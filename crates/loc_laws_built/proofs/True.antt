@@ -1,28 +1,26 @@
 -- A content of the table, the legend and the versions of a layer is a true index of it.
-use Rattle.std.proofs.Common.{◌≡◌, ◌≢◌, ℕ, ◌+◌, ◌*◌, ◌^◌, ◌<◌, ◌≤◌, true, false, ◌&&◌, List, [], length, get_or, Option, None, refl, sym, ◌∙◌, ap, subst, arith}
+use Rattle.std.proofs.Common.{◌≡◌, ◌≢◌, ℕ, ◌+◌, ◌*◌, ◌^◌, ◌<◌, ◌≤◌, true, false, List, [], length, get_or, Option, None, refl, sym, ◌∙◌, ap, subst, arith}
 use Rattle.std.specs.Prelude.{IsTrue}
-use Rattle.std.proofs.lemmas.Bool.{and_from, both_ways, cond-true, ltb-true, not_from_false, not-true, or_left, or_right, false_from_ne_true, lt-ltb}
-use Rattle.std.proofs.lemmas.List.{length-map}
+use Rattle.std.proofs.lemmas.Bool.{both_ways, ltb-true, not_from_false, not-true, false_from_ne_true, lt-ltb}
 use Rattle.std.proofs.lemmas.List.Sums.{length-filter}
 use Rattle.std.proofs.lemmas.Option.{get_or_from_slice_get, slice_get-get_or}
-use Rattle.loc_spec_plane.specs.Points.{Edge, before, lies_on}
-use Rattle.loc_spec_plane.specs.Rings.{Rings, segment_between}
-use Rattle.loc_spec_plane.specs.Tables.{Table, IsTable, AllEnds, AllEven, NoConflict, corner, edge, edge_numbers, hi_of, lo_of, table_of}
+use Rattle.loc_spec_plane.specs.Rings.{Rings}
+use Rattle.loc_spec_plane.specs.Tables.{Table, IsTable, AllEnds, AllEven, NoConflict, corner, edge_numbers, table_of}
 use Rattle.loc_spec_plane.specs.Places.{IsFloor, IsVersion, alive_at}
 use Rattle.loc_spec_plane.specs.Covers.{cover_above}
 use Rattle.loc_spec_plane.specs.Lists.{is_in}
 use Rattle.loc_spec_index.specs.declared.NodeRow.{NodeRow}
-use Rattle.loc_spec_index.specs.Content.{Content, EdgeRow, cover_numbers, floor_of_corner, root_of, source_of, table_in}
+use Rattle.loc_spec_index.specs.Content.{Content, cover_numbers, floor_of_corner, root_of, table_in}
 use Rattle.loc_spec_index.specs.Nodes.{IsShallow, is_deep}
 use Rattle.loc_spec_index.specs.TrueIndex.{IsIndexOf, IsTrueIndex, IsTrueVersion, alive_count, is_on_source}
-use Rattle.loc_laws_order.proofs.Sides.{end_lies_on, same_point_refl}
-use Rattle.loc_laws_order.proofs.TableOrder.{corner_before}
 use Rattle.loc_edges.proofs.Ordered.{table_of-is_table}
 use Rattle.loc_persist.specs.Meaning.{VersionsMeaning}
 use Rattle.loc_persist.proofs.ByNumber.{rows_by_number_read}
 use Rattle.loc_treeidx.proofs.Standing.{listed_count, square_rises}
 use Rattle.loc_cover.specs.Legends.{LegendRows}
 use Rattle.loc_write.specs.Written.{HoldsParts, IsContentOf}
+use Rattle.loc_laws_index.proofs.FlawKinds.{as_many}
+use Rattle.loc_laws_index.proofs.OwnSources.{on_source}
 use Rattle.loc_laws_built.specs.Built.{ContentIsTrue, IsPlaneOf}
 use Rattle.loc_laws_built.proofs.Marked.{every_marked}
 use Rattle.loc_laws_built.proofs.Named.{every_named}
@@ -30,10 +28,6 @@ use Rattle.loc_laws_built.proofs.Named.{every_named}
 corners-of : (c : Content) → length (table_in c).corners ≡ length c.corners
 unfolding table_in
 corners-of c = refl
-
-ends-of : (c : Content) → length (table_in c).ends ≡ length c.edges
-unfolding table_in
-ends-of c = length-map c.edges (λ (x : EdgeRow). x.ends)
 
 -- what is not too long for some edges is not for more
 fewer_shallow : (rows : List NodeRow) (i n k l : ℕ) → k ≤ l → IsShallow rows i n k → IsShallow rows i n l
@@ -45,16 +39,6 @@ fewer_shallow rows i n k l le shallow = λ sides leads.
     let square = square_rises k l le in
     both_ways (is_deep k d) not_deep (lt-ltb ((k + 1) * (k + 1)) (2 ^ d) (omega (arith, more, square))))))
 
--- an edge lies on the segment between its ends
-on_itself : (t : Table) → IsTable t → (e : ℕ) → e < length t.ends → (pair : ℕ × ℕ) → pair ≡ get_or t.ends e (0, 0)
-    → (lies_on (segment_between (corner t pair.0) (corner t pair.1)) (edge t e).lo && lies_on (segment_between (corner t pair.0) (corner t pair.1)) (edge t e).hi) ≡ true
-on_itself t ok e fits pair is =
-    let up = ok.goes_up e fits in
-    let rise : before (edge t e).lo (edge t e).hi ≡ true = corner_before t ok (lo_of t e) (hi_of t e) up.0 up.1 in
-    let segment : segment_between (corner t pair.0) (corner t pair.1) ≡ edge t e = ap (λ (p : ℕ × ℕ). segment_between (corner t p.0) (corner t p.1)) is ∙ cond-true _ _ _ rise in
-    subst (λ (s : Edge). (lies_on s (edge t e).lo && lies_on s (edge t e).hi) ≡ true) (sym segment)
-    (and_from _ _ (end_lies_on (edge t e) (edge t e).lo rise (or_left _ _ (same_point_refl (edge t e).lo))) (end_lies_on (edge t e) (edge t e).hi rise (or_right _ _ (same_point_refl (edge t e).hi))))
-
 module _ (scale : ℕ) (layer : List Rings) (rows : LegendRows) (m : VersionsMeaning) (c : Content) (p : IsPlaneOf layer rows m) (of : IsContentOf scale (table_of layer) rows m c) (holds : HoldsParts (table_of layer) rows c) where
   abbrev t : Table
   t = table_of layer
@@ -63,7 +47,7 @@ module _ (scale : ℕ) (layer : List Rings) (rows : LegendRows) (m : VersionsMea
   as_many_above = p.sound.as_many_above ∙ p.as_many
 
   within : (e : ℕ) → e < length c.edges → e < length t.ends
-  within e lt = let a = ends-of c in let b = ap (λ (u : Table). length u.ends) holds.table in omega (arith, lt, a, b)
+  within e lt = let a = as_many c in let b = ap (λ (u : Table). length u.ends) holds.table in omega (arith, lt, a, b)
 
   there : (n : ℕ) → n < length c.corners → n < length t.corners
   there n lt = let a = corners-of c in let b = ap (λ (u : Table). length u.corners) holds.table in omega (arith, lt, a, b)
@@ -75,10 +59,7 @@ module _ (scale : ℕ) (layer : List Rings) (rows : LegendRows) (m : VersionsMea
   floors_are = ap (λ (x : Content). x.floors) of.parts
 
   sources_on : (e : ℕ) → e < length c.edges → is_on_source c e ≡ true
-  sources_on e lt =
-      let own : source_of c e ≡ get_or t.ends e (0, 0) = ap (λ (ends : List (ℕ × ℕ)). get_or ends e (0, 0)) holds.sources in
-      subst (λ (u : Table). (lies_on (segment_between (corner u (source_of c e).0) (corner u (source_of c e).1)) (edge u e).lo && lies_on (segment_between (corner u (source_of c e).0) (corner u (source_of c e).1)) (edge u e).hi) ≡ true)
-      (sym holds.table) (on_itself t (table_of-is_table layer) e (within e lt) (source_of c e) own)
+  sources_on = on_source c (subst IsTable (sym holds.table) (table_of-is_table layer)) (holds.sources ∙ sym (ap (λ (u : Table). u.ends) holds.table))
 
   -- version i
   version_true : (i : ℕ) → i < length c.corners → IsTrueVersion c i

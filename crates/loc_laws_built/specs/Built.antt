@@ -12,7 +12,7 @@ use Rattle.loc_spec_index.specs.IndexFile.{bytes_of}
 use Rattle.loc_laws_index.specs.IndexReading.{AreBytes}
 use Rattle.loc_rings.specs.Layers.{IsLayer}
 use Rattle.loc_rings.specs.Values.{Feature}
-use Rattle.loc_edges.specs.Layers.{layer_of}
+use Rattle.loc_edges.specs.Layers.{layer_rings}
 use Rattle.loc_status.specs.Versions.{AreVersions}
 use Rattle.loc_persist.specs.Meaning.{VersionsMeaning, IsMeaning}
 use Rattle.loc_cover.specs.Legends.{LegendRows, IsSound, IsTrueLegend}
@@ -37,7 +37,7 @@ ContentIsTrue =
 
 -- a layer within its limits has at most 2^20 edges, and at most as many marks
 abbrev pub LayerFits : Type 0
-LayerFits = (layer : List Feature) → IsLayer layer → (length (table_of (layer_of layer)).ends ≤ 2 ^ 20) × (sum_by length (table_of (layer_of layer)).marks ≤ 2 ^ 20)
+LayerFits = (layer : List Feature) → IsLayer layer → (length (table_of (layer_rings layer)).ends ≤ 2 ^ 20) × (sum_by length (table_of (layer_rings layer)).marks ≤ 2 ^ 20)
 
 -- where the ids are bytes, all that is written of a content is
 abbrev pub BytesOf : Type 0

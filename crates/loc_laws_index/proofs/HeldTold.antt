@@ -1,5 +1,5 @@
 -- What is taken off the bytes of a file is told by its fields, in order; so the first fault, or the content, is what the bytes read as.
-use Rattle.std.proofs.Common.{◌≡◌, ℕ, zero, suc, ◌+◌, ◌≤◌, Bool, true, false, ◌&&◌, ◌||◌, List, [], ◌++◌, length, take, drop, map, refl, sym, ◌∙◌, ap, Option, Some, None, Ok, Err, not, ◌==◌}
+use Rattle.std.proofs.Common.{◌≡◌, ℕ, zero, suc, ◌+◌, ◌≤◌, Bool, true, false, ◌&&◌, ◌||◌, List, [], length, take, drop, get_or, refl, sym, ◌∙◌, ap, Option, Some, None, Ok, Err, not, ◌==◌}
 use Rattle.std.specs.Prelude.{codes, IsTrue}
 use Rattle.std.specs.List.{flat_map, list_all}
 use Rattle.std.specs.Int.{w32, to_be_bytes}
@@ -8,7 +8,7 @@ use Rattle.std.proofs.lemmas.Bool.{eqb-true, eq-eqb, and_from}
 use Rattle.std.proofs.lemmas.Slice.Eq.{bytes_eq-Decides}
 use Rattle.loc_spec_index.specs.declared.IndexFault.{IndexFault}
 use Rattle.loc_spec_index.specs.Content.{Content}
-use Rattle.loc_spec_index.specs.IndexFile.{Field, magic, version, number, is_right, is_version, fields, id_fields, corner_fields, edge_fields, mark_fields, cover_fields, node_fields, rows_from, none_or_next, is_own_source, IsShaped, IsFileOf, HasFault}
+use Rattle.loc_spec_index.specs.IndexFile.{Field, magic, version, number, is_right, is_version, fields, parts, id_fields, corner_fields, edge_fields, mark_fields, cover_fields, node_fields, none_or_next, is_own_source, IsShaped, IsFileOf, HasFault}
 use Rattle.loc_laws_index.specs.IndexReading.{AreBytes, Taker, times, word_off, id_off, corner_off, edge_off, mark_off, list_off, floor_off, node_off, counts_off, held_in, is_of_second, fault_from, unless_fault, reading, ReadsFiles}
 use Rattle.loc_laws_index.proofs.Agree.{holds-unless}
 use Rattle.loc_laws_index.proofs.OneReading.{one_file, one_fault, no_fault_in_file}
@@ -88,22 +88,16 @@ told bytes other =
     let nc = length covers.0 in
     let nn = length nodes.0 in
     let K : List ℕ → Type 0 = λ _. Unit {0} in
-    let p9 : List Field = flat_map (node_fields ne nv nn) nodes.0 ++ [] in
-    let p8 : List Field = map (number w32 (nn + 1)) roots.0 ++ p9 in
-    let p7 : List Field = map (λ floor. number w32 (ne + 1) (none_or_next floor)) floors.0 ++ p8 in
-    let p6 : List Field = rows_from (cover_fields nf) [] covers.0 ++ p7 in
-    let p5 : List Field = rows_from (mark_fields ne nf) [] marks.0 ++ p6 in
-    let p4 : List Field = rows_from (edge_fields 1 nv nc) [] edges.0 ++ p5 in
-    let p3 : List Field = rows_from corner_fields [] corners.0 ++ p4 in
-    let p2 : List Field = flat_map id_fields ids.0 ++ p3 in
-    let t9 : Told p9 roots.1 K = told-append (flat_map (node_fields ne nv nn) nodes.0) [] roots.1 K (told_each (node_fields ne nv nn) node_off (told_node ne nv nn) n.0.nodes roots.1 K tt) in
-    let t8 : Told p8 floors.1 K = told-append (map (number w32 (nn + 1)) roots.0) p9 floors.1 K (told_map (number w32 (nn + 1)) word_off (told_root nn) n.0.corners floors.1 (λ r. Told p9 r K) t9) in
-    let t7 : Told p7 covers.1 K = told-append (map (λ floor. number w32 (ne + 1) (none_or_next floor)) floors.0) p8 covers.1 K (told_map (λ floor. number w32 (ne + 1) (none_or_next floor)) floor_off (told_floor ne) n.0.corners covers.1 (λ r. Told p8 r K) t8) in
-    let t6 : Told p6 marks.1 K = told-append (rows_from (cover_fields nf) [] covers.0) p7 marks.1 K (told_rows (cover_fields nf) list_off (told_list nf) n.0.covers [] marks.1 (λ r. Told p7 r K) t7) in
-    let t5 : Told p5 edges.1 K = told-append (rows_from (mark_fields ne nf) [] marks.0) p6 edges.1 K (told_rows (mark_fields ne nf) mark_off (told_mark ne nf) n.0.marks [] edges.1 (λ r. Told p6 r K) t6) in
-    let t4 : Told p4 corners.1 K = told-append (rows_from (edge_fields 1 nv nc) [] edges.0) p5 corners.1 K (told_rows (edge_fields 1 nv nc) edge_off (told_edge nv nc) n.0.edges [] corners.1 (λ r. Told p5 r K) t5) in
-    let t3 : Told p3 ids.1 K = told-append (rows_from corner_fields [] corners.0) p4 ids.1 K (told_rows corner_fields corner_off told_corner n.0.corners [] ids.1 (λ r. Told p4 r K) t4) in
-    let t2 : Told p2 n.1 K = told-append (flat_map id_fields ids.0) p3 n.1 K (told_each id_fields id_off told_id n.0.features n.1 (λ r. Told p3 r K) t3) in
+    let part : ℕ → List Field = λ k. get_or (parts 1 (held_in bytes)) k [] in
+    let from : ℕ → List Field = λ k. flat_map (λ part. part) (drop k (parts 1 (held_in bytes))) in
+    let t8 = told-append (part 8) [] roots.1 K (told_each (node_fields ne nv nn) node_off (told_node ne nv nn) n.0.nodes roots.1 K tt) in
+    let t7 = told-append (part 7) (from 8) floors.1 K (told_map (number w32 (nn + 1)) word_off (told_root nn) n.0.corners floors.1 (λ r. Told (from 8) r K) t8) in
+    let t6 = told-append (part 6) (from 7) covers.1 K (told_map (λ floor. number w32 (ne + 1) (none_or_next floor)) floor_off (told_floor ne) n.0.corners covers.1 (λ r. Told (from 7) r K) t7) in
+    let t5 = told-append (part 5) (from 6) marks.1 K (told_rows (cover_fields nf) list_off (told_list nf) n.0.covers [] marks.1 (λ r. Told (from 6) r K) t6) in
+    let t4 = told-append (part 4) (from 5) edges.1 K (told_rows (mark_fields ne nf) mark_off (told_mark ne nf) n.0.marks [] edges.1 (λ r. Told (from 5) r K) t5) in
+    let t3 = told-append (part 3) (from 4) corners.1 K (told_rows (edge_fields 1 nv nc) edge_off (told_edge nv nc) n.0.edges [] corners.1 (λ r. Told (from 4) r K) t4) in
+    let t2 = told-append (part 2) (from 3) ids.1 K (told_rows corner_fields corner_off told_corner n.0.corners [] ids.1 (λ r. Told (from 3) r K) t3) in
+    let t1 = told-append (part 1) (from 2) n.1 K (told_each id_fields id_off told_id n.0.features n.1 (λ r. Told (from 2) r K) t2) in
     λ s f r. (
     let letters = letters_are (take 8 bytes) r in (
       ap magic letters,
@@ -130,7 +124,7 @@ told bytes other =
                       λ s f r. (
                         counted list_off _ mark_count.1 marks.1,
                         counted_is list_off 0 mark_count.1 marks.1 s f,
-                        λ s f r. (counted node_off _ cover_count.1 roots.1, counted_is node_off 0 cover_count.1 roots.1 s f, t2),
+                        λ s f r. (counted node_off _ cover_count.1 roots.1, counted_is node_off 0 cover_count.1 roots.1 s f, t1),
                       ),
                     ),
                   ),

@@ -15,6 +15,7 @@ use Rattle.loc_spec_plane.specs.Points.{Point}
 use Rattle.loc_spec_index.specs.Content.{EdgeRow}
 use Rattle.loc_spec_index.specs.IndexFile.{Field, number, text, order, spelled, is_right, with_bytes, rows_from, id_fields, corner_fields, edge_fields, mark_fields, cover_fields, node_fields, none_or_next, bit, follows}
 use Rattle.loc_laws_index.specs.IndexReading.{AreBytes, Taker, front, byte_off, word_off, coordinate_off, times, id_off, corner_off, edge_off, mark_off, list_off, floor_off, node_off}
+use Rattle.loc_laws_index.proofs.Progress.{flat-rows, map-rows}
 use Rattle.loc_laws_index.proofs.Agree.{holds-unless}
 
 pub bytes_behind : (n : ℕ) (bytes : List ℕ) → AreBytes bytes → AreBytes (drop n bytes)
@@ -73,19 +74,12 @@ told_rows row off each (suc n) earlier rest K k =
 -- the rows of a part, each by itself
 pub told_each : {X : Type 0} (row : X → List Field) (off : Taker X) → ((rest : List ℕ) (K : List ℕ → Type 0) → K (off rest).1 → Told (row (off rest).0) rest K)
     → (n : ℕ) (rest : List ℕ) (K : List ℕ → Type 0) → K (times off n rest).1 → Told (flat_map row (times off n rest).0) rest K
-told_each row off each zero rest K k = k
-told_each row off each (suc n) rest K k =
-    let x = off rest in
-    let more : List Field = flat_map row (times off n x.1).0 in
-    told-append (row x.0) more rest K (each rest (λ r. Told more r K) (told_each row off each n x.1 K k))
+told_each row off each n rest K k = subst (λ fs. Told fs rest K) (flat-rows row [] (times off n rest).0) (told_rows (λ _. row) off (λ _. each) n [] rest K k)
 
 -- rows of one field
 pub told_map : {X : Type 0} (field : X → Field) (off : Taker X) → ((rest : List ℕ) (K : List ℕ → Type 0) → K (off rest).1 → Told (field (off rest).0 ∷ []) rest K)
     → (n : ℕ) (rest : List ℕ) (K : List ℕ → Type 0) → K (times off n rest).1 → Told (map field (times off n rest).0) rest K
-told_map field off each zero rest K k = k
-told_map field off each (suc n) rest K k =
-    let x = off rest in
-    each rest (λ r. Told (map field (times off n x.1).0) r K) (told_map field off each n x.1 K k)
+told_map field off each n rest K k = subst (λ fs. Told fs rest K) (map-rows field [] (times off n rest).0) (told_rows (λ _ x. field x ∷ []) off (λ _. each) n [] rest K k)
 
 padded-front : (n : ℕ) (rest : List ℕ) → n ≤ length rest → (front n rest).0 ≡ take n rest
 padded-front n rest fits = take-append-le n rest (replicate n 0) fits

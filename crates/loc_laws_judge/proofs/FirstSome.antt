@@ -1,10 +1,12 @@
 -- What is found first among numbers.
-use Rattle.std.proofs.Common.{◌≡◌, ℕ, zero, suc, ◌+◌, ◌<◌, ◌≤◌, Bool, true, false, refl, sym, ◌∙◌, subst, arith, inl, inr}
+use Rattle.std.proofs.Common.{◌≡◌, ℕ, zero, suc, ◌+◌, ◌<◌, ◌≤◌, Bool, true, false, get_or, refl, sym, ◌∙◌, subst, arith, inl, inr}
 use Rattle.std.specs.Prelude.{◌≢◌, Option, Some, None}
 use Rattle.std.specs.Option.{option_or}
 use Rattle.std.specs.List.{range_with_len, list_all}
-use Rattle.std.proofs.lemmas.Bool.{and_from, cases_eq}
-use Rattle.std.proofs.lemmas.Option.{cond_some, none-some}
+use Rattle.std.proofs.lemmas.Bool.{cases_eq}
+use Rattle.std.proofs.lemmas.List.FromFn.{get_or-range_with_len, length-range_with_len}
+use Rattle.std.proofs.lemmas.List.Sums.{list_all-from_AllPass}
+use Rattle.std.proofs.lemmas.Option.{none-some}
 use Rattle.loc_spec_plane.specs.Lists.{numbers}
 use Rattle.loc_spec_index.specs.Flaws.{Flaw}
 use Rattle.loc_laws_judge.specs.FirstFlaw.{first_some, flaw_if}
@@ -18,10 +20,6 @@ or-none (Some y) b h = absurd (none-some y (sym h))
 pub flaw-none : (b : Bool) (flaw : Flaw) → flaw_if b flaw ≡ None → b ≡ false
 flaw-none true flaw h = absurd (none-some flaw (sym h))
 flaw-none false flaw h = refl
-
--- a flaw: the test passes, and it is that flaw
-pub flaw-some : (b : Bool) (flaw g : Flaw) → flaw_if b flaw ≡ Some g → (b ≡ true) × (flaw ≡ g)
-flaw-some b flaw g h = cond_some b flaw g h
 
 module _ {Y : Type 0} (f : ℕ → Option Y) where
   none_in : (n a : ℕ) → first_some f (range_with_len a n) ≡ None → (m : ℕ) → a ≤ m → m < a + n → f m ≡ None
@@ -70,10 +68,9 @@ module _ {Y : Type 0} (f : ℕ → Option Y) where
   pub some_below : (n : ℕ) (y : Y) → first_some f (numbers n) ≡ Some y → IsLeastIn 0 n y
   some_below n y h = let e : 0 + n ≡ n = omega arith in subst (λ k. IsLeastIn 0 k y) e (some_in n 0 y h)
 
-all_in : (test : ℕ → Bool) (n a : ℕ) → ((m : ℕ) → a ≤ m → m < a + n → test m ≡ true) → list_all test (range_with_len a n) ≡ true
-all_in test zero a each = refl
-all_in test (suc n) a each = and_from (test a) (list_all test (range_with_len (a + 1) n)) (each a (omega arith) (omega arith)) (all_in test n (a + 1) (λ m low high. each m (omega (arith, low)) (omega (arith, high))))
-
 -- a test that all numbers below n pass
 pub all_below : (test : ℕ → Bool) (n : ℕ) → ((m : ℕ) → m < n → test m ≡ true) → list_all test (numbers n) ≡ true
-all_below test n each = all_in test n 0 (λ m low high. each m (omega (arith, high)))
+all_below test n each = list_all-from_AllPass test (numbers n) (λ i d less.
+    (let fits : i < n = omega (arith, less, length-range_with_len 0 n) in
+    let at : get_or (numbers n) i d ≡ i = get_or-range_with_len 0 n i d fits ∙ omega arith in
+    subst (λ k. test k ≡ true) (sym at) (each i fits)))

@@ -1,9 +1,9 @@
 -- The test of a floor tells whether it is the floor.
-use Rattle.std.proofs.Common.{◌≡◌, ◌≢◌, ℕ, ◌<◌, ◌≤◌, true, false, not, ◌||◌, length, inl, inr}
+use Rattle.std.proofs.Common.{◌≡◌, ◌≢◌, ℕ, ◌<◌, ◌≤◌, true, false, not, ◌||◌, length, refl, sym, inl, inr}
 use Rattle.std.specs.Prelude.{Bool, Option, Some, None, ◌==◌}
 use Rattle.std.specs.Bool.{Decides}
 use Rattle.std.specs.List.{list_all}
-use Rattle.std.proofs.lemmas.Bool.{and_from, and_left, and_parts, both_ways, cases_Bool, cases_eq, cases_lt, eq-eqb, eqb-true, le-ltb, ltb-true, not_from_false, not-true, or_cases, or_left, or_right}
+use Rattle.std.proofs.lemmas.Bool.{and_from, and_left, and_parts, both_ways, cases_lt, eq-eqb, le-ltb, ltb-true, ne_eqb, not_from_false, true≢false}
 use Rattle.loc_spec_plane.specs.Points.{Point, is_above}
 use Rattle.loc_spec_plane.specs.Tables.{Table, edge, edge_numbers}
 use Rattle.loc_spec_plane.specs.Places.{IsFloor, alive, alive_at, is_edge, lower_of}
@@ -11,6 +11,17 @@ use Rattle.loc_laws_order.proofs.Unique.{all-at}
 use Rattle.loc_laws_rays.proofs.Members.{in_numbers}
 use Rattle.loc_laws_judge.specs.FirstFlaw.{is_floor, is_under}
 use Rattle.loc_laws_judge.proofs.FirstSome.{all_below}
+
+-- a test fails, or another passes, or a third
+told : (a b c : Bool) → ((not a || b) || c) ≡ true → a ≡ true → b ≡ false → c ≡ true
+told true false c h under other = h
+told true true c h under other = absurd (true≢false other)
+told false b c h under other = absurd (true≢false (sym under))
+
+from_told : (a b c : Bool) → (a ≡ true → b ≡ false → c ≡ true) → ((not a || b) || c) ≡ true
+from_told true false c h = h refl refl
+from_told true true c h = refl
+from_told false b c h = refl
 
 module _ (t : Table) (p : Point) where
   is_there : (e : ℕ) → is_under t p e ≡ true → e < length t.ends
@@ -31,22 +42,10 @@ module _ (t : Table) (p : Point) where
     yields e = (not (is_under t p e) || (e == h)) || lower_of t e h
 
     lower_at : (e : ℕ) → list_all yields (edge_numbers t) ≡ true → is_under t p e ≡ true → e ≢ h → lower_of t e h ≡ true
-    lower_at e all under other = elim (or_cases (not (is_under t p e) || (e == h)) (lower_of t e h) (all-at yields (edge_numbers t) e all (in_numbers e (length t.ends) (is_there e under)))) [
-      | inl early ↦ elim (or_cases (not (is_under t p e)) (e == h) early) [
-        | inl fails ↦ absurd (both_ways (is_under t p e) (not-true (is_under t p e) fails) under)
-        | inr same ↦ absurd (other (eqb-true e h same))
-      ]
-      | inr low ↦ low
-    ]
+    lower_at e all under other = told (is_under t p e) (e == h) (lower_of t e h) (all-at yields (edge_numbers t) e all (in_numbers e (length t.ends) (is_there e under))) under (ne_eqb e h other)
 
     yields_at : (e : ℕ) → (is_under t p e ≡ true → e ≢ h → lower_of t e h ≡ true) → yields e ≡ true
-    yields_at e low = elim (cases_Bool (is_under t p e)) [
-      | inl under ↦ elim (cases_eq e h) [
-        | inl same ↦ or_left (not (is_under t p e) || (e == h)) (lower_of t e h) (or_right (not (is_under t p e)) (e == h) (eq-eqb e h same))
-        | inr other ↦ or_right (not (is_under t p e) || (e == h)) (lower_of t e h) (low under other)
-      ]
-      | inr not_under ↦ or_left (not (is_under t p e) || (e == h)) (lower_of t e h) (or_left (not (is_under t p e)) (e == h) (not_from_false (is_under t p e) not_under))
-    ]
+    yields_at e low = from_told (is_under t p e) (e == h) (lower_of t e h) (λ under other. low under (λ same. both_ways (e == h) other (eq-eqb e h same)))
 
 -- the test passes exactly where it is the floor
 pub floor_decides : (t : Table) (p : Point) (floor : Option ℕ) → Decides (is_floor t p floor) (IsFloor t p floor)

@@ -1,43 +1,28 @@
 -- What is told of uneven features and of edges that conflict.
-use Rattle.std.proofs.Common.{◌≡◌, ℕ, ◌<◌, ◌≤◌, true, false, ◌&&◌, [], ◌∷◌, length, refl, sym, ◌∙◌, subst, inl, inr, arith}
-use Rattle.std.specs.Prelude.{Bool, Option, Some, None, ◌⊎◌, ◌==◌, nat_lt}
-use Rattle.std.proofs.lemmas.Bool.{and_from, and_parts, and_right, both_ways, cases_lt, cases_order, false_from_ne_true, lt-ltb, ltb-true, not_from_false, or_cases, true≢false}
-use Rattle.std.proofs.lemmas.List.{length-map}
+use Rattle.std.proofs.Common.{◌≡◌, ℕ, ◌<◌, ◌≤◌, true, false, ◌&&◌, length, refl, ◌∙◌, subst, inl, inr, arith}
+use Rattle.std.specs.Prelude.{Bool, Option, Some, None, nat_lt}
+use Rattle.std.proofs.lemmas.Bool.{and_from, and_parts, and_right, both_ways, cases_lt, cases_order, false_from_ne_true, lt-ltb, ltb-true, not_from_false}
+use Rattle.std.proofs.lemmas.Option.{cond_some}
 use Rattle.loc_spec_plane.specs.Lists.{numbers}
 use Rattle.loc_spec_plane.specs.Points.{conflict}
 use Rattle.loc_spec_plane.specs.Tables.{Table, AllEven, NoConflict, edge, edge_numbers, ends_at, has_odd}
-use Rattle.loc_spec_plane.specs.Covers.{feature_count, list_before}
+use Rattle.loc_spec_plane.specs.Covers.{feature_count}
 use Rattle.loc_laws_rays.proofs.Members.{feature_below, has-from_odd}
 use Rattle.loc_laws_rays.proofs.Parity.{never, odd_many-same}
 use Rattle.loc_laws_traps.proofs.Joined.{conflict_back, conflict_none}
-use Rattle.loc_spec_index.specs.Content.{Content, EdgeRow, table_in}
-use Rattle.loc_spec_index.specs.Flaws.{Flaw, HasFlaw, rank, uneven, conflicting}
-use Rattle.loc_spec_index.proofs.Refutes.{before_in_kind}
+use Rattle.loc_spec_index.specs.Content.{Content, table_in}
+use Rattle.loc_spec_index.specs.Flaws.{Flaw, uneven, conflicting}
+use Rattle.loc_spec_index.proofs.Refutes.{no_uneven, no_conflicting}
+use Rattle.loc_laws_index.proofs.FlawKinds.{as_many, least_uneven, least_conflict}
 use Rattle.loc_laws_judge.specs.FirstFlaw.{conflicting_pair, first_some, flaw_if, is_odd_at, uneven_feature}
-use Rattle.loc_laws_judge.proofs.FirstSome.{flaw-none, flaw-some, none_below, some_below}
-use Rattle.loc_laws_judge.proofs.OfKind.{IsLeastOf, IsTold, NoneOf, kind_of}
+use Rattle.loc_laws_judge.proofs.FirstSome.{flaw-none, none_below, some_below}
+use Rattle.loc_laws_judge.proofs.OfKind.{IsLeastOf, IsTold, NoneOf}
 
 -- ---- uneven features
 -- no feature past the count is odd
 even_past : (t : Table) (n f : ℕ) → feature_count t ≤ f → is_odd_at t n f ≡ false
 even_past t n f le = odd_many-same (λ e. ends_at t n e && has_odd t f e) (λ e. false) (edge_numbers t)
     (λ e. and_right (ends_at t n e) (has_odd t f e) (false_from_ne_true (has_odd t f e) (λ h. (let less : f < feature_count t = feature_below t f e (has-from_odd t f e h) in omega (arith, less, le))))) ∙ never (edge_numbers t)
-
-least_uneven : (c : Content) (n f : ℕ) → HasFlaw c (uneven n f) → ((m g : ℕ) → (m < n) ⊎ ((m ≡ n) × (g < f)) → HasFlaw c (uneven m g) → ⊥) → IsLeastOf c 2 (uneven n f)
-least_uneven c n f there none = record { is_of = refl; there = there; least = by }
-  where
-    by : (other : Flaw) → HasFlaw c other → kind_of other ≡ 2 → list_before (rank other) (2 ∷ n ∷ f ∷ []) ≡ true → ⊥
-    by (uneven m g) h same before = elim (before_in_kind 2 m n (g ∷ []) (f ∷ []) before) [
-      | inl less ↦ none m g (inl less) h
-      | inr equal ↦ none m g (inr (
-        equal.0,
-        elim (or_cases (nat_lt g f) ((g == f) && list_before [] []) equal.1) [
-          | inl less ↦ ltb-true g f less
-          | inr later ↦ absurd (true≢false (sym (and_parts (g == f) false later).1))
-        ],
-      )) h
-    ]
-    by _ h same before = omega (arith, same)
 
 module _ (c : Content) where
   -- what is found at a corner
@@ -53,23 +38,27 @@ module _ (c : Content) where
   odd_least : (n : ℕ) → n < length c.corners → ((m : ℕ) → m < n → odd_feature m ≡ None) → (flaw : Flaw) → odd_feature n ≡ Some flaw → IsLeastOf c 2 flaw
   odd_least n fits earlier flaw h =
       let l = some_below (λ f. flaw_if (is_odd_at (table_in c) n f) (uneven n f)) (feature_count (table_in c)) flaw h in
-      let found = flaw-some (is_odd_at (table_in c) n l.number) (uneven n l.number) flaw l.found in
-      subst (IsLeastOf c 2) found.1 (least_uneven c n l.number (fits, found.0) (λ m g before there. elim before [
-        | inl less ↦ both_ways (is_odd_at (table_in c) m g) (even_at m (earlier m less) g) there.1
-        | inr same ↦ both_ways (is_odd_at (table_in c) n g) (flaw-none (is_odd_at (table_in c) n g) (uneven n g) (l.earlier g (omega arith) same.1)) (subst (λ k. is_odd_at (table_in c) k g ≡ true) same.0 there.1)
-      ]))
+      let found = cond_some (is_odd_at (table_in c) n l.number) (uneven n l.number) flaw l.found in
+      subst (IsLeastOf c 2) found.1 (record {
+        is_of = refl;
+        there = (fits, found.0);
+        least = least_uneven c n l.number (λ m g before there. elim before [
+          | inl less ↦ both_ways (is_odd_at (table_in c) m g) (even_at m (earlier m less) g) there.1
+          | inr same ↦ both_ways (is_odd_at (table_in c) n g) (flaw-none (is_odd_at (table_in c) n g) (uneven n g) (l.earlier g (omega arith) same.1)) (subst (λ k. is_odd_at (table_in c) k g ≡ true) same.0 there.1)
+        ]);
+      })
+
+  none_uneven : AllEven (table_in c) → NoneOf c 2
+  none_uneven even (uneven n f) h same = no_uneven c even n f h
+  none_uneven even _ h same = omega (arith, same)
 
   pub uneven_told : IsTold c 2 (AllEven (table_in c)) (uneven_feature c)
   unfolding table_in
   uneven_told = record {
     right = λ h n less f. not_from_false _ (even_at n (none_below odd_feature (length c.corners) h n less) f);
     least = λ flaw h. (let l = some_below odd_feature (length c.corners) flaw h in odd_least l.number l.below (λ m less. l.earlier m (omega arith) less) flaw l.found);
+    none = none_uneven;
   }
-
-  -- where all are even, no flaw is of the kind
-  pub none_uneven : ((n f : ℕ) → HasFlaw c (uneven n f) → ⊥) → NoneOf c 2
-  none_uneven none (uneven n f) h same = none n f h
-  none_uneven none _ h same = omega (arith, same)
 
   -- ---- edges that conflict
   -- the lesser number first, and a conflict
@@ -79,10 +68,6 @@ module _ (c : Content) where
   -- what is found at an edge
   abbrev conflict_with : ℕ → Option Flaw
   conflict_with a = first_some (λ b. flaw_if (conflicts a b) (conflicting a b)) (numbers (length c.edges))
-
-  pub as_many : length (table_in c).ends ≡ length c.edges
-  unfolding table_in
-  as_many = length-map c.edges (λ (e : EdgeRow). e.ends)
 
   none_found : conflicting_pair c ≡ None → (a b : ℕ) → a < length c.edges → b < length c.edges → a < b → conflict (edge (table_in c) a) (edge (table_in c) b) ≡ false
   none_found h a b la lb less = false_from_ne_true _ (λ there. both_ways (conflicts a b)
@@ -98,27 +83,20 @@ module _ (c : Content) where
     ]
   ]
 
-  least_conflict : (a b : ℕ) → HasFlaw c (conflicting a b) → IsLeastOf c 3 (conflicting a b)
-  least_conflict a b there = record { is_of = refl; there = there; least = by }
-    where
-      by : (other : Flaw) → HasFlaw c other → kind_of other ≡ 3 → list_before (rank other) (3 ∷ []) ≡ true → ⊥
-      by (conflicting d e) h same before = true≢false (sym before)
-      by _ h same before = omega (arith, same)
-
   conflict_least : (a : ℕ) (flaw : Flaw) → conflict_with a ≡ Some flaw → IsLeastOf c 3 flaw
   conflict_least a flaw h =
       let l = some_below (λ b. flaw_if (conflicts a b) (conflicting a b)) (length c.edges) flaw h in
-      let found = flaw-some (conflicts a l.number) (conflicting a l.number) flaw l.found in
+      let found = cond_some (conflicts a l.number) (conflicting a l.number) flaw l.found in
       let parts = and_parts (nat_lt a l.number) (conflict (edge (table_in c) a) (edge (table_in c) l.number)) found.0 in
-      subst (IsLeastOf c 3) found.1 (least_conflict a l.number (ltb-true a l.number parts.0, l.below, parts.1))
+      subst (IsLeastOf c 3) found.1 (record { is_of = refl; there = (ltb-true a l.number parts.0, l.below, parts.1); least = least_conflict c })
+
+  none_conflicting : NoConflict (table_in c) → NoneOf c 3
+  none_conflicting apart (conflicting a b) h same = no_conflicting c apart (as_many c) a b h
+  none_conflicting apart _ h same = omega (arith, same)
 
   pub conflict_told : IsTold c 3 (NoConflict (table_in c)) (conflicting_pair c)
   conflict_told = record {
-    right = λ h a b la lb. not_from_false _ (quiet h a b (subst (λ n. a < n) as_many la) (subst (λ n. b < n) as_many lb));
+    right = λ h a b la lb. not_from_false _ (quiet h a b (subst (λ n. a < n) (as_many c) la) (subst (λ n. b < n) (as_many c) lb));
     least = λ flaw h. (let l = some_below conflict_with (length c.edges) flaw h in conflict_least l.number flaw l.found);
+    none = none_conflicting;
   }
-
-  -- where none conflict, no flaw is of the kind
-  pub none_conflicting : ((a b : ℕ) → HasFlaw c (conflicting a b) → ⊥) → NoneOf c 3
-  none_conflicting none (conflicting a b) h same = none a b h
-  none_conflicting none _ h same = omega (arith, same)

@@ -1,10 +1,10 @@
 -- The most nodes that a path may have: so many are not too many, and one more is.
 use Rattle.std.proofs.Common.{◌≡◌, ◌≢◌, ℕ, zero, suc, ◌+◌, ◌*◌, ◌^◌, ◌<◌, ◌≤◌, Bool, true, false, length, subst, refl, sym, arith}
 use Rattle.std.specs.Prelude.{List, if◌then◌else◌, IsTrue}
-use Rattle.std.proofs.Math.Pow.{pow_mono}
-use Rattle.std.proofs.lemmas.Bool.{le-ltb, lt-ltb, ltb-false, ltb-true, not_from_false}
+use Rattle.std.proofs.lemmas.Bool.{lt-ltb, ltb-false, ltb-true}
 use Rattle.loc_spec_index.specs.declared.NodeRow.{NodeRow}
 use Rattle.loc_spec_index.specs.Nodes.{Side, IsShallow, is_deep, led_to}
+use Rattle.loc_laws_index.proofs.Reading.{shallow-within}
 use Rattle.loc_laws_judge.specs.FirstFlaw.{greatest_fitting, room_for}
 
 module _ (k : ℕ) where
@@ -42,11 +42,7 @@ room_past k = one_more k (2 * k) (square_below k)
 
 -- where no path has more nodes than there is room, none is too long
 pub shallow_within : (rows : List NodeRow) (version n k : ℕ) → ((sides : List Side) → led_to rows version n sides ≢ 0 → length sides < room_for k) → IsShallow rows version n k
-shallow_within rows version n k within sides led =
-    let less : length sides < room_for k = within sides led in
-    let mono : 2 ^ (length sides + 1) ≤ 2 ^ room_for k = pow_mono (omega (arith, less)) in
-    let fits : 2 ^ room_for k ≤ (k + 1) * (k + 1) = room_fits k in
-    not_from_false (is_deep k (length sides + 1)) (le-ltb ((k + 1) * (k + 1)) (2 ^ (length sides + 1)) (omega (arith, mono, fits)))
+shallow_within rows version n k within = shallow-within rows version n k (room_for k) (room_fits k) within
 
 -- a path with as many turns as there is room is too long
 pub deep_past : (k turns : ℕ) → turns ≡ room_for k → IsTrue (is_deep k (turns + 1))

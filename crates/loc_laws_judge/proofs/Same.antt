@@ -7,12 +7,12 @@ use Rattle.loc_spec_plane.specs.Tables.{corner}
 use Rattle.loc_laws_order.proofs.Unique.{list-unique}
 use Rattle.loc_spec_index.specs.Content.{Content, table_in}
 use Rattle.loc_spec_index.specs.Flaws.{DifferFirstAt, Flaw, HasFlaw, IsDeepIn, IsFirst, IsMisread, rank, lone, bare, uneven, conflicting, wrong_floor, wrong_cover, spare_cover, wrong_source, deep, wrong_list}
+use Rattle.loc_laws_index.proofs.FlawKinds.{kind_of, is_named, named, is_named_so}
 use Rattle.loc_laws_index.proofs.NoFlaw.{true_has_no_flaw}
 use Rattle.loc_laws_index.proofs.Reading.{reads-unique}
 use Rattle.loc_laws_judge.specs.FirstFlaw.{FirstIsFound, IsOneOf, first_flaw}
 use Rattle.loc_laws_judge.proofs.Differences.{one_difference}
 use Rattle.loc_laws_judge.proofs.First.{found_is_first, none_is_true}
-use Rattle.loc_laws_judge.proofs.OfKind.{IsNamed, bare_named, cover_named, floor_named, lone_named, source_named, spare_named}
 
 -- of two lists neither of which comes before the other, each is the other
 same-from_neither : (xs ys : List ℕ) → (list_before xs ys ≡ true → ⊥) → (list_before ys xs ≡ true → ⊥) → xs ≡ ys
@@ -29,12 +29,10 @@ one_rank : (c : Content) (f g : Flaw) → IsFirst c f → IsFirst c g → rank f
 one_rank c f g is_f is_g = same-from_neither (rank f) (rank g) (λ b. both_ways _ (not-true _ (is_g.1 f is_f.0)) b) (λ b. both_ways _ (not-true _ (is_f.1 g is_g.0)) b)
 
 -- a flaw of a kind whose flaws have one number goes by its rank
-one_named : (kind : ℕ) (name : ℕ → Flaw) → IsNamed kind name → (n : ℕ) (g : Flaw) → kind ∷ n ∷ [] ≡ rank g → g ≡ name n
-one_named kind name named n g same =
-    let o = named.of g (ap (λ r. get_or r 0 0) (sym same)) in
-    let ranks : kind ∷ n ∷ [] ≡ kind ∷ o.0 ∷ [] = same ∙ (ap rank o.1 ∙ named.ranks o.0) in
-    let number : o.0 ≡ n = cc in
-    o.1 ∙ ap name number
+one_named : (kind n : ℕ) (g : Flaw) → is_named kind ≡ true → kind ∷ n ∷ [] ≡ rank g → g ≡ named kind n
+one_named kind n g is same =
+    let k : kind_of g ≡ kind = ap (λ r. get_or r 0 0) (sym same) in
+    (is_named_so g (ap is_named k ∙ is)).0 ∙ (ap (λ k. named k (get_or (rank g) 1 0)) k ∙ ap (λ r. named kind (get_or r 1 0)) (sym same))
 
 some_flaw : (f g : Flaw) → g ≡ f → ◌≡◌ {A = Option Flaw} (Some g) (Some f)
 some_flaw f g same = ap (λ x. Some x) same
@@ -73,14 +71,14 @@ module _ (c : Content) where
 
   -- ---- two flaws of one rank
   one_flaw : (f g : Flaw) → HasFlaw c f → HasFlaw c g → rank f ≡ rank g → IsOneOf f (Some g)
-  one_flaw (lone n) g there h same = some_flaw (lone n) g (one_named 0 lone lone_named n g same)
-  one_flaw (bare e) g there h same = some_flaw (bare e) g (one_named 1 bare bare_named e g same)
+  one_flaw (lone n) g there h same = some_flaw (lone n) g (one_named 0 n g refl same)
+  one_flaw (bare e) g there h same = some_flaw (bare e) g (one_named 1 e g refl same)
   one_flaw (uneven n f) g there h same = one_uneven n f g same
   one_flaw (conflicting a b) g there h same = one_conflicting g same
-  one_flaw (wrong_floor n) g there h same = some_flaw (wrong_floor n) g (one_named 4 wrong_floor floor_named n g same)
-  one_flaw (wrong_cover e) g there h same = some_flaw (wrong_cover e) g (one_named 5 wrong_cover cover_named e g same)
-  one_flaw (spare_cover n) g there h same = some_flaw (spare_cover n) g (one_named 6 spare_cover spare_named n g same)
-  one_flaw (wrong_source e) g there h same = some_flaw (wrong_source e) g (one_named 7 wrong_source source_named e g same)
+  one_flaw (wrong_floor n) g there h same = some_flaw (wrong_floor n) g (one_named 4 n g refl same)
+  one_flaw (wrong_cover e) g there h same = some_flaw (wrong_cover e) g (one_named 5 e g refl same)
+  one_flaw (spare_cover n) g there h same = some_flaw (spare_cover n) g (one_named 6 n g refl same)
+  one_flaw (wrong_source e) g there h same = some_flaw (wrong_source e) g (one_named 7 e g refl same)
   one_flaw (deep i) g there h same = one_deep i g there.1 h same
   one_flaw (wrong_list i p) g there h same = one_wrong_list i p g there.1 h same
 

@@ -1,18 +1,18 @@
 -- What is told of versions, where no two edges conflict.
-use Rattle.std.proofs.Common.{◌≡◌, ℕ, ◌<◌, true, List, [], ◌∷◌, length, refl, sym, subst, inl, inr, arith}
+use Rattle.std.proofs.Common.{◌≡◌, ℕ, ◌<◌, List, length, refl, sym, subst, inl, inr, arith}
 use Rattle.std.specs.Prelude.{Option, Some, None, ◌⊎◌, option_map}
 use Rattle.std.proofs.lemmas.Option.{none-some, same_Some}
 use Rattle.loc_spec_plane.specs.Tables.{NoConflict}
-use Rattle.loc_spec_plane.specs.Covers.{list_before}
 use Rattle.loc_spec_index.specs.Nodes.{Reads}
 use Rattle.loc_spec_index.specs.Content.{Content, root_of, table_in}
 use Rattle.loc_spec_index.specs.TrueIndex.{IsTrueVersion, alive_count}
-use Rattle.loc_spec_index.specs.Flaws.{Flaw, HasFlaw, IsDeepIn, IsMisread, rank, deep, wrong_list}
+use Rattle.loc_spec_index.specs.Flaws.{Flaw, IsDeepIn, IsMisread, deep, wrong_list}
+use Rattle.loc_laws_index.proofs.FlawKinds.{least_version}
 use Rattle.loc_laws_index.proofs.NoFlaw.{no_deep, no_wrong_list}
 use Rattle.loc_laws_judge.specs.FirstFlaw.{IsReadable, first_difference, read_within, reading_flaw, room_for, untrue_version, version_flaw, version_list}
 use Rattle.loc_laws_judge.proofs.Differences.{differ_at, same_lists}
 use Rattle.loc_laws_judge.proofs.FirstSome.{none_below, some_below}
-use Rattle.loc_laws_judge.proofs.OfKind.{IsLeastOf, IsTold, kind_of, lesser}
+use Rattle.loc_laws_judge.proofs.OfKind.{IsLeastOf, IsTold, NoneOf}
 use Rattle.loc_laws_judge.proofs.ReadWithin.{StaysWithin, not_read, read_is}
 use Rattle.loc_laws_judge.proofs.Room.{deep_past, shallow_within}
 use Rattle.loc_laws_judge.proofs.VersionList.{version_list_is}
@@ -80,19 +80,20 @@ module _ (c : Content) (r : IsReadable c) (quiet : NoConflict (table_in c)) wher
     version_wrong : (flaw : Flaw) → version_flaw c i ≡ Some flaw → IsOfVersion c i flaw
     version_wrong flaw h = found_wrong flaw read refl h
 
-  earlier : (n : ℕ) → ((m : ℕ) → m < n → IsTrueVersion c m) → (other : Flaw) → HasFlaw c other → kind_of other ≡ 8 → list_before (rank other) (8 ∷ n ∷ []) ≡ true → ⊥
-  earlier n right (deep m) h same before = no_deep c m (right m (lesser 8 m n before)) h
-  earlier n right (wrong_list m p) h same before = no_wrong_list c m p (right m (lesser 8 m n before)) h
-  earlier n right _ h same before = omega (arith, same)
+  least_of_version : (n : ℕ) → n < length c.corners → ((m : ℕ) → m < n → IsTrueVersion c m) → (flaw : Flaw) → IsOfVersion c n flaw → IsLeastOf c 8 flaw
+  least_of_version n fits right flaw (inl is) = subst (IsLeastOf c 8) (sym is.0) (record { is_of = refl; there = (fits, is.1); least = least_version c n right })
+  least_of_version n fits right flaw (inr is) = subst (IsLeastOf c 8) (sym is.1) (record { is_of = refl; there = (fits, is.2); least = least_version c n right })
 
-  least_version : (n : ℕ) → n < length c.corners → ((m : ℕ) → m < n → IsTrueVersion c m) → (flaw : Flaw) → IsOfVersion c n flaw → IsLeastOf c 8 flaw
-  least_version n fits right flaw (inl is) = subst (IsLeastOf c 8) (sym is.0) (record { is_of = refl; there = (fits, is.1); least = earlier n right })
-  least_version n fits right flaw (inr is) = subst (IsLeastOf c 8) (sym is.1) (record { is_of = refl; there = (fits, is.2); least = earlier n right })
+  none_of_versions : ((i : ℕ) → i < length c.corners → IsTrueVersion c i) → NoneOf c 8
+  none_of_versions right (deep i) h same = no_deep c i (right i h.0) h
+  none_of_versions right (wrong_list i p) h same = no_wrong_list c i p (right i h.0) h
+  none_of_versions right _ h same = omega (arith, same)
 
   pub version_told : IsTold c 8 ((i : ℕ) → i < length c.corners → IsTrueVersion c i) (untrue_version c)
   version_told = record {
     right = λ h i less. version_right i (none_below (version_flaw c) (length c.corners) h i less);
     least = λ flaw h.
         (let l = some_below (version_flaw c) (length c.corners) flaw h in
-        least_version l.number l.below (λ m less. version_right m (l.earlier m (omega arith) less)) flaw (version_wrong l.number flaw l.found));
+        least_of_version l.number l.below (λ m less. version_right m (l.earlier m (omega arith) less)) flaw (version_wrong l.number flaw l.found));
+    none = none_of_versions;
   }

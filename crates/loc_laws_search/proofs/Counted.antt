@@ -10,6 +10,7 @@ use Rattle.loc_spec_plane.specs.Tables.{Table, IsTable, corner, corner_numbers}
 use Rattle.loc_spec_plane.specs.Places.{is_corner_of}
 use Rattle.loc_laws_order.proofs.Sides.{before_trans, before_irrefl, same_point-true}
 use Rattle.loc_laws_order.proofs.TableOrder.{corner_before}
+use Rattle.loc_laws_index.proofs.InRange.{found-passes}
 use Rattle.loc_place.specs.Standing.{IsBehind}
 
 -- ---- the first that passes
@@ -45,14 +46,6 @@ find-fails test (suc n) a h k from to = at (test a) refl h (λ r other. (let dif
       | inl same ↦ subst (λ j. test j ≡ false) (sym same) e
       | inr other ↦ further r other
     ]
-
-find-passes : (test : ℕ → Bool) (n a k : ℕ) → find test (range_with_len a n) ≡ Some k → test k ≡ true
-find-passes test zero a k h = cc
-find-passes test (suc n) a k h = at (test a) refl h (λ r. find-passes test n (a + 1) k r)
-  where
-    at : (b : Bool) → test a ≡ b → cond b (Some a) (find test (range_with_len (a + 1) n)) ≡ Some k → (find test (range_with_len (a + 1) n) ≡ Some k → test k ≡ true) → test k ≡ true
-    at true e r further = subst (λ j. test j ≡ true) (let same : a ≡ k = cc in same) e
-    at false e r further = further r
 
 -- ---- a front that passes
 
@@ -114,7 +107,7 @@ module _ (t : Table) (ok : IsTable t) (p : Point) where
   }
 
   pub is-corner : (n : ℕ) → find (is_corner_of t p) (corner_numbers t) ≡ Some n → is_corner_of t p n ≡ true
-  is-corner n found = find-passes (is_corner_of t p) (length t.corners) 0 n found
+  is-corner n found = found-passes (is_corner_of t p) (corner_numbers t) n found
 
   -- a corner that the point is, is found
   pub finds-corner : (n : ℕ) → is_corner_of t p n ≡ true → find (is_corner_of t p) (corner_numbers t) ≡ Some n

@@ -4,7 +4,7 @@ use Rattle.std.specs.Prelude.{Option, Some, None, Ok, IfSome, find, count_by}
 use Rattle.std.proofs.Math.Pow.{pow_mono}
 use Rattle.std.proofs.lemmas.Bool.{and_from, lt-ltb, ltb-false, cases_lt, not-true}
 use Rattle.std.proofs.lemmas.Nat.{mul-le}
-use Rattle.std.proofs.lemmas.List.{length-append, length-map, get_or-append-add}
+use Rattle.std.proofs.lemmas.List.{length-append, get_or-append-add}
 use Rattle.std.proofs.lemmas.List.FromFn.{length-range_with_len}
 use Rattle.std.proofs.lemmas.List.Sums.{count_by-le-length}
 use Rattle.std.proofs.lemmas.Option.{slice_get_within, get_or_from_slice_get}
@@ -16,7 +16,7 @@ use Rattle.loc_spec_plane.specs.Places.{alive, alive_at, is_edge, is_corner_of, 
 use Rattle.loc_spec_index.specs.declared.NodeRow.{NodeRow}
 use Rattle.loc_spec_index.specs.Nodes.{Side, Left, Right, Reads, nothing, node, child_of, row_of, led_to, IsShallow}
 use Rattle.loc_spec_index.specs.Search.{walk, search_from}
-use Rattle.loc_spec_index.specs.Content.{Content, EdgeRow, table_in, root_of}
+use Rattle.loc_spec_index.specs.Content.{Content, table_in, root_of}
 use Rattle.loc_spec_index.specs.TrueIndex.{alive_count, IsTrueIndex}
 use Rattle.loc_spec_index.specs.Laws.{SearchFindsPlace}
 use Rattle.loc_status.specs.Versions.{AreVersions}
@@ -28,6 +28,7 @@ use Rattle.loc_place.proofs.Listed.{listed_alive, in_area}
 use Rattle.loc_place.proofs.Versions.{version_there}
 use Rattle.loc_treeidx.specs.Gaps.{IsLast}
 use Rattle.loc_treeidx.proofs.Descents.{last-snoc, last-passes, last_there}
+use Rattle.loc_laws_index.proofs.FlawKinds.{as_many}
 use Rattle.loc_laws_search.proofs.Counted.{stands-behind, is-corner}
 use Rattle.loc_laws_search.proofs.Walking.{walk-none, walk-on, walk-left, walk-right, below-else}
 
@@ -154,12 +155,11 @@ record IsRead (c : Content) (i : ℕ) (l : List ℕ) : Type 0 where
   fits : (sides : List Side) → led_to c.nodes i (root_of c i) sides ≢ 0 → length sides + 1 ≤ 42
 
 few-alive : (c : Content) (i : ℕ) → alive_count (table_in c) i ≤ length c.edges
-unfolding table_in
 few-alive c i =
     let t = table_in c in
     let n = count_by-le-length (alive_at t (corner t i)) (edge_numbers t) in
     let l = length-range_with_len 0 (length t.ends) in
-    let e = length-map c.edges (λ (x : EdgeRow). x.ends) in
+    let e = as_many c in
     omega (arith, n, l, e)
 
 as-many-corners : (c : Content) → length (table_in c).corners ≡ length c.corners

@@ -1,6 +1,6 @@
 -- The walk down a version, one node after another.
 use Rattle.std.proofs.Common.{◌≡◌, ℕ, zero, suc, ◌-◌, ◌≤◌, Bool, true, false, List, refl, sym, ◌∙◌, ap, arith, rules, tests}
-use Rattle.std.specs.Prelude.{Option, Some, Ok, Err, if◌then◌else◌}
+use Rattle.std.specs.Prelude.{Option, Some, Ok, if◌then◌else◌}
 use Rattle.std.proofs.lemmas.Bool.{both_ways, false_from_ne_true}
 use Rattle.loc_spec_plane.specs.Points.{Edge, Point, is_above, is_on, is_below}
 use Rattle.loc_spec_plane.specs.Tables.{Table, edge}
@@ -17,10 +17,6 @@ below-else e p off low = search (rules, tests)
 module _ (t : Table) (rows : List NodeRow) (p : Point) (version : ℕ) where
   pub walk-none : (room at : ℕ) (floor : Option ℕ) → at ≡ 0 → walk t rows p version room at floor ≡ Ok (Area floor)
   walk-none room at floor e = ap (λ n. walk t rows p version room n floor) e
-
-  pub walk-deep : (room at : ℕ) (floor : Option ℕ) → room ≡ 0 → (at ≡ 0 → ⊥) → walk t rows p version room at floor ≡ Err version
-  walk-deep room zero floor r some = absurd (some refl)
-  walk-deep room (suc n) floor r some = ap (λ k. walk t rows p version k (suc n) floor) r
 
   module _ (room at : ℕ) (floor : Option ℕ) (row : NodeRow) (some : at ≡ 0 → ⊥) (more : 1 ≤ room) (is : row ≡ row_of rows at) where
     -- one step, by what the tests say

@@ -1,31 +1,21 @@
 -- Bytes that come into a file one piece after the other.
 use Rattle.std.proofs.Common.{◌≡◌, ℕ, ◌≤◌, true, List, [], ◌++◌, take, drop, Option, Some, None, Result, Ok, Err, refl, sym, ◌∙◌, ap, append_assoc, append-nil, subst, take-append-drop}
-use Rattle.std.specs.Io.KnownBytes.{Appends, Keeps}
+use Rattle.std.specs.Io.KnownBytes.{Keeps}
 use Rattle.loc_io.specs.declared.failed.Failed.{Failed}
 use Rattle.loc_io.specs.declared.sink.WriteFault.{WriteFault}
 use Rattle.loc_io.specs.Causes.{Rose}
 use Rattle.loc_io.specs.Meaning.{Meaning, KeepsReading, NoneLate, Writes, bytes_of}
 use Rattle.loc_io.specs.Reading.{WroteFront}
-use Rattle.loc_io.proofs.Appending.{Appends-more}
+use Rattle.loc_io.proofs.Appending.{Appends-more, appends-none, front-of, front-behind}
 use Rattle.loc_io.proofs.Reading.{in_time_by}
 use Rattle.loc_making.specs.Making.{Grew, Broke, WroteBytes, Passes, PutsBytes}
 
 -- ---- what was told
 
-appends-none : (o : Option (List ℕ)) → Appends o o []
-appends-none None = tt
-appends-none (Some x) = sym (append-nil x)
-
 front-none : (o m : Option (List ℕ)) → Keeps o m → WroteFront o m []
 front-none None m k = ([], [], refl, tt)
 front-none (Some x) None k = absurd k
 front-none (Some x) (Some y) k = ([], [], refl, k ∙ sym (append-nil x))
-
-front-of : (o m : Option (List ℕ)) (a b : List ℕ) → WroteFront o m a → WroteFront o m (a ++ b)
-front-of o m a b (front, back, is, k) = (front, back ++ b, ap (λ l. l ++ b) is ∙ append_assoc front back b, k)
-
-front-behind : (o m n : Option (List ℕ)) (a b : List ℕ) → Appends o m a → WroteFront m n b → WroteFront o n (a ++ b)
-front-behind o m n a b h (front, back, is, k) = (a ++ front, back, ap (λ l. a ++ l) is ∙ sym (append_assoc a front back), Appends-more o m n a front h k)
 
 pub reading-on : {a b c : Meaning} → KeepsReading a b → KeepsReading b c → KeepsReading a c
 reading-on h k = record { is_open = k.is_open ∙ h.is_open; rest = k.rest ∙ h.rest; entries = k.entries ∙ h.entries; read_faults = k.read_faults ∙ h.read_faults }

@@ -3,12 +3,12 @@ use Rattle.std.specs.Prelude.{◌≡◌, ◌≤◌, Bool, List, length, map, nat
 use Rattle.loc_spec_plane.specs.Covers.{cover_sum, feature_count}
 use Rattle.loc_spec_plane.specs.Tables.{Table, AllEnds, AllEven, NoConflict}
 use Rattle.loc_rings.specs.Values.{Feature}
-use Rattle.loc_cover.specs.Legends.{LegendRows, FitsTable, IsTrueLegend}
+use Rattle.loc_cover.specs.Legends.{LegendRows, FitsTable, IsTrueLegend, most_members}
 use Rattle.loc_maps.specs.Located.{table_in}
 
 -- the distinct cover lists have more members together than a legend holds
 abbrev pub has_many_covers : Table → Bool
-has_many_covers t = nat_lt 16777216 (cover_sum t)
+has_many_covers t = nat_lt most_members (cover_sum t)
 
 -- the table is that of the layer, every corner is an end, marks are even, and they name features of the layer
 pub record IsTableOf (layer : List Feature) (t : Table) : Type 0 where

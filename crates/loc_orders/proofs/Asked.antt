@@ -1,7 +1,8 @@
 -- How far reading an order comes along a course.
 use Rattle.std.proofs.Common.{◌≡◌, ℕ, Bool, List, Option, Some, None, Result, Ok, Err, refl, sym, subst}
+use Rattle.loc_spec_text.specs.Bytes.{Text}
 use Rattle.loc_spec_text.specs.Points.{ended}
-use Rattle.loc_course.specs.Courses.{Text, Source, Course, reads, refuses, refused}
+use Rattle.loc_course.specs.Courses.{Source, Course, reads, refuses, refused}
 use Rattle.loc_course.specs.Following.{Moment, Follows, lacks, refuses_by}
 use Rattle.loc_course.specs.Outcomes.{exactly}
 use Rattle.loc_course.proofs.Told.{exactly_it}

@@ -1,7 +1,8 @@
 -- The course that reads an order's file. The words: `order_in`, `order_course`, `asked_course`.
 use Rattle.std.specs.Prelude.{ℕ, List, Option, Some, None, Result, Ok, Err, codes}
+use Rattle.loc_spec_text.specs.Bytes.{Text}
 use Rattle.loc_spec_text.specs.Points.{ended}
-use Rattle.loc_course.specs.Courses.{Text, Course, refuses, reads}
+use Rattle.loc_course.specs.Courses.{Course, refuses, reads}
 use Rattle.loc_course.specs.Outcomes.{exactly}
 use Rattle.loc_course.specs.Stops.{source}
 use Rattle.loc_maps.specs.MapCourses.{limit}

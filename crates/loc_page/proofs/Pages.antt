@@ -7,7 +7,7 @@ use Rattle.loc_io.specs.declared.sink.WriteFault.{WriteFault}
 use Rattle.loc_io.specs.Causes.{HasCause, Rose}
 use Rattle.loc_io.specs.Reading.{WroteFront}
 use Rattle.loc_io.specs.Streams.{Stream, TakesAll}
-use Rattle.loc_io.proofs.Appending.{Appends-more, in_time_after}
+use Rattle.loc_io.proofs.Appending.{Appends-more, in_time_after, appends-none, front-of, front-behind}
 use Rattle.loc_page.specs.Puts.{Fails, IsSteady, Passes, PutsText}
 
 -- nothing was done
@@ -21,16 +21,6 @@ steady_then {o = o} {m = m} {n = n} p q = record { steady = q.steady ∙ p.stead
 -- and then one that failed
 pub fails_then : {o m n : Stream} → IsSteady o m → Fails m n → Fails o n
 fails_then {o = o} {m = m} {n = n} p q = record { rose = subst (λ c. Rose c n.faults) p.steady q.rose; in_time = in_time_after o m n p.in_time p.steady q.in_time }
-
-pub appends-none : (o : Option (List ℕ)) → Appends o o []
-appends-none None = tt
-appends-none (Some x) = sym (append-nil x)
-
-pub front-of : (o m : Option (List ℕ)) (a b : List ℕ) → WroteFront o m a → WroteFront o m (a ++ b)
-front-of o m a b (front, back, is, k) = (front, back ++ b, ap (λ l. l ++ b) is ∙ append_assoc front back b, k)
-
-pub front-behind : (o m n : Option (List ℕ)) (a b : List ℕ) → Appends o m a → WroteFront m n b → WroteFront o n (a ++ b)
-front-behind o m n a b h (front, back, is, k) = (a ++ front, back, ap (λ l. a ++ l) is ∙ sym (append_assoc a front back), Appends-more o m n a front h k)
 
 -- nothing passes
 pub nothing_passes : {o m : Stream} {h i : List ℕ} → m ≡ o → i ≡ h → Passes [] o m h i

@@ -3,11 +3,14 @@ use Rattle.std.proofs.Common.{◌≡◌, ◌≢◌, ℕ, zero, suc, ◌+◌, ◌
 use Rattle.std.specs.Prelude.{Option, Some, None, slice_get, get_or, nat_le, ◌==◌}
 use Rattle.std.proofs.lemmas.Bool.{le-ltb, not_from_false}
 use Rattle.std.proofs.Math.Pow.{pow_mono}
+use Rattle.std.proofs.lemmas.Option.{slice_get_within}
+use Rattle.loc_pool.proofs.Maps.{length-links}
 use Rattle.loc_pool.specs.declared.Link.{Link}
 use Rattle.loc_pool.specs.declared.Extra.{Extra}
 use Rattle.loc_pool.specs.declared.Turn.{Turn}
 use Rattle.loc_pool.specs.declared.Turn.TheVariants.{Left, Right}
 use Rattle.loc_pool.specs.Maps.{Map, links}
+use Rattle.loc_pool.proofs.Same.{some-link}
 use Rattle.loc_pool.specs.Rows.{Row, row, child_at, child_by, plain_child, IsPlace}
 use Rattle.loc_rb.specs.Trees.{Tree, leaf, node, top, items}
 use Rattle.loc_rb.specs.Balance.{depth}
@@ -46,14 +49,8 @@ module _ (rows : Map Row) where
   child-number : (x : Row) (n : NodeRow) (turn : Turn) (version : ℕ) → IsNodeRow rows x n → IsNumber rows (child_at version turn x) (nodes.child n (side turn) version)
   child-number x n turn version is = by-extra n turn version (plain_child turn x) x.extra (plain-number x n turn is) is.side is.stamp is.extra
 
-some-link : (a b : Link) → Some a ≡ Some b → a ≡ b
-some-link a b e = cc
-
 pub place-within : (rows : Map Row) (link : Link) (i : ℕ) → slice_get (links rows) i ≡ Some link → i < length rows
-unfolding links
-place-within [] link i e = cc
-place-within (c ∷ cs) link zero e = omega arith
-place-within (c ∷ cs) link (suc i) e = let h = place-within cs link i e in omega (arith, h)
+place-within rows link i e = let h = slice_get_within (links rows) i link e in let l = length-links rows in omega (arith, h, l)
 
 module _ (rows : Map Row) (numbered : List NodeRow) (are : AreRowsByNumber rows numbered) (version : ℕ) where
   -- the row of a link by its number

@@ -8,10 +8,9 @@ use Rattle.loc_pool.specs.Maps.{Map, has, put}
 use Rattle.loc_pool.specs.Rows.{Row, row, plain_child, same_turn, child_by, child_at, stamped, IsFree}
 use Rattle.loc_rb.specs.Trees.{Tree, leaf, node, top, items}
 use Rattle.loc_rb.specs.Balance.{depth}
-use Rattle.loc_rb.proofs.OneChange.{by-link}
 use Rattle.loc_persist.specs.Keeping.{KeepsBefore}
 use Rattle.loc_persist.specs.Reading.{IsThere, between, reading}
-use Rattle.loc_persist.proofs.Rows.{put-has, row-put-here, row-put-other}
+use Rattle.loc_persist.proofs.Rows.{put-has, put-by}
 
 not-yet : (i n : ℕ) → i < n → nat_le n i ≡ false
 not-yet i n h = grind arith
@@ -46,12 +45,8 @@ keeps-trans n rows mid rows' a b l h = let p = a l h in let q = b l p.0 in (q.0,
 pub keeps-put : (n : ℕ) (rows : Map Row) (at : Link) (x : Row) → has rows at ≡ true → x.item ≡ (row rows at).item → ((i : ℕ) (t : Turn) → i < n → child_at i t x ≡ child_at i t (row rows at)) → KeepsBefore n rows (put rows at x)
 keeps-put n rows at x h same_item same_child l k = (
   put-has rows at x l k,
-  by-link ((row (put rows at x) l).item ≡ (row rows l).item) l at
-      (λ s. ap (λ m. (row (put rows at x) m).item) s ∙ ap (λ y. y.item) (row-put-here rows at x h) ∙ same_item ∙ sym (ap (λ m. (row rows m).item) s))
-      (λ d. ap (λ y. y.item) (row-put-other rows at x l k d)),
-  (λ i t b. by-link (child_at i t (row (put rows at x) l) ≡ child_at i t (row rows l)) l at
-      (λ s. ap (λ m. child_at i t (row (put rows at x) m)) s ∙ ap (child_at i t) (row-put-here rows at x h) ∙ same_child i t b ∙ sym (ap (λ m. child_at i t (row rows m)) s))
-      (λ d. ap (child_at i t) (row-put-other rows at x l k d))),
+  put-by (λ y. y.item ≡ (row rows l).item) rows at x l h k (λ s. same_item ∙ sym (ap (λ m. (row rows m).item) s)) (λ d. refl),
+  (λ i t b. put-by (λ y. child_at i t y ≡ child_at i t (row rows l)) rows at x l h k (λ s. same_child i t b ∙ sym (ap (λ m. child_at i t (row rows m)) s)) (λ d. refl)),
 )
 
 -- colours play no part in it

@@ -1,24 +1,15 @@
 -- A struct of no bytes. Assumes `Logic`.
 use mathlib.Core.Path.{refl}
-use mathlib.Core.List.{List, [], ◌∷◌}
-use Prim.Native.Nat.{ℕ, zero, suc}
+use mathlib.Core.List.{[], ◌∷◌}
 use seplogic.Ra.Ura.{Ura}
 use mir.Val.{Val, vstruct, vcons, vnil}
 use base.Logic.{ent, emp}
 use types.Logic.{Logic, sem}
 use denote.RattleType.{RattleType}
-use denote.Builtin.{unit}
-use denote.Signature.{Slot, plain}
 use denote.Shadow.{makes_shadow}
 use denote.Struct.Struct.{Struct}
 use denote.Struct.Owning.{shape}
 use Rattle.loc_persist.specs.contracts.copied.Copied as C
-
--- the slot of a parameter by its place
-abbrev pub slot_at : {n : ℕ} → ℕ → List (Slot n) → Slot n
-slot_at k [] = plain (λ _. unit)
-slot_at zero (s ∷ ss) = s
-slot_at (suc k) (s ∷ ss) = slot_at k ss
 
 -- its one field, which takes no bytes
 abbrev pub Mark : RattleType

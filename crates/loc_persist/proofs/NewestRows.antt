@@ -10,16 +10,9 @@ use Rattle.loc_rb.specs.Trees.{Row, with_child}
 use Rattle.loc_rb.specs.Nodes.{live}
 use Rattle.loc_rb.specs.Exchanges.{InPlace, Copies}
 use Rattle.loc_rb.proofs.OneChange.{not-same}
-use Rattle.loc_pool.proofs.Found.{found-row, has-found, found-append-new, found-append-other, found-put-here, found-put-other}
+use Rattle.loc_pool.proofs.Found.{found-none, found-row, has-found, found-append-new, found-append-other, found-put-here, found-put-other}
 use Rattle.loc_persist.specs.Present.{row_in, found_in, copy_of, is_among, nodes_at}
 use Rattle.loc_persist.proofs.Rows.{is-found, not-new}
-
--- where there is no row, nothing is found
-pub found-none : (rows : Map pool.Row) (l : Link) → has rows l ≡ false → found rows l ≡ None
-found-none rows l z = (elim (found rows l) as (λ o. found rows l ≡ o → o ≡ None) [
-  | None ↦ λ e. refl
-  | Some x ↦ λ e. let w : false ≡ true = sym z ∙ has-found rows l (λ n. (let v : None ≡ Some x = sym n ∙ e in cc)) in cc
-]) refl
 
 -- a row of the nodes is the pool's in that version
 pub row-is : (n : ℕ) (rows : Map pool.Row) (l : Link) (x : Row) → found_in n (found rows l) ≡ Some x → (has rows l ≡ true) × (x ≡ row_in n (pool.row rows l))
@@ -48,17 +41,15 @@ pub row_in-stamped : (n : ℕ) (turn : Turn) (to : Option Link) (x : pool.Row) �
 row_in-stamped n Left to x free = λ i. record { item = x.item; left = cond (le-self n i) to x.left; right = sym (other-right n x free) i; colour = x.colour }
 row_in-stamped n Right to x free = λ i. record { item = x.item; left = sym (other-left n x free) i; right = cond (le-self n i) to x.right; colour = x.colour }
 
--- a stamp is a pointer written in place
-pub stamp-in-place : (n : ℕ) (rows : Map pool.Row) (root : Option Link) (copied : List Link) (at : Link) (turn : Turn) (to : Option Link) → has rows at ≡ true → pool.IsFree n turn (pool.row rows at)
-    → InPlace (nodes_at n rows root copied) (nodes_at n (put rows at (pool.stamped n turn to (pool.row rows at))) root copied) at turn to
-stamp-in-place n rows root copied at turn to h free =
-    let x = pool.stamped n turn to (pool.row rows at) in
-    record {
-      here = λ y e. ap (found_in n) (found-put-here rows at x (is-found rows at h)) ∙ ap Some (row_in-stamped n turn to (pool.row rows at) free ∙ ap (with_child turn to) (sym (row-is n rows at y e).1));
-      others = λ l o. ap (found_in n) (found-put-other rows at l x o);
-      current = λ l. refl;
-      root = refl;
-    }
+-- a row that is, in the newest version, the old one with one child exchanged is a pointer written in place
+pub put-in-place : (n : ℕ) (rows : Map pool.Row) (root : Option Link) (copied : List Link) (at : Link) (turn : Turn) (to : Option Link) (x : pool.Row) → has rows at ≡ true → row_in n x ≡ with_child turn to (row_in n (pool.row rows at))
+    → InPlace (nodes_at n rows root copied) (nodes_at n (put rows at x) root copied) at turn to
+put-in-place n rows root copied at turn to x h e = record {
+  here = λ y q. ap (found_in n) (found-put-here rows at x (is-found rows at h)) ∙ ap Some (e ∙ ap (with_child turn to) (sym (row-is n rows at y q).1));
+  others = λ l o. ap (found_in n) (found-put-other rows at l x o);
+  current = λ l. refl;
+  root = refl;
+}
 
 -- another link in front changes nothing
 pub among-more : (R : List Link) (at l : Link) → l ≢ at → is_among (at ∷ R) l ≡ is_among R l

@@ -9,18 +9,17 @@ use Rattle.loc_pool.specs.declared.Turn.TheVariants.{Left, Right}
 use Rattle.loc_pool.specs.Same.{same}
 use Rattle.loc_pool.proofs.Same.{same-refl, same-eq}
 use Rattle.loc_pool.specs.Maps.{Map, has, value_or, put, links}
-use Rattle.loc_pool.specs.Rows.{Row, row, blank, child_at, AreNames, IsPlace}
-use Rattle.loc_pool.proofs.Maps.{has-put, value_or-append}
+use Rattle.loc_pool.specs.Rows.{Row, row, child_at, AreNames, IsPlace}
+use Rattle.loc_pool.proofs.Maps.{has-put}
 use Rattle.loc_rb.specs.Trees.{Tree, leaf, node}
-use Rattle.loc_rb.proofs.OneChange.{by-link}
-use Rattle.loc_pool.proofs.Found.{row-append, length-put}
+use Rattle.loc_pool.proofs.Found.{length-put}
 use Rattle.loc_persist.specs.Keeping.{KeepsBefore}
 use Rattle.loc_persist.specs.Present.{IsFreshAfter}
 use Rattle.loc_persist.specs.Reading.{IsThere}
 use Rattle.loc_persist.specs.Stored.{IsVersion, AreVersions}
 use Rattle.loc_persist.proofs.Keeping.{keeps-refl, keeps-put}
 use Rattle.loc_persist.proofs.Places.{place-once}
-use Rattle.loc_persist.proofs.Rows.{row-put-here, row-put-other, was-there}
+use Rattle.loc_persist.proofs.Rows.{put-by, append-by}
 
 -- an exchanged row is exchanged among the first rows too
 pub take-put : (n : ℕ) (rows : Map Row) (at : Link) (x : Row) → take n (put rows at x) ≡ put (take n rows) at x
@@ -99,20 +98,16 @@ fresh-put n rows at x f h k =
     record {
       within = omega (arith, l, w);
       fresh = λ m a b. (let a' = sym (has-put rows at x m) ∙ a in let b' = sym (has-put (take n rows) at x m) ∙ sym (ap (λ M. has M m) (take-put n rows at x)) ∙ b in
-          by-link ((row (put rows at x) m).extra ≡ None) m at
-          (λ s. ap (λ i. (row (put rows at x) i).extra) s ∙ ap (λ (y : Row). y.extra) (row-put-here rows at x h) ∙ k (sym (ap (has (take n rows)) s) ∙ b'))
-          (λ d. ap (λ (y : Row). y.extra) (row-put-other rows at x m a' d) ∙ f.fresh m a' b'));
+          put-by (λ y. y.extra ≡ None) rows at x m h a' (λ s. k (sym (ap (has (take n rows)) s) ∙ b')) (λ d. f.fresh m a' b'));
     }
 
 -- and where one comes
 pub fresh-append : (n : ℕ) (rows : Map Row) (r : Link) (x : Row) → IsFreshAfter n rows → has rows r ≡ false → x.extra ≡ None → IsFreshAfter n (rows ++ (r, x) ∷ [])
 fresh-append n rows r x f z e =
-    let M = rows ++ (r, x) ∷ [] in let l = length-append rows ((r, x) ∷ []) in let w = f.within in
+    let l = length-append rows ((r, x) ∷ []) in let w = f.within in
     record {
       within = omega (arith, l, w);
-      fresh = λ m a b. by-link ((row M m).extra ≡ None) m r
-          (λ s. ap (λ i. (row M i).extra) s ∙ ap (λ (y : Row). y.extra) (value_or-append blank rows r x z) ∙ e)
-          (λ d. (let a' = was-there rows r m x a d in ap (λ (y : Row). y.extra) (row-append rows r m x z a').1 ∙ f.fresh m a' (sym (ap (λ N. has N m) (take-append-le n rows ((r, x) ∷ []) w)) ∙ b)));
+      fresh = λ m a b. append-by (λ y. y.extra ≡ None) rows r x m z a e (λ k. f.fresh m k (sym (ap (λ N. has N m) (take-append-le n rows ((r, x) ∷ []) w)) ∙ b));
     }
 
 -- no node comes after all

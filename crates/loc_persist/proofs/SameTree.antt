@@ -2,46 +2,31 @@
 use Rattle.std.proofs.Common.{◌≡◌, ℕ, List, ◌∷◌, ◌++◌, append_assoc, refl, sym, ap, ◌∙◌, subst, Some}
 use Rattle.loc_pool.specs.declared.Link.{Link}
 use Rattle.loc_pool.specs.declared.Turn.{Turn}
-use Rattle.loc_pool.specs.declared.Colour.{Colour}
 use Rattle.loc_rb.specs.Trees.{Row, Reading, Tree, leaf, node, top, items, Fits, Frame, plug, before, after}
 use Rattle.loc_rb.specs.Nodes.{Nodes, live}
 use Rattle.loc_rb.specs.Places.{Spot, Holds, LeadsToGap, LeadsTo}
-use Rattle.loc_rb.proofs.Trees.{items-plug}
+use Rattle.loc_rb.proofs.Trees.{items-plug, stays}
 use Rattle.loc_rb.proofs.OneChange.{some-link}
+use Rattle.loc_rb.proofs.Recolouring.{some-row}
 
--- the two rows are one
-record Alike (x y : Row) : Type 0 where
-  pub item : x.item ≡ y.item
-  pub left : x.left ≡ y.left
-  pub right : x.right ≡ y.right
-  pub colour : x.colour ≡ y.colour
-
-alike : (x y : Row) → Some x ≡ Some y → Alike x y
-alike x y e = let w : x ≡ y = cc in record { item = ap (λ z. z.item) w; left = ap (λ z. z.left) w; right = ap (λ z. z.right) w; colour = ap (λ z. z.colour) w }
-
-node-same : (l m : Link) (a s b t : Tree) (x y : ℕ) (c d : Colour) → l ≡ m → a ≡ s → x ≡ y → c ≡ d → b ≡ t → node l a x c b ≡ node m s y d t
-node-same l m a s b t x y c d e f g h k = λ i. node (e i) (f i) (g i) (h i) (k i)
-
+-- a root leads to one tree
 pub same-tree : (f g : Reading) → ((l : Link) (x : Row) → f l ≡ Some x → g l ≡ Some x) → (t u : Tree) → Fits f t → Fits g u → top t ≡ top u → t ≡ u
 same-tree f g k leaf leaf p q e = refl
 same-tree f g k leaf (node m s y d t) p q e = cc
 same-tree f g k (node l a x c b) leaf p q e = cc
 same-tree f g k (node l a x c b) (node m s y d t) p q e =
-    let z = some-link l m e in let w = alike _ _ (sym (k l _ p.0) ∙ ap g z ∙ q.0) in
-    node-same l m a s b t x y c d z (same-tree f g k a s p.1 q.1 w.left) w.item w.colour (same-tree f g k b t p.2 q.2 w.right)
+    let z = some-link l m e in let w = some-row _ _ (sym (k l _ p.0) ∙ ap g z ∙ q.0) in
+    let on_left = same-tree f g k a s p.1 q.1 (ap (λ (r : Row). r.left) w) in let on_right = same-tree f g k b t p.2 q.2 (ap (λ (r : Row). r.right) w) in
+    λ i. node (z i) (on_left i) (w i).item (w i).colour (on_right i)
 
 -- nodes of which more are current, and all else is as before
 pub record Wider (n m : Nodes) : Type 0 where
   pub live : (l : Link) (x : Row) → live n l ≡ Some x → live m l ≡ Some x
   pub root : m.root ≡ n.root
 
-fits-wider : (f g : Reading) → ((l : Link) (x : Row) → f l ≡ Some x → g l ≡ Some x) → (t : Tree) → Fits f t → Fits g t
-fits-wider f g k leaf p = tt
-fits-wider f g k (node l a x c b) p = (k l _ p.0, fits-wider f g k a p.1, fits-wider f g k b p.2)
-
 -- so they hold the same list
 pub holds-wider : (n m : Nodes) (list : List ℕ) → Wider n m → Holds n list → Holds m list
-holds-wider n m list w h = record { tree = h.tree; fits = fits-wider (live n) (live m) w.live h.tree h.fits; apart = h.apart; root = w.root ∙ h.root; balanced = h.balanced; list = h.list }
+holds-wider n m list w h = record { tree = h.tree; fits = stays (live n) (live m) h.tree (λ l _ x e. w.live l x e) h.fits; apart = h.apart; root = w.root ∙ h.root; balanced = h.balanced; list = h.list }
 
 -- the tree at the end of a path in the wider nodes is the tree of the others
 spot-narrow : (n m : Nodes) (list : List ℕ) (path : List (Link × Turn)) (C : List Frame) (t : Tree) → Wider n m → Holds n list → Spot m path C t → Spot n path C t × (before C ++ (items t ++ after C) ≡ list)

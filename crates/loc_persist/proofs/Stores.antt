@@ -2,6 +2,7 @@
 use Rattle.std.proofs.Common.{◌≡◌, ℕ, zero, suc, ◌+◌, ◌-◌, ◌^◌, ◌<◌, ◌≤◌, true, false, not, List, [], ◌∷◌, ◌++◌, length, length-append, take, refl, sym, ap, ◌∙◌, subst, Option, Some, None, ◌⊎◌, inl, inr, arith}
 use Rattle.std.proofs.Math.Seq.{take-length}
 use Rattle.std.specs.Prelude.{slice_get}
+use Rattle.std.proofs.lemmas.Option.{slice_get_within}
 use Rattle.loc_pool.specs.declared.Link.{Link}
 use Rattle.loc_pool.specs.declared.Colour.{Colour}
 use Rattle.loc_pool.specs.declared.Turn.{Turn}
@@ -14,7 +15,7 @@ use Rattle.loc_rb.specs.Places.{Holds}
 use Rattle.loc_rb.specs.Exchanges.{Exchanges}
 use Rattle.loc_rb.proofs.OneChange.{some-link}
 use Rattle.loc_rb.proofs.Descent.{bounded, at-most-42}
-use Rattle.loc_pool.proofs.Found.{found-append-new, found-append-other, found-put-here, found-put-other, length-put}
+use Rattle.loc_pool.proofs.Found.{found-none, found-append-new, found-append-other, found-put-here, found-put-other, length-put}
 use Rattle.loc_persist.specs.Keeping.{KeepsBefore}
 use Rattle.loc_persist.specs.Present.{found_in, row_in, is_among, nodes_at, IsPresent, IsFreshAfter}
 use Rattle.loc_persist.specs.Reading.{IsThere, reading, listed, list_in}
@@ -24,14 +25,8 @@ use Rattle.loc_persist.proofs.Keeping.{there-keeps, reading-there, child-colour}
 use Rattle.loc_persist.proofs.Prefix.{prefix-put, prefix-append, fresh-put, fresh-append, fresh-all, version-whole, versions-whole}
 use Rattle.loc_persist.proofs.Use.{sum-made, sum-same}
 use Rattle.loc_persist.proofs.Rows.{is-found}
-use Rattle.loc_persist.proofs.NewestRows.{found-none, row-is, not-among, live-is}
+use Rattle.loc_persist.proofs.NewestRows.{row-is, not-among, live-is}
 use Rattle.loc_persist.proofs.Exchanges.{present-put, present-made, present-root}
-
--- what is found in a list stands within it
-pub get-below : {A : Type 0} → (xs : List A) (k : ℕ) (x : A) → slice_get xs k ≡ Some x → k < length xs
-get-below [] k x e = cc
-get-below (y ∷ xs) zero x e = omega arith
-get-below (y ∷ xs) (suc k) x e = let q = get-below xs k x e in omega (arith, q)
 
 -- a version before n stays where what is read before n stays
 abbrev pub version-keeps : (i n : ℕ) (rows rows' : Map pool.Row) (root : Option Link) → i < n → KeepsBefore n rows rows' → IsVersion i rows root → IsVersion i rows' root
@@ -39,7 +34,7 @@ version-keeps i n rows rows' root b k v = record { tree = v.tree; there = there-
 
 -- and so do all sealed versions
 pub versions-keep : (rows rows' : Map pool.Row) (roots : List (Option Link)) → KeepsBefore (length roots) rows rows' → AreVersions rows roots → AreVersions rows' roots
-versions-keep rows rows' roots k v i root e = version-keeps i (length roots) rows rows' root (get-below roots i root e) k (v i root e)
+versions-keep rows rows' roots k v i root e = version-keeps i (length roots) rows rows' root (slice_get_within roots i root e) k (v i root e)
 
 -- the list of a version is that of its tree
 pub list-is : (i : ℕ) (rows : Map pool.Row) (root : Option Link) → (v : IsVersion i rows root) → list_in i rows root ≡ items v.tree

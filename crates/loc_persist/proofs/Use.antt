@@ -10,8 +10,7 @@ use Rattle.loc_persist.specs.Present.{is_among}
 use Rattle.loc_persist.specs.Use.{is_used, in_use}
 
 at-most-one : (b : Bool) → cond b 1 0 ≤ 1
-at-most-one true = omega arith
-at-most-one false = omega arith
+at-most-one b = grind arith
 
 -- a new node has no extra
 in_use-append : (R : List Link) (cs : Map Row) (l : Link) (x : Row) → x.extra ≡ None → in_use R (cs ++ (l, x) ∷ []) ≡ in_use R cs
@@ -29,10 +28,7 @@ in_use-put R (c ∷ cs) l x = elim (same c.0 l) as (λ b. in_use R (cond b ((c.0
 ]
 
 fewer-one : (u a b : Bool) → cond (u && not (a || b)) 1 0 ≤ cond (u && not b) 1 0
-fewer-one true true true = omega arith
-fewer-one true true false = omega arith
-fewer-one true false b = omega arith
-fewer-one false a b = omega arith
+fewer-one u a b = grind arith
 
 fewer : (R : List Link) (cs : Map Row) (l : Link) → in_use (l ∷ R) cs ≤ in_use R cs
 unfolding in_use is_among

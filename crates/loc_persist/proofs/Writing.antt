@@ -1,5 +1,5 @@
 -- A pointer that is written into a node, in place or as a stamp.
-use Rattle.std.proofs.Common.{◌≡◌, ℕ, true, false, List, take, refl, sym, ap, ◌∙◌, Option, Some, None, inl, inr, arith}
+use Rattle.std.proofs.Common.{◌≡◌, ℕ, true, false, take, refl, sym, ap, ◌∙◌, Option, Some, None, inl, inr, arith}
 use Rattle.loc_pool.specs.declared.Link.{Link}
 use Rattle.loc_pool.specs.declared.Extra.{Extra}
 use Rattle.loc_pool.specs.declared.Turn.{Turn}
@@ -7,14 +7,12 @@ use Rattle.loc_pool.specs.declared.Turn.TheVariants.{Left, Right}
 use Rattle.loc_pool.specs.Maps.{Map, has, put}
 use Rattle.loc_pool.specs.Rows as pool
 use Rattle.loc_rb.specs.Trees.{with_child}
-use Rattle.loc_rb.specs.Exchanges.{InPlace}
-use Rattle.loc_pool.proofs.Found.{found-put-here, found-put-other, extra-child, length-put}
-use Rattle.loc_persist.specs.Present.{row_in, found_in, nodes_at, IsClosed, IsFreshAfter}
+use Rattle.loc_pool.proofs.Found.{extra-child, length-put}
+use Rattle.loc_persist.specs.Present.{row_in, IsClosed, IsFreshAfter}
 use Rattle.loc_persist.specs.Written.{HasRoom, IsWritten}
 use Rattle.loc_persist.proofs.Keeping.{child_at-stamped}
 use Rattle.loc_persist.proofs.Use.{sum-put, sum-same}
-use Rattle.loc_persist.proofs.Rows.{is-found}
-use Rattle.loc_persist.proofs.NewestRows.{row-is, stamp-in-place}
+use Rattle.loc_persist.proofs.NewestRows.{put-in-place, row_in-stamped}
 use Rattle.loc_persist.proofs.Prefix.{prefix-put, fresh-put}
 use Rattle.loc_persist.proofs.Exchanges.{present-put, stamped-closed}
 
@@ -22,17 +20,6 @@ use Rattle.loc_persist.proofs.Exchanges.{present-put, stamped-closed}
 row_in-child : (n : ℕ) (turn : Turn) (to : Option Link) (x : pool.Row) → x.extra ≡ None → row_in n (pool.with_child turn to x) ≡ with_child turn to (row_in n x)
 row_in-child n Left to x e = λ i. record { item = x.item; left = pool.child_by n Left to (e i); right = pool.child_by n Right x.right x.extra; colour = x.colour }
 row_in-child n Right to x e = λ i. record { item = x.item; left = pool.child_by n Left x.left x.extra; right = pool.child_by n Right to (e i); colour = x.colour }
-
-child-in-place : (n : ℕ) (rows : Map pool.Row) (root : Option Link) (copied : List Link) (at : Link) (turn : Turn) (to : Option Link) → has rows at ≡ true → (pool.row rows at).extra ≡ None
-    → InPlace (nodes_at n rows root copied) (nodes_at n (put rows at (pool.with_child turn to (pool.row rows at))) root copied) at turn to
-child-in-place n rows root copied at turn to h e =
-    let x = pool.with_child turn to (pool.row rows at) in
-    record {
-      here = λ y q. ap (found_in n) (found-put-here rows at x (is-found rows at h)) ∙ ap Some (row_in-child n turn to (pool.row rows at) e ∙ ap (with_child turn to) (sym (row-is n rows at y q).1));
-      others = λ l o. ap (found_in n) (found-put-other rows at l x o);
-      current = λ l. refl;
-      root = refl;
-    }
 
 child-closed : (rows : Map pool.Row) (turn : Turn) (to : Option Link) (x : pool.Row) → IsClosed rows x → ((l : Link) → to ≡ Some l → has rows l ≡ true) → IsClosed rows (pool.with_child turn to x)
 child-closed rows Left to x c h = record { left = h; right = c.right; extra = c.extra }
@@ -44,7 +31,7 @@ pub written-child : (v n : ℕ) (rows : Map pool.Row) (at : Link) (turn : Turn) 
 written-child v n rows at turn to h t f z =
     let r = pool.row rows at in let x = pool.with_child turn to r in let none = f.fresh at h z in let same_extra = extra-child turn to r in
     record {
-      in_place = λ root copied. child-in-place v rows root copied at turn to h none;
+      in_place = λ root copied. put-in-place v rows root copied at turn to x h (row_in-child v turn to r none);
       keeps = prefix-put v n rows at x (λ a. (let w : false ≡ true = sym z ∙ a in cc));
       present = λ root copied p. present-put v rows root copied at x p h (λ e q. (let w : None ≡ Some e = sym none ∙ sym same_extra ∙ q in cc)) (child-closed rows turn to r (p.closed at h) t);
       fresh = fresh-put n rows at x f h (λ a. same_extra ∙ none);
@@ -58,7 +45,7 @@ pub written-stamp : (v n : ℕ) (rows : Map pool.Row) (at : Link) (turn : Turn) 
 written-stamp v n rows at turn to h t f a free =
     let r = pool.row rows at in let x = pool.stamped v turn to r in let stamp : Extra = record { turn = turn; version = v; to = to } in
     record {
-      in_place = λ root copied. stamp-in-place v rows root copied at turn to h free;
+      in_place = λ root copied. put-in-place v rows root copied at turn to x h (row_in-stamped v turn to r free);
       keeps = prefix-put v n rows at x (λ _. (refl, λ i s b. child_at-stamped i v turn s to r b free));
       present = λ root copied p. present-put v rows root copied at x p h (λ e q. (let w : stamp ≡ e = cc in let d : ◌≡◌ {A = ℕ} v e.version = ap (λ y. y.version) w in omega (arith, d))) (stamped-closed v rows turn to r (p.closed at h) t);
       fresh = fresh-put n rows at x f h (λ z. (let w : false ≡ true = sym z ∙ a in cc));

@@ -1,14 +1,16 @@
 -- Where a point stands among the corners of a table.
-use Rattle.std.proofs.Common.{◌≡◌, ◌≢◌, ℕ, ◌<◌, ◌≤◌, true, not, ◌&&◌, length, sym, ◌∙◌, ap, subst, inl, inr, arith}
+use Rattle.std.proofs.Common.{◌≡◌, ◌≢◌, ℕ, ◌<◌, ◌≤◌, true, not, ◌&&◌, length, sym, ◌∙◌, subst, inl, inr, arith}
 use Rattle.std.specs.Prelude.{nat_lt}
 use Rattle.std.proofs.lemmas.Bool.{and_left, and_right, cases_eq, cases_lt, lt-ltb, le-ltb, not_from_false}
 use Rattle.loc_spec_plane.specs.Points.{Point, before, same_point}
 use Rattle.loc_spec_plane.specs.Tables.{Table, IsTable, corner, edge, lo_of, hi_of}
 use Rattle.loc_spec_plane.specs.Places.{is_corner_of, alive}
+use Rattle.loc_laws_order.proofs.AliveAt as AliveAt
+use Rattle.loc_laws_order.proofs.AliveAt.{IsPassed}
 use Rattle.loc_laws_order.proofs.Sides.{before_trans, before-asym_test, before-differ, same_point_sym}
 use Rattle.loc_laws_order.proofs.TableOrder.{corner_before}
 use Rattle.loc_place.specs.Standing.{IsBehind}
-use Rattle.loc_place.proofs.Cornerless.{corner_ahead, corner_behind}
+use Rattle.loc_place.proofs.Cornerless.{corner_ahead}
 
 module _ (t : Table) (ok : IsTable t) (p : Point) where
   -- a point that comes before a corner comes before each later one
@@ -42,10 +44,10 @@ module _ (t : Table) (ok : IsTable t) (p : Point) where
     ];
   }
 
--- behind the first n corners an edge is alive that begins at one of them and ends at none
+-- behind the first n corners these are passed
+pub is_passed : (t : Table) (p : Point) (n : ℕ) → IsBehind t p n → IsPassed t p n
+is_passed t p n behind = record { passed = λ c fits. corner_ahead t p behind.cornerless c fits ∙ behind.passed c fits }
+
+-- and an edge is alive that begins at one of them and ends at none
 pub alive_is : (t : Table) → IsTable t → (p : Point) (n : ℕ) → IsBehind t p n → (e : ℕ) → e < length t.ends → alive (edge t e) p ≡ (nat_lt (lo_of t e) n && not (nat_lt (hi_of t e) n))
-alive_is t ok p n behind e fits =
-    let up = ok.goes_up e fits in
-    let low : lo_of t e < length t.corners = omega arith in
-    ap (λ b. b && before p (corner t (hi_of t e))) (corner_ahead t p behind.cornerless (lo_of t e) low ∙ behind.passed (lo_of t e) low)
-    ∙ ap (λ b. nat_lt (lo_of t e) n && b) (corner_behind t p behind.cornerless (hi_of t e) up.1 ∙ ap not (behind.passed (hi_of t e) up.1))
+alive_is t ok p n behind e fits = AliveAt.alive_is t ok p n e (is_passed t p n behind) fits

@@ -60,10 +60,14 @@ module _ (t : Table) (p : Point) where
     highest_from zero n highest all best = (let e : n ≡ length t.ends = omega arith in subst (λ k. IsHighestAmong t p k highest) e best)
     highest_from (suc m) n highest all best = highest_from m (n + 1) (with_edge t p highest n) (omega arith) (highest_more t p planar n highest best)
 
+    -- so the edges one after another give the floor
+    pub floor_folded : IsFloor t p (fold (with_edge t p) None (edge_numbers t))
+    floor_folded = floor_from_highest (fold (with_edge t p) None (edge_numbers t)) (highest_from (length t.ends) 0 None (omega arith) (highest_first t p))
+
     by_search : (corner border : Option ℕ) → find (is_corner_of t p) (corner_numbers t) ≡ corner → find (is_border_of t p) (edge_numbers t) ≡ border → IsPlace t p (first_place corner border (fold (with_edge t p) None (edge_numbers t)))
     by_search (Some n) border at_corner at_border = found_passes (is_corner_of t p) (corner_numbers t) n at_corner
     by_search None (Some e) at_corner at_border = (cornerless at_corner, found_passes (is_border_of t p) (edge_numbers t) e at_border)
-    by_search None None at_corner at_border = (cornerless at_corner, borderless at_border, floor_from_highest (fold (with_edge t p) None (edge_numbers t)) (highest_from (length t.ends) 0 None (omega arith) (highest_first t p)))
+    by_search None None at_corner at_border = (cornerless at_corner, borderless at_border, floor_folded)
 
 -- what is found is the place
 pub place_at_is : (t : Table) → IsPlanar t → (p : Point) → IsPlace t p (place_at t p)

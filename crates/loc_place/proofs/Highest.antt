@@ -1,39 +1,26 @@
 -- The highest of the edges under a point, one edge after another.
-use Rattle.std.proofs.Common.{◌≡◌, ◌≢◌, ℕ, ◌+◌, ◌<◌, true, false, not, ◌&&◌, [], ◌∷◌, length, refl, sym, subst, ◌⊎◌, inl, inr, arith, Option, Some, None}
+use Rattle.std.proofs.Common.{◌≡◌, ◌≢◌, ℕ, ◌+◌, ◌<◌, true, false, not, ◌&&◌, length, sym, subst, ◌⊎◌, inl, inr, arith, Option, Some, None}
 use Rattle.std.specs.Prelude.{nat_lt}
 use Rattle.std.proofs.lemmas.Bool.{and_parts, and_from, and_left, and_right, both_ways, cases_Bool, cases_eq, cond-true, cond-false, ltb-true, lt-ltb, le-ltb, not-true, not_from_false}
-use Rattle.loc_spec_plane.specs.Points.{Point, Edge, is_above, conflict}
+use Rattle.loc_spec_plane.specs.Points.{Point, is_above}
 use Rattle.loc_spec_plane.specs.Tables.{Table, edge}
-use Rattle.loc_spec_plane.specs.Places.{alive, lower, alive_at, lower_of, is_edge, is_chain, IsHighest}
-use Rattle.loc_laws_order.proofs.TableOrder.{different}
-use Rattle.loc_laws_order.proofs.ChainLaws.{chain_lower}
-use Rattle.loc_laws_order.proofs.PairLaws.{order_is_total}
+use Rattle.loc_spec_plane.specs.Places.{alive_at, lower_of, IsHighest}
+use Rattle.loc_laws_order.proofs.AliveAt.{alive_parts, lower_passes, one_is_lower}
 use Rattle.loc_place.specs.Found.{is_under, higher_of, with_edge}
 use Rattle.loc_place.specs.Planar.{IsPlanar}
-
--- of three edges alive at p of which no two conflict, the first is lower than the last
-lower_passes : (a b c : Edge) (p : Point) → alive a p ≡ true → alive b p ≡ true → alive c p ≡ true → conflict a b ≡ false → conflict b c ≡ false → conflict a c ≡ false → lower a b ≡ true → lower b c ≡ true → lower a c ≡ true
-lower_passes a b c p live_a live_b live_c quiet_ab quiet_bc quiet_ac low_ab low_bc = chain_lower (a ∷ b ∷ c ∷ []) p chain 0 2 a c (omega arith) refl refl quiet_ac
-  where
-    chain : is_chain p (a ∷ b ∷ c ∷ []) ≡ true
-    chain = and_from (alive a p && (alive b p && (alive c p && true))) ((lower a b && not (conflict a b)) && ((lower b c && not (conflict b c)) && true))
-        (and_from (alive a p) (alive b p && (alive c p && true)) live_a (and_from (alive b p) (alive c p && true) live_b (and_from (alive c p) true live_c refl)))
-        (and_from (lower a b && not (conflict a b)) ((lower b c && not (conflict b c)) && true)
-        (and_from (lower a b) (not (conflict a b)) low_ab (not_from_false (conflict a b) quiet_ab))
-        (and_from (lower b c && not (conflict b c)) true (and_from (lower b c) (not (conflict b c)) low_bc (not_from_false (conflict b c) quiet_bc)) refl))
 
 -- the highest of those of the first n edges that are under p
 abbrev pub IsHighestAmong : Table → Point → ℕ → Option ℕ → Type 0
 IsHighestAmong t p n = IsHighest t (λ e. nat_lt e n && is_under t p e)
 
 module _ (t : Table) (p : Point) where
-  -- an edge under p has a number of the table
-  pub under_fits : (e : ℕ) → is_under t p e ≡ true → e < length t.ends
-  under_fits e under = ltb-true e (length t.ends) (and_parts (is_edge t e) (alive (edge t e) p) (and_parts (alive_at t p e) (is_above (edge t e) p) under).0).0
+  -- an edge under p is alive at p
+  under_alive : (e : ℕ) → is_under t p e ≡ true → alive_at t p e ≡ true
+  under_alive e under = (and_parts (alive_at t p e) (is_above (edge t e) p) under).0
 
-  -- and is alive at p
-  under_alive : (e : ℕ) → is_under t p e ≡ true → alive (edge t e) p ≡ true
-  under_alive e under = (and_parts (is_edge t e) (alive (edge t e) p) (and_parts (alive_at t p e) (is_above (edge t e) p) under).0).1
+  -- so it has a number of the table
+  pub under_fits : (e : ℕ) → is_under t p e ≡ true → e < length t.ends
+  under_fits e under = (alive_parts t p e (under_alive e under)).0
 
   -- below n + 1 and not n is below n
   earlier : (e n : ℕ) → (nat_lt e (n + 1) && is_under t p e) ≡ true → e ≢ n → (nat_lt e n && is_under t p e) ≡ true
@@ -64,19 +51,12 @@ module _ (t : Table) (p : Point) where
   highest_stays n (Some h) off best = (later h n best.0, λ e here other. best.1 e (earlier e n here (λ same. both_ways (is_under t p n) off (subst (λ k. is_under t p k ≡ true) same (and_parts (nat_lt e (n + 1)) (is_under t p e) here).1))) other)
 
   module _ (planar : IsPlanar t) where
-    quiet : (a b : ℕ) → a < length t.ends → b < length t.ends → conflict (edge t a) (edge t b) ≡ false
-    quiet a b fits_a fits_b = not-true (conflict (edge t a) (edge t b)) (planar.apart a b fits_a fits_b)
-
     -- of two edges under p that is not lower is higher
     other_lower : (a b : ℕ) → is_under t p a ≡ true → is_under t p b ≡ true → a ≢ b → lower_of t a b ≡ false → lower_of t b a ≡ true
-    other_lower a b under_a under_b other not_low = elim (order_is_total (edge t a) (edge t b) p (under_alive a under_a) (under_alive b under_b) (different t planar.in_order a b (under_fits a under_a) (under_fits b under_b) other) (quiet a b (under_fits a under_a) (under_fits b under_b))) [
+    other_lower a b under_a under_b other not_low = elim (one_is_lower t planar.apart planar.in_order p a b (under_alive a under_a) (under_alive b under_b) other) [
       | inl low ↦ absurd (both_ways (lower_of t a b) not_low low)
       | inr high ↦ high
     ]
-
-    lower_under : (a b c : ℕ) → is_under t p a ≡ true → is_under t p b ≡ true → is_under t p c ≡ true → lower_of t a b ≡ true → lower_of t b c ≡ true → lower_of t a c ≡ true
-    lower_under a b c under_a under_b under_c = lower_passes (edge t a) (edge t b) (edge t c) p (under_alive a under_a) (under_alive b under_b) (under_alive c under_c)
-        (quiet a b (under_fits a under_a) (under_fits b under_b)) (quiet b c (under_fits b under_b) (under_fits c under_c)) (quiet a c (under_fits a under_a) (under_fits c under_c))
 
     -- the higher of the highest so far and an edge under p
     pub highest_rises : (n : ℕ) (highest : Option ℕ) → is_under t p n ≡ true → IsHighestAmong t p n highest → IsHighestAmong t p (n + 1) (Some (higher_of t highest n))
@@ -86,13 +66,10 @@ module _ (t : Table) (p : Point) where
         under_h : is_under t p h ≡ true
         under_h = (and_parts (nat_lt h n) (is_under t p h) best.0).1
 
-        below_h : h < n
-        below_h = ltb-true h n (and_parts (nat_lt h n) (is_under t p h) best.0).0
-
         under_n : (e : ℕ) → (nat_lt e (n + 1) && is_under t p e) ≡ true → e ≢ n → lower_of t h n ≡ true → lower_of t e n ≡ true
         under_n e here other low = elim (cases_eq e h) [
           | inl same ↦ subst (λ k. lower_of t k n ≡ true) (sym same) low
-          | inr differ ↦ lower_under e h n (and_parts (nat_lt e (n + 1)) (is_under t p e) here).1 under_h under (best.1 e (earlier e n here other) differ) low
+          | inr differ ↦ lower_passes t planar.apart p e h n (under_alive e (and_parts (nat_lt e (n + 1)) (is_under t p e) here).1) (under_alive h under_h) (under_alive n under) (best.1 e (earlier e n here other) differ) low
         ]
 
         stays_under : (e : ℕ) → (nat_lt e (n + 1) && is_under t p e) ≡ true → e ≢ h → lower_of t h n ≡ false → lower_of t e h ≡ true

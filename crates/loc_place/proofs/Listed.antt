@@ -15,6 +15,7 @@ use Rattle.loc_spec_plane.specs.Tables.{Table, edge}
 use Rattle.loc_spec_plane.specs.Places.{alive, is_edge, is_border_of, lower_of, IsBorderless, IsCornerless, IsFloor, IsListAt, IsPlace}
 use Rattle.loc_laws_order.proofs.ChainLaws.{chain_above}
 use Rattle.loc_laws_order.proofs.Floors.{floor_of_list}
+use Rattle.loc_laws_order.proofs.AliveAt.{alive_parts}
 use Rattle.loc_laws_order.proofs.ListLaws.{get-map, is_in-get, list_is_chain}
 use Rattle.loc_laws_order.proofs.Sides.{above-not_below, lower-asym, on-not_above, on-not_below}
 use Rattle.loc_laws_order.proofs.TableOrder.{rises}
@@ -29,12 +30,10 @@ module _ (t : Table) (p : Point) (es : List ℕ) (is_list : IsListAt t p es) whe
 
   -- an edge of the list is alive there
   pub listed_alive : (i : ℕ) → i < length es → (get_or es i 0 < length t.ends) × (alive (edge t (get_or es i 0)) p ≡ true)
-  listed_alive i fits =
-      let parts = and_parts (is_edge t (get_or es i 0)) (alive (edge t (get_or es i 0)) p) (sym (is_list.exact (get_or es i 0)) ∙ member i fits) in
-      (ltb-true (get_or es i 0) (length t.ends) parts.0, parts.1)
+  listed_alive i fits = alive_parts t p (get_or es i 0) (sym (is_list.exact (get_or es i 0)) ∙ member i fits)
 
   -- a lower edge is another one, so no edge stands twice in the list
-  distinct : IsDistinct eqb es
+  pub distinct : IsDistinct eqb es
   distinct = IsDistinct-from_apart eqb es (λ i j d less fits. (let low = rises (lower_of t) d es i j is_list.rising less fits in ne_eqb (get_or es i d) (get_or es j d) (λ same. not_itself (get_or es j d) (subst (λ k. lower_of t k (get_or es j d) ≡ true) same low))))
     where
       not_itself : (e : ℕ) → lower_of t e e ≡ true → ⊥

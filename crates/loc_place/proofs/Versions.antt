@@ -1,14 +1,14 @@
 -- The version at a corner serves each point between it and the next one.
-use Rattle.std.proofs.Common.{◌≡◌, ℕ, zero, suc, ◌+◌, ◌<◌, ◌≤◌, Bool, not, ◌&&◌, List, [], ◌∷◌, length, get_or, refl, sym, ◌∙◌, ap, inl, inr, arith}
+use Rattle.std.proofs.Common.{◌≡◌, ℕ, zero, suc, ◌+◌, ◌<◌, ◌≤◌, Bool, not, ◌&&◌, List, [], ◌∷◌, length, get_or, refl, sym, ◌∙◌, ap, arith}
 use Rattle.std.specs.Prelude.{nat_lt}
-use Rattle.std.proofs.lemmas.Bool.{and_left, and_right, cases_lt, le-ltb}
+use Rattle.std.proofs.lemmas.Bool.{and_left, and_right, le-ltb}
 use Rattle.loc_spec_plane.specs.Points.{Point}
-use Rattle.loc_spec_plane.specs.Tables.{Table, IsTable, edge, lo_of, hi_of}
-use Rattle.loc_spec_plane.specs.Places.{alive, alive_at, is_edge, IsListAt}
+use Rattle.loc_spec_plane.specs.Tables.{Table, IsTable, lo_of, hi_of}
+use Rattle.loc_spec_plane.specs.Places.{alive_at, is_edge, IsListAt}
 use Rattle.loc_status.specs.Versions.{AreVersions}
-use Rattle.loc_status.proofs.AtCorner.{alive_at_corner}
+use Rattle.loc_laws_order.proofs.AliveAt.{alive_at_is, alive_at_corner}
 use Rattle.loc_place.specs.Standing.{IsBehind}
-use Rattle.loc_place.proofs.Behind.{alive_is}
+use Rattle.loc_place.proofs.Behind.{is_passed}
 
 -- edge e begins at one of the first n corners, and ends at none of them
 abbrev is_open : Table → ℕ → ℕ → Bool
@@ -16,10 +16,7 @@ is_open t n e = is_edge t e && (nat_lt (lo_of t e) n && not (nat_lt (hi_of t e) 
 
 -- behind the first n corners those edges are alive
 alive_behind : (t : Table) → IsTable t → (p : Point) (n : ℕ) → IsBehind t p n → (e : ℕ) → alive_at t p e ≡ is_open t n e
-alive_behind t ok p n behind e = elim (cases_lt e (length t.ends)) [
-  | inl fits ↦ ap (λ b. is_edge t e && b) (alive_is t ok p n behind e fits)
-  | inr past ↦ (let none = le-ltb e (length t.ends) past in and_left (is_edge t e) (alive (edge t e) p) none ∙ sym (and_left (is_edge t e) (nat_lt (lo_of t e) n && not (nat_lt (hi_of t e) n)) none))
-]
+alive_behind t ok p n behind e = alive_at_is t ok p n e (is_passed t p n behind)
 
 -- the list at a point is the version at the last corner before it, for no corner lies between, and an empty list before the first
 pub version_there : (t : Table) → IsTable t → (lists : List (List ℕ)) → AreVersions t lists → (p : Point) (n : ℕ) → IsBehind t p n → IsListAt t p (get_or ([] ∷ lists) n [])

@@ -18,7 +18,7 @@ found-is (c ∷ cs) l = elim (same c.0 l) as (λ b. cond b (Some c.1) (found cs 
 pub found-row : (rows : Map Row) (l : Link) → has rows l ≡ true → found rows l ≡ Some (row rows l)
 found-row rows l h = found-is rows l ∙ ap (λ b. cond b (Some (row rows l)) None) h
 
-found-none : (rows : Map Row) (l : Link) → has rows l ≡ false → found rows l ≡ None
+pub found-none : (rows : Map Row) (l : Link) → has rows l ≡ false → found rows l ≡ None
 found-none rows l h = found-is rows l ∙ ap (λ b. cond b (Some (row rows l)) None) h
 
 -- where something is found, there is a row
@@ -59,7 +59,7 @@ length-put (c ∷ cs) l x = elim (same c.0 l) as (λ b. length (cond b ((c.0, x)
 some-found : (rows : Map Row) (l : Link) (x : Row) → found rows l ≡ Some x → found rows l ≢ None
 some-found rows l x e z = let w : None ≡ Some x = sym z ∙ e in cc
 
-some-row : (x y : Row) → Some x ≡ Some y → x ≡ y
+pub some-row : (x y : Row) → Some x ≡ Some y → x ≡ y
 some-row x y e = cc
 
 pub row-append : (rows : Map Row) (r at : Link) (x : Row) → has rows r ≡ false → has rows at ≡ true → (has (rows ++ (r, x) ∷ []) at ≡ true) × (row (rows ++ (r, x) ∷ []) at ≡ row rows at)

@@ -97,9 +97,7 @@ has-place (c ∷ cs) l zero e = let h : c.0 ≡ l = cc in ap (λ b. b || has cs 
 has-place (c ∷ cs) l (suc i) e = or_true (same c.0 l) (has cs l) (has-place cs l i e)
 
 pub first-has : {A : Type 0} → (cs : Map A) (l : Link) (ls : List Link) → links cs ≡ l ∷ ls → has cs l ≡ true
-unfolding links has
-first-has [] l ls e = cc
-first-has (c ∷ cs) l ls e = let h : c.0 ≡ l = cc in ap (λ b. b || has cs l) (ap (λ m. same m l) h ∙ same-refl l)
+first-has cs l ls e = has-place cs l 0 (ap (λ ks. slice_get ks 0) e)
 
 pub first-gone : {A : Type 0} → (cs : Map A) (l : Link) (ls : List Link) → links cs ≡ l ∷ ls → links (without cs l) ≡ ls
 unfolding links without

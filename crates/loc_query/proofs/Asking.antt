@@ -1,8 +1,9 @@
 -- A query follows its course where its parts do: the layer, the order of its edges, and what is asked of an index.
 use Rattle.std.proofs.Common.{◌≡◌, ℕ, List, Bool, Option, length, sym, subst}
+use Rattle.loc_spec_text.specs.Bytes.{Text}
 use Rattle.loc_spec_asked.specs.declared.Index.{Index}
 use Rattle.loc_rings.specs.Values.{Feature}
-use Rattle.loc_course.specs.Courses.{Text, Course, Stopped}
+use Rattle.loc_course.specs.Courses.{Course, Stopped}
 use Rattle.loc_course.specs.Following.{Follows, Moment}
 use Rattle.loc_maps.specs.Located.{table_in}
 use Rattle.loc_maps.specs.MapCourses.{LayerFile, accepted_course, layer_course}

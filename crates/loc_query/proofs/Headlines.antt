@@ -7,13 +7,13 @@ use Rattle.loc_io.specs.Streams.{Stream}
 use Rattle.loc_io.specs.Meaning.{Told, holds}
 use Rattle.loc_spec_plane.specs.Covers.{cover_sum}
 use Rattle.loc_spec_asked.specs.declared.Index.{Index}
-use Rattle.loc_spec_text.specs.Bytes.{lines}
+use Rattle.loc_spec_text.specs.Bytes.{Text, lines}
 use Rattle.loc_spec_text.specs.Points.{ended}
 use Rattle.loc_spec_text.proofs.LineLaws.{lines-front}
 use Rattle.loc_rings.specs.Values.{Feature}
 use Rattle.loc_csvform.specs.Layer.{LayerRead, layer_of}
 use Rattle.loc_edges.specs.Conflicts.{has_conflict}
-use Rattle.loc_course.specs.Courses.{Text, Source, Course, reads as reads_from, refuses}
+use Rattle.loc_course.specs.Courses.{Source, Course, reads as reads_from, refuses}
 use Rattle.loc_course.specs.Moments.{Moment, IsToldText}
 use Rattle.loc_course.specs.Outcomes.{Outcome, refusal, output, exactly, outcome}
 use Rattle.loc_course.specs.Sentences.{EndsSo, IsDoing, MakesNone, MayRefuseBehind, NoneFailed, OutSo, Sentences, Steady, WithinSteps, Wrote}
@@ -21,7 +21,7 @@ use Rattle.loc_course.specs.Streams.{IsToldFront}
 use Rattle.loc_course.proofs.Streamed.{long_or_short}
 use Rattle.loc_course.proofs.Told.{it_exactly}
 use Rattle.loc_maps.specs.Conflicts.{Accepts, names_conflict}
-use Rattle.loc_maps.specs.LineTexts.{layer_fault_text}
+use Rattle.loc_maps.specs.LineTexts.{layer_fault_text, covers_text}
 use Rattle.loc_maps.specs.Located.{edges_of, table_in}
 use Rattle.loc_maps.specs.MapCourses.{LayerFile, accepted_course, layer_in, limit}
 use Rattle.loc_maps.proofs.Judged.{accepted_all, layer_all}
@@ -33,6 +33,7 @@ use Rattle.loc_query.specs.Answered.{output_of, output_within}
 use Rattle.loc_query.specs.Headline.{Headline, IsAccepted, IsInOrder, IsOrderTold, edge_count, steps_in}
 use Rattle.loc_query.specs.QueryCourses.{asked_layer, points_course, query_course, steps_by}
 use Rattle.loc_query.proofs.Rows as rows
+use Rattle.loc_cover.specs.Legends.{most_members}
 
 -- what holds of refusals, of files that are read, and behind an accepted layer holds of a query
 query_all : (P : Course → Type 0) → ((passes : Text → Bool) → P (refuses passes)) → ((s : Source) (next : Text → Course) → ((text : Text) → P (next text)) → P (reads_from s next))
@@ -92,7 +93,7 @@ module _ (told : Text → Told) (index : Index) (order : Option Text) (faces : B
       ]
 
       by_covers : (features : List Feature) → length layer ≤ limit → layer_of file.form file.scale layer ≡ Ok features → IsInOrder told order (edge_count features) → Accepts features → WasAccepted
-      by_covers features few reads o apart = elim (cases_lt 16777216 (cover_sum (table_in features))) [
+      by_covers features few reads o apart = elim (cases_lt most_members (cover_sum (table_in features))) [
         | inl many ↦ absurd (not_done _ _ before new (rows.covers told index order faces file points layer is features few reads o apart many) (λ e. e) ends)
         | inr less ↦ by_points features (record { within = few; reads = reads; apart = apart; few_covers = less }) o
       ]
@@ -181,7 +182,7 @@ module _ (index : Index) (order : Option Text) (faces : Bool) (file : LayerFile)
     order_fault = λ layer text name features fault named is few reads holds_it short faulty steady.
         refused_by (ended (order_fault_text fault)) (rows.order_line old.shelf.told index order faces file points layer is features few reads name text fault named holds_it short faulty) steady;
     conflict = λ layer features is few reads o has steady. refused (names_conflict file.scale (edges_of features)) (rows.conflict old.shelf.told index order faces file points layer is features few reads o has) steady;
-    covers = λ layer features is few reads o apart many steady. refused_by (ended (codes "layer: covers past 16777216")) (rows.covers old.shelf.told index order faces file points layer is features few reads o apart many) steady;
+    covers = λ layer features is few reads o apart many steady. refused_by (ended covers_text) (rows.covers old.shelf.told index order faces file points layer is features few reads o apart many) steady;
     points_long = λ layer text features is also a o long reads out.
         elim (s.refuses_partly (output_within limit faces file.scale features text) (ended (codes "points: too long"))
         (rows.points_long old.shelf.told index order faces file points layer is features a.within a.reads o a.apart a.few_covers text also long) (none_failed reads out)) [

@@ -5,6 +5,7 @@ use Rattle.std.specs.List.{range_with_len}
 use Rattle.std.proofs.Math.Path.{fun_ext}
 use Rattle.std.proofs.lemmas.Bool.{and_left, and_parts, cases_Bool, cases_lt, cond-true, cond-false, ltb-true}
 use Rattle.std.proofs.lemmas.List.{get_or_past, length-map}
+use Rattle.loc_spec_text.specs.Bytes.{Text}
 use Rattle.loc_spec_asked.specs.declared.Index.{Index}
 use Rattle.loc_spec_plane.specs.declared.Place.{Place}
 use Rattle.loc_spec_plane.specs.declared.Place.TheVariants.{Corner, Border, Area}
@@ -20,7 +21,7 @@ use Rattle.loc_laws_order.proofs.TableOrder.{numbers_within}
 use Rattle.loc_laws_order.proofs.Unique.{rising-unique}
 use Rattle.loc_laws_rays.proofs.Members.{in_numbers, is_in-filter}
 use Rattle.loc_rings.specs.Values.{Feature, rings_of}
-use Rattle.loc_edges.specs.Layers.{layer_of}
+use Rattle.loc_edges.specs.Layers.{layer_rings}
 use Rattle.loc_edges.proofs.Ordered.{table_of-is_table}
 use Rattle.loc_edges.proofs.RingMarks.{touches_is, covers_is}
 use Rattle.loc_place.specs.Found.{place_at}
@@ -31,7 +32,7 @@ use Rattle.loc_cover.proofs.Covered.{covering_covers, touching_touches}
 use Rattle.loc_batch.specs.Answering.{answer_by, answer_at as answer_by_rows, face_at, found_answer, names}
 use Rattle.loc_faces.specs.Subdivision.{shown_at}
 use Rattle.loc_answering.specs.ByLine.{as_bytes, by_line}
-use Rattle.loc_course.specs.Courses.{Text, Stopped, answers}
+use Rattle.loc_course.specs.Courses.{Stopped, answers}
 use Rattle.loc_course.specs.Following.{Follows}
 use Rattle.loc_course.specs.Moments.{Moment}
 use Rattle.loc_course.specs.Stops.{source}
@@ -48,7 +49,7 @@ ids_of layer = map (λ (f : Feature). f.id) layer
 module _ (test : Rings → Bool) where
   -- the ids of the features from a number on that pass, by number
   by_number : (id_at : ℕ → List ℕ) (passes : ℕ → Bool) (a : ℕ) (layer : List Feature)
-      → ((i : ℕ) → i < length layer → (id_at (a + i) ≡ get_or (ids_of layer) i []) × (passes (a + i) ≡ test (get_or (layer_of layer) i [])))
+      → ((i : ℕ) → i < length layer → (id_at (a + i) ≡ get_or (ids_of layer) i []) × (passes (a + i) ≡ test (get_or (layer_rings layer) i [])))
       → map id_at (filter passes (range_with_len a (length layer))) ≡ ids_where test layer
   by_number id_at passes a [] same = refl
   by_number id_at passes a (f ∷ layer) same =
@@ -67,14 +68,14 @@ module _ (test : Rings → Bool) where
 
   module _ (none : test [] ≡ false) (layer : List Feature) where
     abbrev passes_at : ℕ → Bool
-    passes_at f = test (get_or (layer_of layer) f [])
+    passes_at f = test (get_or (layer_rings layer) f [])
 
     -- the features that pass, by number
     members : (f : ℕ) → is_in f (filter passes_at (numbers (length layer))) ≡ passes_at f
     members f = is_in-filter passes_at f (numbers (length layer)) ∙ elim (cases_lt f (length layer)) [
       | inl less ↦ ap (λ b. b && passes_at f) (in_numbers f (length layer) less)
       | inr past ↦ and_left (is_in f (numbers (length layer))) (passes_at f) (is_in-past (numbers (length layer)) (length layer) f (numbers_within (length layer)) past)
-          ∙ sym (ap test (get_or_past (layer_of layer) f [] (omega (arith, length-map layer rings_of, past))) ∙ none)
+          ∙ sym (ap test (get_or_past (layer_rings layer) f [] (omega (arith, length-map layer rings_of, past))) ∙ none)
     ]
 
     -- a rising list of the features that pass names them
@@ -89,7 +90,7 @@ module _ (test : Rings → Bool) where
 module _ (layer : List Feature) (t : Table) (rows : LegendRows) (sound : IsSound rows) (m : IsMapOf layer t rows) where
   in_order : IsTable t
   unfolding table_in
-  in_order = subst IsTable (sym m.table) (table_of-is_table (layer_of layer))
+  in_order = subst IsTable (sym m.table) (table_of-is_table (layer_rings layer))
 
   -- the table is one in which every point has one place
   pub planar : IsPlanar t
@@ -111,12 +112,12 @@ module _ (layer : List Feature) (t : Table) (rows : LegendRows) (sound : IsSound
     touching_named : is_rising nat_lt (touching rows place) ≡ true → names rows (touching rows place) ≡ ids_where (λ rings. touches rings p) layer
     unfolding table_in
     touching_named rises = named_are (λ rings. touches rings p) refl layer rows (touching rows place) m.ids rises
-        (λ f. touching_touches t rows m.fits in_order m.ended m.even m.apart p place is f ∙ (ap (λ s. touches_by_marks s f p) m.table ∙ touches_is (layer_of layer) f p))
+        (λ f. touching_touches t rows m.fits in_order m.ended m.even m.apart p place is f ∙ (ap (λ s. touches_by_marks s f p) m.table ∙ touches_is (layer_rings layer) f p))
 
     covering_named : names rows (covering rows place) ≡ ids_where (λ rings. covers rings p) layer
     unfolding table_in
     covering_named = named_are (λ rings. covers rings p) refl layer rows (covering rows place) m.ids (covering_rises place)
-        (λ f. covering_covers t rows m.fits m.is_true in_order m.ended m.even m.apart p place is f ∙ (ap (λ s. covers_by_marks s f p) m.table ∙ covers_is (layer_of layer) f p))
+        (λ f. covering_covers t rows m.fits m.is_true in_order m.ended m.even m.apart p place is f ∙ (ap (λ s. covers_by_marks s f p) m.table ∙ covers_is (layer_rings layer) f p))
 
   answer_is : (shown : Option ℕ → Option ℕ) (p : Point) (place : Place) → IsPlace t p place
       → answer_by_rows rows (face_at shown place) place ≡ answer_at shown place (ids_where (λ rings. touches rings p) layer) (ids_where (λ rings. covers rings p) layer)

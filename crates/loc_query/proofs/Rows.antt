@@ -8,19 +8,20 @@ use Rattle.loc_io.specs.Meaning.{Told, holds}
 use Rattle.loc_spec_plane.specs.Covers.{cover_sum}
 use Rattle.loc_spec_asked.specs.declared.Index.{Index}
 use Rattle.loc_spec_text.specs.Answered.{Answered, answered, with_answer}
-use Rattle.loc_spec_text.specs.Bytes.{ended_lines, lines}
+use Rattle.loc_spec_text.specs.Bytes.{Text, ended_lines, lines}
 use Rattle.loc_spec_text.specs.Points.{ended}
+use Rattle.loc_spec_text.proofs.AnsweredLaws.{all_of, all_answered, joined}
 use Rattle.loc_rings.specs.Values.{Feature}
 use Rattle.loc_csvform.specs.Layer.{LayerRead, layer_of}
 use Rattle.loc_csvform.specs.declared.faults.LayerFault.{LayerFault}
 use Rattle.loc_edges.specs.Conflicts.{has_conflict}
-use Rattle.loc_course.specs.Courses.{Text, Source, Course, refuses}
+use Rattle.loc_course.specs.Courses.{Source, Course, refuses}
 use Rattle.loc_course.specs.Outcomes.{Outcome, refusal, output, partly, by_text, by_lines, by_refusal, exactly, outcome}
 use Rattle.loc_course.specs.Stops.{source}
 use Rattle.loc_course.specs.Streams.{Answering, answered_long, out_of}
 use Rattle.loc_course.proofs.Streamed.{of_whole}
 use Rattle.loc_maps.specs.Conflicts.{Accepts, names_conflict}
-use Rattle.loc_maps.specs.LineTexts.{layer_fault_text}
+use Rattle.loc_maps.specs.LineTexts.{layer_fault_text, covers_text}
 use Rattle.loc_maps.specs.Located.{edges_of, table_in}
 use Rattle.loc_maps.specs.MapCourses.{LayerFile, accepted_course, covers_course, layer_in, limit}
 use Rattle.loc_maps.specs.Maps.{has_many_covers}
@@ -32,6 +33,7 @@ use Rattle.loc_orders.specs.OrderTexts.{order_fault_text}
 use Rattle.loc_query.specs.Answered.{answer_line, output_of, output_within}
 use Rattle.loc_query.specs.Headline.{IsInOrder, edge_count}
 use Rattle.loc_query.specs.QueryCourses.{asked_layer, points_course, query_course}
+use Rattle.loc_cover.specs.Legends.{most_members}
 
 long : (s : Source) (o : Text → Outcome) (told : Told) (text : Text) → told ≡ holds text → s.limit < length text → by_text s o told ≡ refusal (exactly s.too_long)
 long s o told text is more = ap (by_text s o) is ∙ cond-true (nat_lt s.limit (length text)) (refusal (exactly s.too_long)) (o text) ((Decides-ltb s.limit (length text)).1 more)
@@ -39,18 +41,6 @@ long s o told text is more = ap (by_text s o) is ∙ cond-true (nat_lt s.limit (
 short : (s : Source) (o : Text → Outcome) (told : Told) (text : Text) → told ≡ holds text → length text ≤ s.limit → by_text s o told ≡ o text
 short s o told text is few = ap (by_text s o) is
     ∙ cond-false (nat_lt s.limit (length text)) (refusal (exactly s.too_long)) (o text) (false_from_ne_true (nat_lt s.limit (length text)) (λ e. omega (arith, (Decides-ltb s.limit (length text)).0 e, few)))
-
--- where no line is refused, each is answered
-abbrev all_of : (Text → Text) → List Text → Answered Text Text
-all_of f ls = record { answers = map f ls; refusal = None }
-
-all_answered : (f : Text → Text) (ls : List Text) → answered {R = Text} (λ line. Ok (f line)) ls ≡ all_of f ls
-all_answered f [] = refl
-all_answered f (line ∷ ls) = ap (with_answer (Ok (f line))) (all_answered f ls)
-
-joined : (f : Text → Text) (ls : List Text) → flat_map (λ line. line) (map f ls) ≡ flat_map f ls
-joined f [] = refl
-joined f (line ∷ ls) = ap (λ text. f line ++ text) (joined f ls)
 
 -- a named order's file, and a course behind one that is an order
 abbrev order_source : Text → Source
@@ -112,17 +102,17 @@ module _ (told : Text → Told) (index : Index) (order : Option Text) (faces : B
     conflict o has = ordered o
         ∙ ap (outcome told) (cond-true (has_conflict (edges_of features)) (refuses (names_conflict file.scale (edges_of features))) (covers_course (table_in features) (points_course index faces file.scale points features)) has)
 
-    pub covers : IsInOrder told order (edge_count features) → Accepts features → 16777216 < cover_sum (table_in features) → outcome told (query_course index order faces file points) ≡ refusal (exactly (ended (codes "layer: covers past 16777216")))
+    pub covers : IsInOrder told order (edge_count features) → Accepts features → most_members < cover_sum (table_in features) → outcome told (query_course index order faces file points) ≡ refusal (exactly (ended covers_text))
     covers o apart many = ordered o
         ∙ (ap (outcome told) (on_apart file.scale (edges_of features) (covers_course (table_in features) (points_course index faces file.scale points features)) apart)
-        ∙ ap (outcome told) (cond-true (has_many_covers (table_in features)) (refuses (exactly (ended (codes "layer: covers past 16777216")))) (points_course index faces file.scale points features) ((Decides-ltb 16777216 (cover_sum (table_in features))).1 many)))
+        ∙ ap (outcome told) (cond-true (has_many_covers (table_in features)) (refuses (exactly (ended covers_text))) (points_course index faces file.scale points features) ((Decides-ltb most_members (cover_sum (table_in features))).1 many)))
 
-    accepted : IsInOrder told order (edge_count features) → Accepts features → cover_sum (table_in features) ≤ 16777216 → outcome told (query_course index order faces file points) ≡ by_lines of_points (answering features) (told points)
+    accepted : IsInOrder told order (edge_count features) → Accepts features → cover_sum (table_in features) ≤ most_members → outcome told (query_course index order faces file points) ≡ by_lines of_points (answering features) (told points)
     accepted o apart few_covers = ordered o
         ∙ (ap (outcome told) (on_apart file.scale (edges_of features) (covers_course (table_in features) (points_course index faces file.scale points features)) apart)
         ∙ ap (outcome told) (on_few_covers (table_in features) (points_course index faces file.scale points features) few_covers))
 
-    module _ (o : IsInOrder told order (edge_count features)) (apart : Accepts features) (few_covers : cover_sum (table_in features) ≤ 16777216) (text : Text) (also : told points ≡ holds text) where
+    module _ (o : IsInOrder told order (edge_count features)) (apart : Accepts features) (few_covers : cover_sum (table_in features) ≤ most_members) (text : Text) (also : told points ≡ holds text) where
       pub points_long : limit < length text → outcome told (query_course index order faces file points) ≡ partly (output_within limit faces file.scale features text) (ended (codes "points: too long"))
       points_long more =
           let first = ended_lines (take limit text) in

@@ -6,17 +6,16 @@ use Rattle.loc_io.specs.Streams.{Stream}
 use Rattle.loc_io.specs.Meaning.{Told, holds}
 use Rattle.loc_spec_plane.specs.Covers.{cover_sum}
 use Rattle.loc_spec_asked.specs.declared.Index.{Index}
-use Rattle.loc_spec_text.specs.Bytes.{lines}
+use Rattle.loc_spec_text.specs.Bytes.{Text, lines}
 use Rattle.loc_spec_text.specs.Points.{ended}
 use Rattle.loc_rings.specs.Values.{Feature}
 use Rattle.loc_csvform.specs.Layer.{LayerRead, layer_of}
 use Rattle.loc_csvform.specs.declared.faults.LayerFault.{LayerFault}
 use Rattle.loc_edges.specs.Conflicts.{has_conflict}
-use Rattle.loc_course.specs.Courses.{Text}
 use Rattle.loc_course.specs.Moments.{Moment}
 use Rattle.loc_course.specs.Sentences.{Steady, Wrote}
 use Rattle.loc_maps.specs.Conflicts.{Accepts, names_conflict}
-use Rattle.loc_maps.specs.LineTexts.{layer_fault_text}
+use Rattle.loc_maps.specs.LineTexts.{layer_fault_text, covers_text}
 use Rattle.loc_maps.specs.Located.{edges_of, table_in}
 use Rattle.loc_maps.specs.MapCourses.{LayerFile, limit}
 use Rattle.loc_trapdag.specs.Orders.{order_of}
@@ -24,13 +23,14 @@ use Rattle.loc_trapdag.specs.declared.order.OrderFault.{OrderFault}
 use Rattle.loc_orders.specs.OrderTexts.{order_fault_text}
 use Rattle.loc_query.specs.Answered.{output_of, output_within}
 use Rattle.loc_query.specs.QueryCourses.{steps_by}
+use Rattle.loc_cover.specs.Legends.{most_members}
 
 -- the text is within the limit and reads as a layer of these features, no two of its edges conflict, and its cover lists are few
 pub record IsAccepted (file : LayerFile) (layer : Text) (features : List Feature) : Type 0 where
   pub within : length layer ≤ limit
   pub reads : layer_of file.form file.scale layer ≡ Ok features
   pub apart : Accepts features
-  pub few_covers : cover_sum (table_in features) ≤ 16777216
+  pub few_covers : cover_sum (table_in features) ≤ most_members
 
 -- the text of the order's file is told, if one is named
 abbrev pub IsOrderTold : (Text → Told) → Option Text → Type 0
@@ -80,8 +80,8 @@ pub record Headline (index : Index) (order : Option Text) (faces : Bool) (file :
       → ((status ≡ 1) × (new.out.written ≡ old.out.written) × (line : Text) × IsTrue (names_conflict file.scale (edges_of features) line) × Wrote n n' line) ⊎ ((status ≡ 5) × (new.out.written ≡ old.out.written))
   -- or its distinct cover lists have too many members together,
   pub covers : (layer : Text) (features : List Feature) → old.shelf.told file.name ≡ holds layer → length layer ≤ limit → layer_of file.form file.scale layer ≡ Ok features
-      → IsInOrder old.shelf.told order (edge_count features) → Accepts features → 16777216 < cover_sum (table_in features) → Steady old.shelf.read_faults new.shelf.read_faults
-      → ((status ≡ 1) × (new.out.written ≡ old.out.written) × Wrote n n' (ended (codes "layer: covers past 16777216"))) ⊎ ((status ≡ 5) × (new.out.written ≡ old.out.written))
+      → IsInOrder old.shelf.told order (edge_count features) → Accepts features → most_members < cover_sum (table_in features) → Steady old.shelf.read_faults new.shelf.read_faults
+      → ((status ≡ 1) × (new.out.written ≡ old.out.written) × Wrote n n' (ended covers_text)) ⊎ ((status ≡ 5) × (new.out.written ≡ old.out.written))
   -- or the layer is accepted and the points are too long: then the lines that end within the limit are answered, unless a write failed.
   pub points_long : (layer text : Text) (features : List Feature) → old.shelf.told file.name ≡ holds layer → old.shelf.told points ≡ holds text
       → IsAccepted file layer features → IsInOrder old.shelf.told order (edge_count features) → limit < length text → Steady old.shelf.read_faults new.shelf.read_faults → Steady old.out.faults new.out.faults

@@ -7,6 +7,7 @@ use Rattle.loc_pool.specs.declared.Colour.{Colour}
 use Rattle.loc_pool.specs.declared.Colour.TheVariants.{Red, Black}
 use Rattle.loc_rb.specs.Trees.{Tree, leaf, node, items, Frame, node_at, under, plug, SameButLinks}
 use Rattle.loc_rb.specs.Nodes.{Nodes}
+use Rattle.loc_rb.proofs.OneChange.{alike-induction}
 use Rattle.loc_rb.specs.Balance.{IsBlackTop, MayHang, black, HasBlackHeight, IsRedBlack, MayBe, Takes, Awaits}
 use Rattle.loc_rb.specs.Places.{Spot, Holds}
 use Rattle.loc_rb.specs.Steps.{IsRedTop}
@@ -53,8 +54,7 @@ red-top-node_at Left l t x o = refl
 red-top-node_at Right l t x o = refl
 
 pub black-top-node_at : (turn : Turn) (l : Link) (t : Tree) (x : ℕ) (o : Tree) → IsBlackTop (node_at turn l t x Black o)
-black-top-node_at Left l t x o = tt
-black-top-node_at Right l t x o = tt
+black-top-node_at turn l t x o = may-hang Red turn l t x Black o refl
 
 -- a tree with a red top, seen from a side
 pub record RedShape (turn : Turn) (l : Link) (t : Tree) : Type 0 where
@@ -147,19 +147,15 @@ takes-longer c h [] fr e k p m o r = (subst (λ (z : Colour). MayBe z fr.colour)
 takes-longer c h (gr ∷ C) fr e k p m o r = (p.0, p.1, (p.2.0, p.2.1, p.2.2, takes-longer gr.colour p.2.0 C fr e k p.2.3 m o r))
 
 -- links play no part in it
-pub takes-SameButLinks : (c : Colour) (h : ℕ) (C D : List Frame) (d : Colour) (k : ℕ) → SameButLinks C D → Takes c h C d k → Takes c h D d k
-takes-SameButLinks c h [] [] d k s p = p
-takes-SameButLinks c h [] (gr ∷ D) d k s p = absurd s
-takes-SameButLinks c h (fr ∷ C) [] d k s p = absurd s
-takes-SameButLinks c h (fr ∷ C) (gr ∷ D) d k s p =
-    let q = takes-SameButLinks fr.colour p.2.0 C D d k s.4 p.2.3 in
-    let r = subst (λ (z : Colour). MayBe c z × MayHang z fr.other × (h ≡ black z + p.2.0) × Takes z p.2.0 D d k) (sym s.2) (p.0, p.1, p.2.1, q) in
+pub takes-SameButLinks : (C D : List Frame) → SameButLinks C D → (c : Colour) (h : ℕ) (d : Colour) (k : ℕ) → Takes c h C d k → Takes c h D d k
+takes-SameButLinks = alike-induction (λ C D. (c : Colour) (h : ℕ) (d : Colour) (k : ℕ) → Takes c h C d k → Takes c h D d k) (λ c h d k p. p) (λ fr gr C D s on c h d k p. (
+    let r = subst (λ (z : Colour). MayBe c z × MayHang z fr.other × (h ≡ black z + p.2.0) × Takes z p.2.0 D d k) (sym s.2) (p.0, p.1, p.2.1, on fr.colour p.2.0 d k p.2.3) in
     let w = subst (λ (z : Tree). MayHang gr.colour z × HasBlackHeight z p.2.0) (sym s.3) (r.1, p.2.2) in
-    (r.0, w.0, (p.2.0, r.2, w.1, r.3))
+    (r.0, w.0, (p.2.0, r.2, w.1, r.3))))
 
 -- so frames under new links await the same
 abbrev pub awaits-alike : (C D : List Frame) (k : ℕ) → SameButLinks C D → Awaits C k → Awaits D k
-awaits-alike C D k s w = record { whole = w.whole; parent = w.parent; takes = takes-SameButLinks Red w.whole C D w.parent k s w.takes }
+awaits-alike C D k s w = record { whole = w.whole; parent = w.parent; takes = takes-SameButLinks C D s Red w.whole w.parent k w.takes }
 
 -- at the root any tree with a black top does
 abbrev pub awaits-root : (C : List Frame) (k : ℕ) → C ≡ [] → Awaits C k

@@ -1,7 +1,8 @@
 -- The way down to the first node of a tree, and how long a path is.
-use Rattle.std.proofs.Common.{◌≡◌, ℕ, suc, zero, List, [], ◌∷◌, ◌++◌, refl, sym, ap, ◌∙◌, subst, ◌+◌, ◌*◌, ◌^◌, ◌≤◌, ◌-◌, arith, Some, None, ◌⊎◌, inl, inr, append_assoc, append-nil, length, length-append}
+use Rattle.std.proofs.Common.{◌-◌, ◌≡◌, ℕ, suc, List, [], ◌∷◌, ◌++◌, refl, sym, ap, ◌∙◌, subst, ◌+◌, ◌*◌, ◌^◌, ◌≤◌, arith, Some, None, inl, inr, append_assoc, append-nil, length, length-append}
 use Rattle.std.proofs.Math.Nat.{pow-suc}
-use Rattle.std.proofs.lemmas.Nat.{pow-add, pow_pos, mul-le}
+use Rattle.std.proofs.Math.Pow.{pow_mono}
+use Rattle.std.proofs.lemmas.Nat.{pow-add, mul-le}
 use Rattle.loc_pool.specs.declared.Link.{Link}
 use Rattle.loc_pool.specs.declared.Turn.{Turn}
 use Rattle.loc_pool.specs.declared.Turn.TheVariants.{Left, Right}
@@ -13,7 +14,7 @@ use Rattle.loc_rb.specs.Balance.{IsBlackTop, HasBlackHeight, IsRedBlack, depth}
 use Rattle.loc_rb.specs.Places.{Spot}
 use Rattle.loc_rb.specs.Steps.{LeftmostPath}
 use Rattle.loc_rb.proofs.Trees.{fits-end, plug-snoc}
-use Rattle.loc_rb.proofs.OneChange.{pushed, frame_of, some-link}
+use Rattle.loc_rb.proofs.OneChange.{pushed, frame_of, some-link, none-or}
 
 -- a tree of black height h has at least 2 ^ h - 1 items
 pub size-black-height : (t : Tree) (h : ℕ) → HasBlackHeight t h → 2 ^ h ≤ length (items t) + 1
@@ -28,22 +29,12 @@ depth-black-height leaf h p = (omega arith, λ _. omega arith)
 depth-black-height (node l a x Red b) h p = let q = (depth-black-height a p.2.0 p.2.2).1 p.0 in let r = (depth-black-height b p.2.0 p.2.3).1 p.1 in let e = p.2.1 in (omega (arith, q, r, e), λ f. absurd f)
 depth-black-height (node l a x Black b) h p = let q = (depth-black-height a p.2.0 p.2.2).0 in let r = (depth-black-height b p.2.0 p.2.3).0 in let e = p.2.1 in (omega (arith, q, r, e), λ _. omega (arith, q, r, e))
 
--- powers rise
-pub pow_le : (i j : ℕ) → i ≤ j → 2 ^ i ≤ 2 ^ j
-pow_le i j h = let e : j ≡ i + (j - i) = omega arith in let p = pow-add 2 i (j - i) in let o = pow_pos (j - i) in let m = mul-le (2 ^ i) 1 (2 ^ i) (2 ^ (j - i)) (omega arith) (omega (arith, o)) in
-    subst (λ (n : ℕ). 2 ^ i ≤ 2 ^ n) (sym e) (omega (arith, p, m))
-
 -- the bound on paths: with k items, no path has d nodes with 2 ^ d > (k + 1) * (k + 1)
 pub bounded : (t : Tree) → IsRedBlack t → 2 ^ depth t ≤ (length (items t) + 1) * (length (items t) + 1)
 bounded t b =
     let h = b.1.0 in let s = size-black-height t h b.1.1 in let d = (depth-black-height t h b.1.1).1 b.0 in let e : 2 * h ≡ h + h = omega arith in
-    let w = pow_le (depth t) (2 * h) d in let v = ap (λ n. 2 ^ n) e ∙ pow-add 2 h h in let m = mul-le (2 ^ h) (2 ^ h) (length (items t) + 1) (length (items t) + 1) s s in
+    let w : 2 ^ depth t ≤ 2 ^ (2 * h) = pow_mono d in let v = ap (λ n. 2 ^ n) e ∙ pow-add 2 h h in let m = mul-le (2 ^ h) (2 ^ h) (length (items t) + 1) (length (items t) + 1) s s in
     omega (arith, w, v, m)
-
-above : (i j : ℕ) → (j ≤ i) ⊎ (i + 1 ≤ j)
-above i zero = inl (omega arith)
-above zero (suc j) = inr (omega arith)
-above (suc i) (suc j) = elim (above i j) as (λ _. (suc j ≤ suc i) ⊎ (suc i + 1 ≤ suc j)) [ inl z ↦ inl (omega (arith, z)) | inr z ↦ inr (omega (arith, z)) ]
 
 pub depth-under : (turn : Turn) (l : Link) (t : Tree) (x : ℕ) (c : Colour) (o : Tree) → depth t + 1 ≤ depth (node_at turn l t x c o)
 depth-under Left l t x c o = omega arith
@@ -51,9 +42,9 @@ depth-under Right l t x c o = omega arith
 
 -- a tree of at most 2 ^ 21 items has no path of more than 42 nodes
 pub at-most-42 : (t : Tree) → IsRedBlack t → length (items t) ≤ 2 ^ 21 → depth t ≤ 42
-at-most-42 t b h = elim (above 42 (depth t)) as (λ _. depth t ≤ 42) [
-  | inl z ↦ z
-  | inr z ↦ let p = bounded t b in let q = pow_le 43 (depth t) z in let m = mul-le (length (items t) + 1) (length (items t) + 1) (2 ^ 21 + 1) (2 ^ 21 + 1) (omega (arith, h)) (omega (arith, h)) in omega (arith, p, q, m)
+at-most-42 t b h = elim (none-or (depth t - 42)) as (λ _. depth t ≤ 42) [
+  | inl z ↦ omega (arith, z)
+  | inr z ↦ let p = bounded t b in let y : 43 ≤ depth t = omega (arith, z) in let q : 2 ^ 43 ≤ 2 ^ depth t = pow_mono y in let m = mul-le (length (items t) + 1) (length (items t) + 1) (2 ^ 21 + 1) (2 ^ 21 + 1) (omega (arith, h)) (omega (arith, h)) in omega (arith, p, q, m)
 ]
 
 pub depth-plug : (C : List Frame) (t : Tree) → length (entries C) + depth t ≤ depth (plug C t)

@@ -6,33 +6,18 @@ use Rattle.std.specs.List.{AllByRecursion}
 use Rattle.loc_pool.specs.declared.Link.{Link}
 use Rattle.loc_pool.specs.declared.Turn.{Turn}
 use Rattle.loc_pool.specs.declared.Turn.TheVariants.{Left, Right}
-use Rattle.loc_rb.specs.Trees.{Row, Reading, with_child, child_of, links_of, next, Once, Leads, Carried}
+use Rattle.loc_rb.specs.Trees.{Row, Reading, with_child, links_of, next, Once, Leads, Carried}
 use Rattle.loc_rb.specs.Nodes.{Nodes, live, IsLive, IsOld, KeepsItems, StandsFor, StandFor, CanChange}
 use Rattle.loc_rb.specs.Exchanges.{Exchanges, InPlace, Copies}
 use Rattle.loc_rb.proofs.Counts.{keeps-trans}
 use Rattle.loc_rb.proofs.Trees.{apart-all}
 use Rattle.loc_rb.proofs.OneChange.{live-rows, is-live, some-link, not-new}
 pub use Rattle.loc_rb.proofs.OneChange.{by-link}
-
-some-row : (x y : Row) → Some x ≡ Some y → x ≡ y
-some-row x y e = cc
-
-child-same : (turn : Turn) (x : Row) (o : Option Link) → child_of turn x ≡ o → with_child turn o x ≡ x
-child-same Left x o e = λ i. record x { left = sym e i }
-child-same Right x o e = λ i. record x { right = sym e i }
+use Rattle.loc_rb.proofs.Recolouring.{some-row, path-same}
 
 item-same : (turn : Turn) (x : Row) (o : Option Link) → (with_child turn o x).item ≡ x.item
 item-same Left x o = refl
 item-same Right x o = refl
-
--- a path above a row that changed is as it was
-path-same : (f g : Reading) (at : Link) → ((l : Link) → l ≢ at → (x : Row) → f l ≡ Some x → g l ≡ Some x) → (es : List (Link × Turn)) → Leads f es at → AllByRecursion (λ m. at ≢ m) (links_of es) → Carried f g es es at
-path-same f g at h [] l a = tt
-path-same f g at h (e ∷ es) l a = (
-  refl,
-  (λ x q. let w = some-row (l.0.0) x (sym (l.0.1) ∙ q) in h e.0 (λ s. a.0 (sym s)) x q ∙ ap Some (sym (child-same e.1 x (Some (next es at)) (ap (child_of e.1) (sym w) ∙ l.0.2)))),
-  path-same f g at h es l.1 a.1,
-)
 
 stand-refl : (n : Nodes) (ls : List Link) → StandFor n ls ls
 stand-refl n [] = tt
@@ -135,9 +120,6 @@ not-on : (f : Reading) (r : Link) (es : List (Link × Turn)) (at : Link) → f r
 not-on f r [] at z l = ((λ s. let w : None ≡ Some l.0 = sym z ∙ ap f s ∙ l.1 in cc), tt)
 not-on f r (e ∷ es) at z l = let q = not-on f r es at z l.1 in (q.0, ((λ s. let w : None ≡ Some l.0.0 = sym z ∙ ap f s ∙ l.0.1 in cc), q.1))
 
-no-live : (n : Nodes) (r : Link) → n.rows r ≡ None → live n r ≡ None
-no-live n r z = elim (n.current r) as (λ b. cond b (n.rows r) None ≡ None) [ true ↦ z | false ↦ refl ]
-
 -- the pointer above a copied node can be changed
 pub can-go-up : (n m : Nodes) (es : List (Link × Turn)) (e : Link × Turn) (at r : Link) (turn : Turn) (to : Option Link) → Copies n m at r turn to → CanChange n (es ++ e ∷ []) at to → CanChange m es e.0 (Some r)
 can-go-up n m es e at r turn to d k =
@@ -170,7 +152,7 @@ copied-up n m p es es' up up' side at r turn to d k x =
     let e : Link × Turn = (up, side) in let e' : Link × Turn = (up', side) in
     let row = leads-end (live n) (es ++ e ∷ []) at k.leads in let at_row = live-rows n at row.0 row.1 in let r_row = d.here row.0 at_row.0 in
     let apart = all-up (λ l. at ≢ l) es e k.once.0 in
-    let off = not-on (live n) r es up (no-live n r d.fresh) (leads-up (live n) es e at k.leads) in
+    let off = not-on (live n) r es up (elim (n.current r) as (λ b. cond b (n.rows r) None ≡ None) [ true ↦ d.fresh | false ↦ refl ]) (leads-up (live n) es e at k.leads) in
     let off' = not-new m r (with_child turn to row.0) r_row (up ∷ links_of es) (up' ∷ links_of es') x.stand_for off in
     let kept = apart-all (λ l. at ≢ l) (λ l. (y : Row) → live n l ≡ Some y → live m l ≡ Some y) (λ l o y q. copied-live n m at r turn to d l (λ s. o (sym s)) y q) (up ∷ links_of es) apart in
     let fresh : (l : Link) → m.rows l ≡ None → n.rows l ≡ None = λ l z. sym (d.others l (λ s. (let w : None ≡ Some (with_child turn to row.0) = sym z ∙ ap m.rows s ∙ r_row in cc))) ∙ z in

@@ -5,14 +5,14 @@ use Rattle.loc_pool.specs.declared.Turn.{Turn}
 use Rattle.loc_pool.specs.declared.Turn.TheVariants.{Left}
 use Rattle.loc_pool.specs.declared.Colour.{Colour}
 use Rattle.loc_pool.specs.declared.Colour.TheVariants.{Red, Black}
-use Rattle.loc_rb.specs.Trees.{Row, Tree, leaf, node, items, Fits, Frame, node_at, plug, flip, count, IsApart}
+use Rattle.loc_rb.specs.Trees.{Row, Tree, leaf, node, items, Fits, Frame, node_at, plug, flip, count}
 use Rattle.loc_rb.specs.Nodes.{Nodes, live, IsLive, Colours, Makes}
 use Rattle.loc_rb.specs.Balance.{IsBlackTop, MayHang, black, HasBlackHeight, MayBe, Awaits}
 use Rattle.loc_rb.specs.Places.{Spot, Holds, LeadsToGap}
 use Rattle.loc_rb.specs.Steps.{IsRedTop, ToRotate, Replaced, RedViolation, RedPair, OuterPair, CanTransplant}
-use Rattle.loc_rb.proofs.Trees.{inner, fits-end, node-row, plug-snoc, stays, Avoids-nil, count-plug, items-plug}
+use Rattle.loc_rb.proofs.Trees.{inner, fits-end, node-row, plug-snoc, stays, count-leaf, count-node_at, items-plug}
 use Rattle.loc_rb.proofs.OneChange.{pushed, popped, frame_of, has-row, SameButLinks-refl, no-frames, live-rows, is-live, none-or, in-row}
-use Rattle.loc_rb.proofs.Rotations.{to_turn, to-rotate, turned_tree, node_at-flip, flip-flip}
+use Rattle.loc_rb.proofs.Rotations.{Beside, beside-hung, to_turn, to-rotate, turned_tree, node_at-flip, flip-flip}
 use Rattle.loc_rb.proofs.Recolouring.{recolour-spot}
 use Rattle.loc_rb.proofs.Balanced.{balanced-join, may-hang, may-be-black, may-be-red, red-top-node_at, black-top-node_at, RedShape, red-shape, red-parts, red-join, red-blackened, zero-black, awaits-popped, awaits-above, awaits-alike, awaits-root, awaits-cut, holds-of, taken-by}
 use Rattle.loc_rb.proofs.ItemLists.{items-alike, items-under, items-turned, replaced-up, before-SameButLinks, after-SameButLinks}
@@ -61,10 +61,8 @@ pub pair-inner : (n m : Nodes) (ps' es : List (Link × Turn)) (up : Link) (side 
     → (o : RedPair n es up side at turn red L) → IsBlackTop o.uncle → (r : RedShape (flip turn) red o.tree)
     → Replaced m ps' (o.frames ++ frame_of (up, side) o.up_item Black o.uncle ∷ []) (turned_tree turn low high o.item r.item Red Red o.other r.near r.far) → OuterPair m ps' high L
 pair-inner n m ps' es up side at turn red low high L q o b r mv =
-    let k = replaced-up m ps' o.frames up side o.up_item Black o.uncle (turned_tree turn low high o.item r.item Red Red o.other r.near r.far) mv in
-    let back : flip turn ≡ side = ap flip q ∙ flip-flip side in
-    let P = node_at turn low r.near o.item Red o.other in
-    let parts = red-parts (flip turn) red o.tree o.height r o.balanced in
+    let k = replaced-up _ _ _ _ _ _ _ _ _ mv in let back : flip turn ≡ side = ap flip q ∙ flip-flip side in
+    let P = node_at turn low r.near o.item Red o.other in let parts = red-parts _ _ _ _ r o.balanced in
     record {
       above = k.above;
       up = k.up;
@@ -85,10 +83,7 @@ pair-inner n m ps' es up side at turn red low high L q o b r mv =
       uncle_balanced = o.uncle_balanced;
       uncle_black = b;
       list = subst (λ (t : Turn). items (plug k.frames (node_at side k.up (node_at t high P r.item Red r.far) o.up_item Black o.uncle)) ≡ L) back
-          (items-alike o.frames k.frames (node_at side up (node_at turn at o.tree o.item Red o.other) o.up_item Black o.uncle) (node_at side k.up (turned_tree turn low high o.item r.item Red Red o.other r.near r.far) o.up_item Black o.uncle) k.alike
-          (items-under side up k.up (node_at turn at o.tree o.item Red o.other) (turned_tree turn low high o.item r.item Red Red o.other r.near r.far) o.up_item Black Black o.uncle o.uncle
-          (items-turned turn at red low high o.item r.item Red Red Red Red o.other r.near r.far ∙ ap (λ t. items (node_at turn at t o.item Red o.other)) (sym r.is)) refl)
-          ∙ o.list);
+          (items-alike _ _ _ _ k.alike (items-under side up k.up _ _ _ _ _ _ _ (items-turned turn at red low high o.item r.item Red Red Red Red o.other r.near r.far ∙ ap (λ t. items (node_at turn at t o.item Red o.other)) (sym r.is)) refl) ∙ o.list);
     }
 
 -- the upper of the two red nodes is to rise over the black one
@@ -101,15 +96,9 @@ pair-rotation n ps middle L s =
 pub pair-rotated : (n m : Nodes) (ps qs : List (Link × Turn)) (middle low high : Link) (L : List ℕ) (s : OuterPair n ps middle L) → Replaced m qs s.frames (turned_tree s.side low high s.up_item s.item Red Black s.uncle s.inner s.outer) → Holds m L
 pair-rotated n m ps qs middle low high L s mv =
     let low_tree = node_at s.side low s.inner s.up_item Red s.uncle in
-    let T = node_at (flip s.side) high low_tree s.item Black s.outer in
     let low_balanced = red-join s.side low s.inner s.up_item s.uncle s.height s.inner_black s.uncle_black s.inner_balanced s.uncle_balanced in
-    holds-of m qs mv.0 T (1 + s.height) L mv.2 (awaits-alike s.frames mv.0 (1 + s.height) mv.1 s.awaits)
-    (may-hang s.awaits.parent (flip s.side) high low_tree s.item Black s.outer (may-be-black s.awaits.parent))
-    (balanced-join (flip s.side) high low_tree s.item Black s.outer s.height tt tt low_balanced s.outer_balanced)
-    (items-alike s.frames mv.0 (node_at s.side s.up (node_at s.side middle s.outer s.item Red s.inner) s.up_item Black s.uncle) T mv.1
-    (items-turned s.side s.up middle low high s.up_item s.item Black Red Red Black s.uncle s.inner s.outer
-    ∙ ap (λ t. items (node_at s.side s.up t s.up_item Black s.uncle)) (node_at-flip s.side middle s.inner s.item Red s.outer))
-    ∙ s.list)
+    holds-of _ _ _ (node_at (flip s.side) high low_tree s.item Black s.outer) (1 + s.height) _ mv.2 (awaits-alike _ _ _ mv.1 s.awaits) (may-hang s.awaits.parent _ _ _ _ _ _ (may-be-black _)) (balanced-join _ _ _ _ _ _ _ tt tt low_balanced s.outer_balanced)
+    (items-alike _ _ _ _ mv.1 (items-turned s.side s.up middle low high s.up_item s.item Black Red Red Black s.uncle s.inner s.outer ∙ ap (λ t. items (node_at s.side s.up t s.up_item Black s.uncle)) (node_at-flip s.side middle s.inner s.item Red s.outer)) ∙ s.list)
 
 -- a pop leaves the list as it is
 pub popped-list : (C D : List Frame) (at : Link) (turn : Turn) (t : Tree) (x : ℕ) (c : Colour) (o : Tree) (L : List ℕ) → C ≡ D ++ frame_of (at, turn) x c o ∷ [] → items (plug C t) ≡ L → items (plug D (node_at turn at t x c o)) ≡ L
@@ -124,22 +113,17 @@ violation-live n ps es at turn red L H q =
 -- where it is black, all is well
 pub violation-under-black : (n : Nodes) (ps es : List (Link × Turn)) (at : Link) (turn : Turn) (red : Link) (L : List ℕ) → RedViolation n ps red L → ps ≡ es ++ (at, turn) ∷ [] → ((y : Row) → n.rows at ≡ Some y → Black ≡ y.colour) → Holds n L
 violation-under-black n ps es at turn red L H q f =
-    let k = popped n ps es (at, turn) H.frames H.tree H.spot q in
-    let e = colour-is n turn at H.tree k.item k.colour Black k.other (fits-end (live n) k.front (node_at turn at H.tree k.item k.colour k.other) k.spot.fits) f in
-    let s = awaits-popped H.frames k.front (frame_of (at, turn) k.item k.colour k.other) H.height k.is H.awaits in
+    let k = popped n ps es (at, turn) H.frames H.tree H.spot q in let s = awaits-popped _ _ _ _ k.is H.awaits in
+    let e = colour-is n turn at H.tree k.item k.colour Black k.other (fits-end _ _ _ k.spot.fits) f in
     holds-of n ps H.frames H.tree H.height L H.spot H.awaits (subst (λ (z : Colour). MayHang z H.tree) (e ∙ sym s.same) tt) H.balanced H.list
 
 -- where it is the root, it becomes black
 pub violation-under-root : (n m : Nodes) (ps es : List (Link × Turn)) (at : Link) (turn : Turn) (red : Link) (L : List ℕ) → RedViolation n ps red L → ps ≡ es ++ (at, turn) ∷ [] → es ≡ [] → Colours n m at Black → Holds m L
 violation-under-root n m ps es at turn red L H q z d =
-    let k = popped n ps es (at, turn) H.frames H.tree H.spot q in
-    let s = awaits-popped H.frames k.front (frame_of (at, turn) k.item k.colour k.other) H.height k.is H.awaits in
+    let k = popped n ps es (at, turn) H.frames H.tree H.spot q in let s = awaits-popped _ _ _ _ k.is H.awaits in
     let T = node_at turn at H.tree k.item Black k.other in
-    holds-of m es k.front T (1 + H.height) L (recolour-spot n m es k.front turn at H.tree k.item k.colour Black k.other d k.spot)
-    (awaits-root k.front (1 + H.height) (no-frames k.front (k.spot.path ∙ z)))
-    (black-top-node_at turn at H.tree k.item k.other) (balanced-join turn at H.tree k.item Black k.other H.height tt tt H.balanced s.other_balanced)
-    (items-alike k.front k.front (node_at turn at H.tree k.item k.colour k.other) T (SameButLinks-refl k.front) (items-under turn at at H.tree H.tree k.item k.colour Black k.other k.other refl refl)
-    ∙ popped-list H.frames k.front at turn H.tree k.item k.colour k.other L k.is H.list)
+    holds-of m es k.front T (1 + H.height) L (recolour-spot _ _ _ _ _ _ _ _ _ _ _ d k.spot) (awaits-root k.front (1 + H.height) (no-frames k.front (k.spot.path ∙ z))) (black-top-node_at _ _ _ _ _) (balanced-join _ _ _ _ _ _ _ tt tt H.balanced s.other_balanced)
+    (items-alike _ _ _ _ (SameButLinks-refl k.front) (items-under turn at at _ _ _ _ _ _ _ refl refl) ∙ popped-list _ _ _ _ _ _ _ _ _ k.is H.list)
 
 -- where it is red, the node above it is black
 pub violation-pair : (n : Nodes) (ps es fs : List (Link × Turn)) (at : Link) (turn : Turn) (up : Link) (side : Turn) (red : Link) (L : List ℕ) → RedViolation n ps red L → ps ≡ es ++ (at, turn) ∷ [] → es ≡ fs ++ (up, side) ∷ []
@@ -213,44 +197,20 @@ red-live n ps red L H = red-top-live n red H.tree H.red_top (fits-end (live n) H
 pub violation-at-root : (n m : Nodes) (ps : List (Link × Turn)) (red : Link) (L : List ℕ) → RedViolation n ps red L → ps ≡ [] → Colours n m red Black → Holds m L
 violation-at-root n m ps red L H z d =
     let r = red-shape Left red H.tree H.red_top in
-    let T = node red r.near r.item Black r.far in
-    holds-of m ps H.frames T (1 + H.height) L
-    (recolour-spot n m ps H.frames Left red r.near r.item Red Black r.far d (subst (λ (t : Tree). Spot n ps H.frames t) r.is H.spot))
-    (awaits-root H.frames (1 + H.height) (no-frames H.frames (H.spot.path ∙ z))) tt (red-blackened Left red H.tree H.height r H.balanced)
-    (items-alike H.frames H.frames H.tree T (SameButLinks-refl H.frames) (ap items (sym r.is)) ∙ H.list)
+    holds-of m ps H.frames (node red r.near r.item Black r.far) (1 + H.height) L (recolour-spot n m ps H.frames Left red r.near r.item Red Black r.far d (subst (λ (t : Tree). Spot n ps H.frames t) r.is H.spot))
+    (awaits-root H.frames (1 + H.height) (no-frames H.frames (H.spot.path ∙ z))) tt (red-blackened _ _ _ _ r H.balanced) (items-alike _ _ _ _ (SameButLinks-refl H.frames) (ap items (sym r.is)) ∙ H.list)
 
 -- what the test of the uncle asks for
 pub uncle-fits : (n : Nodes) (es : List (Link × Turn)) (up : Link) (side : Turn) (at : Link) (turn : Turn) (red : Link) (L : List ℕ) (s : Turn) → (o : RedPair n es up side at turn red L) → s ≡ flip side → Fits (live n) (node_at s up o.uncle o.up_item Black (node_at turn at o.tree o.item Red o.other))
 uncle-fits n es up side at turn red L s o e =
     let X = node_at turn at o.tree o.item Red o.other in
-    subst (λ (t : Turn). Fits (live n) (node_at t up o.uncle o.up_item Black X)) (sym e)
-    (subst (λ (t : Tree). Fits (live n) t) (sym (node_at-flip side up o.uncle o.up_item Black X)) (fits-end (live n) o.frames (node_at side up X o.up_item Black o.uncle) o.spot.fits))
+    subst (λ (t : Tree). Fits (live n) t) (sym (ap (λ z. node_at z up o.uncle o.up_item Black X) e ∙ node_at-flip side up o.uncle o.up_item Black X)) (fits-end _ _ _ o.spot.fits)
 
 -- two pops and a test of the uncle lead to the pair, with what the test tells
 pub uncle-tested : (P : Tree → Type 0) (n : Nodes) (ps es fs : List (Link × Turn)) (at : Link) (turn : Turn) (up : Link) (side : Turn) (red : Link) (L : List ℕ) (s : Turn) → RedViolation n ps red L → ps ≡ es ++ (at, turn) ∷ [] → es ≡ fs ++ (up, side) ∷ []
     → ((y : Row) → n.rows at ≡ Some y → Red ≡ y.colour) → s ≡ flip side → ((t : Tree) (x : ℕ) (c : Colour) (other : Tree) → Fits (live n) (node_at s up t x c other) → P t) → (o : RedPair n fs up side at turn red L) × P o.uncle
 uncle-tested P n ps es fs at turn up side red L s H q r f e test =
     let o = violation-pair n ps es fs at turn up side red L H q r f in (o, test o.uncle o.up_item Black (node_at turn at o.tree o.item Red o.other) (uncle-fits n fs up side at turn red L s o e))
-
-make-live : (n m : Nodes) (item : ℕ) (c : Colour) (new : Link) → Makes n m item c new → (l : Link) (y : Row) → live n l ≡ Some y → live m l ≡ Some y
-make-live n m item c new d l y e =
-    let p = live-rows n l y e in let o : l ≢ new = λ q. (let r : None ≡ Some y = sym d.fresh ∙ ap n.rows (sym q) ∙ p.0 in cc) in
-    is-live m l y (d.others l o ∙ p.0) (d.others_current l o ∙ p.1)
-
-pub make-spot : (n m : Nodes) (item : ℕ) (c : Colour) (new : Link) (es : List (Link × Turn)) (C : List Frame) (t : Tree) → Makes n m item c new → Spot n es C t → Spot m es C t
-make-spot n m item c new es C t d sp = record {
-  path = sp.path;
-  fits = stays (live n) (live m) [] (λ l _ y e. make-live n m item c new d l y e) (plug C t) (Avoids-nil (plug C t)) sp.fits;
-  apart = sp.apart;
-  root = d.root ∙ sp.root;
-}
-
-pub make-fits : (n m : Nodes) (item : ℕ) (c : Colour) (new : Link) → Makes n m item c new → Fits (live m) (node new leaf item c leaf)
-make-fits n m item c new d = (is-live m new _ d.here d.current, tt, tt)
-
-new-count : (l new : Link) (item : ℕ) (c : Colour) → count l (node new leaf item c leaf) ≡ cond (same new l) 1 0
-unfolding count
-new-count l new item c = omega arith
 
 -- a new link stands nowhere in a tree
 pub new-nowhere : (n : Nodes) (new : Link) (t : Tree) → n.rows new ≡ None → Fits (live n) t → count new t ≡ 0
@@ -259,23 +219,22 @@ new-nowhere n new t f p = elim (none-or (count new t)) as (λ _. count new t ≡
   | inr z ↦ let r = has-row n new (in-row (live n) new t p z) in let q : None ≡ Some r.0 = sym f ∙ r.1 in cc
 ]
 
-new-apart : (n m : Nodes) (item : ℕ) (c : Colour) (new : Link) (es : List (Link × Turn)) (C : List Frame) → Makes n m item c new → Spot n es C leaf → IsApart (plug C (node new leaf item c leaf))
-new-apart n m item c new es C d sp l =
-    let p = count-plug l C (node new leaf item c leaf) in let q = count-plug l C leaf in let r = new-count l new item c in let a = sp.apart l in
-    (elim (same new l) as (λ b. same new l ≡ b → count l (plug C (node new leaf item c leaf)) ≤ 1) [
-      | true ↦ λ e. let z = subst (λ (i : Link). count i (plug C leaf) ≡ 0) (same-eq new l e) (new-nowhere n new (plug C leaf) d.fresh sp.fits) in
-          let w : ◌≡◌ {A = ℕ} (cond (same new l) 1 0) 1 = ap (λ b. cond b 1 0) e in omega (arith, p, q, r, z, w)
-      | false ↦ λ e. let w : ◌≡◌ {A = ℕ} (cond (same new l) 1 0) 0 = ap (λ b. cond b 1 0) e in omega (arith, p, q, r, a, w)
-    ]) refl
+-- a new node stands beside the tree
+pub new-beside : (n m : Nodes) (item : ℕ) (c : Colour) (new : Link) (es : List (Link × Turn)) (C : List Frame) (t : Tree) → Makes n m item c new → Spot n es C t → Beside m es C t new (node new leaf item c leaf) leaf
+new-beside n m item c new es C t d sp = record {
+  spot = record { path = sp.path; fits = stays (live n) (live m) (plug C t) (λ l _ y e. let p = live-rows n l y e in let o : l ≢ new = λ q. (let r : None ≡ Some y = sym d.fresh ∙ ap n.rows (sym q) ∙ p.0 in cc) in is-live m l y (d.others l o ∙ p.0) (d.others_current l o ∙ p.1)) sp.fits; apart = sp.apart; root = d.root ∙ sp.root };
+  fits = (is-live m new _ d.here d.current, tt, tt);
+  more_fits = tt;
+  apart = λ l. let k = count-leaf l in (elim (same new l) as (λ b. same new l ≡ b → cond b 1 0 + (count l (plug C t) + count l leaf) ≤ 1) [
+    | true ↦ λ e. let z = subst (λ (i : Link). count i (plug C t) ≡ 0) (same-eq new l e) (new-nowhere n new (plug C t) d.fresh sp.fits) in omega (arith, z, k)
+    | false ↦ λ e. let a = sp.apart l in omega (arith, a, k)
+  ]) refl;
+}
 
 -- the new node can hang at the gap
 pub can-insert : (n m : Nodes) (item : ℕ) (new : Link) (es : List (Link × Turn)) (L H : List ℕ) → Makes n m item Red new → (p : LeadsToGap n es L H) → CanTransplant m es p.frames leaf (node new leaf item Red leaf) (Some new)
-can-insert n m item new es L H d p = record {
-  spot = make-spot n m item Red new es p.frames leaf d p.spot;
-  fits = make-fits n m item Red new d;
-  apart = new-apart n m item Red new es p.frames d p.spot;
-  to = refl;
-}
+can-insert n m item new es L H d p =
+    beside-hung m es p.frames leaf new (node new leaf item Red leaf) leaf (new-beside n m item Red new es p.frames leaf d p.spot) (λ l. let i = count-node_at l Left new leaf item Red leaf in omega (arith, i)) refl
 
 -- the new red node hangs at the gap: only it may hang under a red one
 pub inserted : (n m : Nodes) (item : ℕ) (new : Link) (es ps : List (Link × Turn)) (L H : List ℕ) (p : LeadsToGap n es L H) → Replaced m ps p.frames (node new leaf item Red leaf) → RedViolation m ps new (L ++ item ∷ H)

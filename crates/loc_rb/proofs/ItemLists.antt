@@ -9,22 +9,16 @@ use Rattle.loc_rb.specs.Nodes.{Nodes}
 use Rattle.loc_rb.specs.Places.{Spot}
 use Rattle.loc_rb.specs.Steps.{Replaced}
 use Rattle.loc_rb.proofs.Trees.{items-plug}
-use Rattle.loc_rb.proofs.OneChange.{frame_of, entries-snoc, unpushed}
+use Rattle.loc_rb.proofs.OneChange.{alike-induction, frame_of, entries-snoc, unpushed}
 use Rattle.loc_rb.proofs.Rotations.{to_turn, turned_tree}
 
 -- links play no part in the items before
 pub before-SameButLinks : (C D : List Frame) → SameButLinks C D → before D ≡ before C
-before-SameButLinks [] [] s = refl
-before-SameButLinks [] (gr ∷ D) s = absurd s
-before-SameButLinks (fr ∷ C) [] s = absurd s
-before-SameButLinks (fr ∷ C) (gr ∷ D) s = λ i. lower (s.0 i) (s.1 i) (s.3 i) ++ before-SameButLinks C D s.4 i
+before-SameButLinks = alike-induction (λ C D. before D ≡ before C) refl (λ fr gr C D s h i. lower (s.0 i) (s.1 i) (s.3 i) ++ h i)
 
 -- nor in those after
 pub after-SameButLinks : (C D : List Frame) → SameButLinks C D → after D ≡ after C
-after-SameButLinks [] [] s = refl
-after-SameButLinks [] (gr ∷ D) s = absurd s
-after-SameButLinks (fr ∷ C) [] s = absurd s
-after-SameButLinks (fr ∷ C) (gr ∷ D) s = λ i. after-SameButLinks C D s.4 i ++ higher (s.0 i) (s.1 i) (s.3 i)
+after-SameButLinks = alike-induction (λ C D. after D ≡ after C) refl (λ fr gr C D s h i. h i ++ higher (s.0 i) (s.1 i) (s.3 i))
 
 -- the list depends on the items alone
 pub items-alike : (C D : List Frame) (t u : Tree) → SameButLinks C D → items u ≡ items t → items (plug D u) ≡ items (plug C t)
@@ -40,20 +34,13 @@ pub items-turned : (turn : Turn) (at child low high : Link) (x y : ℕ) (cx cy d
 items-turned Left at child low high x y cx cy dx dy a b d = sym (append_assoc (items d) (y ∷ items b) (x ∷ items a))
 items-turned Right at child low high x y cx cy dx dy a b d = append_assoc (items a) (x ∷ items b) (y ∷ items d)
 
--- frames like others that end with a frame
-pub record LastAlike (C : List Frame) (fr : Frame) (D : List Frame) : Type 0 where
-  pub front : List Frame
-  pub frame : Frame
-  pub is : D ≡ front ++ frame ∷ []
-  pub alike : SameButLinks C front
-  pub last : SameButLinks (fr ∷ []) (frame ∷ [])
-
-pub last-alike : (C : List Frame) (fr : Frame) (D : List Frame) → SameButLinks (C ++ fr ∷ []) D → LastAlike C fr D
+-- frames like others that end with a frame end with one like it
+pub last-alike : (C : List Frame) (fr : Frame) (D : List Frame) → SameButLinks (C ++ fr ∷ []) D → (F : List Frame) × (gr : Frame) × (D ≡ F ++ gr ∷ []) × SameButLinks C F × SameButLinks (fr ∷ []) (gr ∷ [])
 last-alike [] fr [] s = absurd s
-last-alike [] fr (gr ∷ []) s = record { front = []; frame = gr; is = refl; alike = tt; last = s }
+last-alike [] fr (gr ∷ []) s = ([], gr, refl, tt, s)
 last-alike [] fr (gr ∷ hr ∷ D) s = absurd s.4
 last-alike (kr ∷ C) fr [] s = absurd s
-last-alike (kr ∷ C) fr (gr ∷ D) s = let q = last-alike C fr D s.4 in record { front = gr ∷ q.front; frame = q.frame; is = ap (λ z. gr ∷ z) q.is; alike = (s.0, s.1, s.2, s.3, q.alike); last = q.last }
+last-alike (kr ∷ C) fr (gr ∷ D) s = let q = last-alike C fr D s.4 in (gr ∷ q.0, q.1, ap (λ z. gr ∷ z) q.2, (s.0, s.1, s.2, s.3, q.3), q.4)
 
 -- a moved path, seen above its last entry
 pub record ReplacedUp (n : Nodes) (ps : List (Link × Turn)) (C : List Frame) (side : Turn) (x : ℕ) (c : Colour) (other t : Tree) : Type 0 where
@@ -67,15 +54,15 @@ pub record ReplacedUp (n : Nodes) (ps : List (Link × Turn)) (C : List Frame) (s
 pub replaced-up : (n : Nodes) (ps : List (Link × Turn)) (C : List Frame) (l : Link) (side : Turn) (x : ℕ) (c : Colour) (other t : Tree) → Replaced n ps (C ++ frame_of (l, side) x c other ∷ []) t → ReplacedUp n ps C side x c other t
 replaced-up n ps C l side x c other t m =
     let k = last-alike C (frame_of (l, side) x c other) m.0 m.1 in
-    let gr = k.frame in
-    let sp = subst (λ (D : List Frame). Spot n ps D t) k.is m.2 in
-    let low = unpushed n ps (entries k.front) (gr.link, gr.turn) k.front t gr.item gr.colour gr.other sp refl in
-    let at = subst (λ (z : Turn × ℕ × Colour × Tree). Spot n (entries k.front) k.front (node_at z.0 gr.link t z.1 z.2 z.3)) (λ i. (k.last.0 i, k.last.1 i, k.last.2 i, k.last.3 i)) low in
+    let gr = k.1 in
+    let sp = subst (λ (D : List Frame). Spot n ps D t) k.2 m.2 in
+    let low = unpushed n ps (entries k.0) (gr.link, gr.turn) k.0 t gr.item gr.colour gr.other sp refl in
+    let at = subst (λ (z : Turn × ℕ × Colour × Tree). Spot n (entries k.0) k.0 (node_at z.0 gr.link t z.1 z.2 z.3)) (λ i. (k.4.0 i, k.4.1 i, k.4.2 i, k.4.3 i)) low in
     record {
-      above = entries k.front;
+      above = entries k.0;
       up = gr.link;
-      entry = sym sp.path ∙ entries-snoc k.front gr ∙ ap (λ z. entries k.front ++ (gr.link, z) ∷ []) k.last.0;
-      frames = k.front;
-      alike = k.alike;
+      entry = sym sp.path ∙ entries-snoc k.0 gr ∙ ap (λ z. entries k.0 ++ (gr.link, z) ∷ []) k.4.0;
+      frames = k.0;
+      alike = k.3;
       spot = at;
     }

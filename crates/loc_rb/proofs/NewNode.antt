@@ -1,148 +1,69 @@
 -- A new node takes the place of another.
-use Rattle.std.proofs.Common.{◌≡◌, ℕ, List, [], ◌∷◌, refl, sym, ap, ◌∙◌, subst, ◌+◌, ◌≤◌, arith, Some, None, Option, inr, cond, true, false}
-use Rattle.std.specs.Prelude.{◌≢◌}
-use Rattle.std.specs.List.{AllByRecursion}
+use Rattle.std.proofs.Common.{◌≡◌, ℕ, List, [], refl, sym, ap, ◌∙◌, subst, ◌+◌, ◌≤◌, arith, Some, None, Option, cond}
 use Rattle.loc_pool.specs.declared.Link.{Link}
 use Rattle.loc_pool.specs.declared.Turn.{Turn}
 use Rattle.loc_pool.specs.declared.Turn.TheVariants.{Left, Right}
 use Rattle.loc_pool.specs.declared.Colour.{Colour}
 use Rattle.loc_pool.specs.Same.{same}
-use Rattle.loc_pool.proofs.Same.{same-eq, same-refl}
-use Rattle.loc_rb.specs.Trees.{Row, Tree, leaf, node, top, Fits, Frame, node_at, plug, count, links_of, with_child, child_of}
+use Rattle.loc_rb.specs.Trees.{Row, Tree, leaf, node, Fits, node_at, plug, count, child_of}
 use Rattle.loc_rb.specs.Nodes.{Nodes, live, CanChange, Changes, Makes, Within, IsOld}
 use Rattle.loc_rb.specs.Places.{Spot}
 use Rattle.loc_rb.specs.Steps.{CanTransplant, NodeAt}
 use Rattle.loc_rb.proofs.ReadCalls.{child-is, colour-is}
-use Rattle.loc_rb.proofs.Trees.{count-leaf, stays, avoids-count, change-tree, node-row, count-plug, count-node_at, fits-end}
-use Rattle.loc_rb.proofs.OneChange.{occurs, by-link, others-live, apart-new, in-row, top-live}
-use Rattle.loc_rb.proofs.InsertionSteps.{make-spot, make-fits, new-nowhere}
-
-top-counts : (l : Link) (t : Tree) → top t ≡ Some l → 1 ≤ count l t
-unfolding count
-top-counts l leaf e = cc
-top-counts l (node m a x c b) e = let q : m ≡ l = cc in let z : ◌≡◌ {A = ℕ} (cond (same m l) 1 0) 1 = ap (λ i. cond (same i l) 1 0) q ∙ ap (λ i. cond i 1 0) (same-refl l) in omega (arith, z)
-
-not-root : (n : Nodes) (es : List (Link × Turn)) (C : List Frame) (t : Tree) (l : Link) → Spot n es C t → count l (plug C t) ≡ 0 → AllByRecursion (λ k. n.root ≢ Some k) (l ∷ [])
-not-root n es C t l sp z = ((λ e. (let o = top-counts l (plug C t) (sym sp.root ∙ e) in let q : ⊥ = omega (arith, o, z) in q)), tt)
-
--- a node that hangs under no other can be changed
-pub can-change-beside : (n : Nodes) (es : List (Link × Turn)) (C : List Frame) (t : Tree) (l : Link) (turn : Turn) (s v : Tree) (x : ℕ) (c : Colour) (other : Tree) (o : Option Link)
-    → Spot n es C t → count l (plug C t) ≡ 0 → Fits (live n) (node_at turn l s x c other) → Fits (live n) v → o ≡ top v → CanChange n [] l o
-can-change-beside n es C t l turn s v x c other o sp z f fv e = record {
-  leads = node-row (live n) turn l s x c other f;
-  once = (tt, tt);
-  from = inr (not-root n es C t l sp z);
-  to = top-live n v o fv e;
-}
-
-lone : (l k : Link) (m : ℕ) → (l ≡ k → m ≡ 0) → m ≤ 1 → occurs k (l ∷ []) + m ≤ 1
-unfolding occurs
-lone l k m h o = (elim (same l k) as (λ b. same l k ≡ b → (cond b 1 0 + 0) + m ≤ 1) [
-  | true ↦ λ e. let z = h (same-eq l k e) in omega (arith, z)
-  | false ↦ λ e. omega (arith, o)
-]) refl
-
-head-none : (r : Link) (ks : List Link) (m : ℕ) → occurs r (r ∷ ks) + m ≤ 1 → m ≡ 0
-unfolding occurs
-head-none r ks m h = let h' : (cond (same r r) 1 0 + occurs r ks) + m ≤ 1 = h in let z : ◌≡◌ {A = ℕ} (cond (same r r) 1 0) 1 = ap (λ i. cond i 1 0) (same-refl r) in omega (arith, h', z)
-
--- the tree stands as before, and beside it another one whose top r hangs under no node
-pub record Beside (m : Nodes) (es : List (Link × Turn)) (C : List Frame) (t : Tree) (r : Link) (u : Tree) : Type 0 where
-  pub spot : Spot m es C t
-  pub none : count r (plug C t) ≡ 0
-  pub fits : Fits (live m) u
-
--- a change of the tree beside leaves the tree as it is
-pub beside-changed : (n m : Nodes) (es es' : List (Link × Turn)) (C : List Frame) (t : Tree) (l r : Link) (turn : Turn) (s v : Tree) (x : ℕ) (c : Colour) (other : Tree) (o : Option Link)
-    → Spot n es C t → count l (plug C t) ≡ 0 → Fits (live n) (node_at turn l s x c other) → Fits (live n) v → count l v ≡ 0 → count l other ≡ 0 → o ≡ top v → Changes n m [] es' l r turn o
-    → Beside m es C t r (node_at turn r v x c other)
-beside-changed n m es es' C t l r turn s v x c other o sp z f fv zv zo e ch =
-    let oth : (k : Link) → AllByRecursion (λ j. k ≢ j) (l ∷ []) → (y : Row) → live n k ≡ Some y → live m k ≡ Some y = others-live n m [] es' l r turn o ch in
-    let R = λ (k : Link). count k (plug C t) in
-    let A = apart-new n m [] es' l r turn o R ch (λ k h. in-row (live n) k (plug C t) sp.fits h) (λ k. lone l k (count k (plug C t)) (λ q. subst (λ (i : Link). count i (plug C t) ≡ 0) q z) (sp.apart k)) in
-    record {
-      spot = record { path = sp.path; fits = stays (live n) (live m) (l ∷ []) oth (plug C t) (avoids-count (l ∷ []) (plug C t) (z, tt)) sp.fits; apart = sp.apart; root = ch.rows.other_root (not-root n es C t l sp z) ∙ sp.root };
-      none = head-none r (links_of es') (count r (plug C t)) (A r);
-      fits = (change-tree (live n) (live m) [] es' l r turn x c other s v (subst (λ (i : Option Link). (y : Row) → live n l ≡ Some y → live m r ≡ Some (with_child turn i y)) e ch.rows.here) ch.rows.above oth f tt
-          (avoids-count (l ∷ []) other (zo, tt)) (avoids-count (l ∷ []) v (zv, tt)) fv).0;
-    }
-
-parts-none : (l : Link) (C : List Frame) (at : Link) (a : Tree) (x : ℕ) (c : Colour) (b : Tree) → count l (plug C (node at a x c b)) ≡ 0 → (count l a ≡ 0) × (count l b ≡ 0)
-parts-none l C at a x c b z = let i = count-plug l C (node at a x c b) in let j = count-node_at l Left at a x c b in (omega (arith, i, j, z), omega (arith, i, j, z))
+use Rattle.loc_rb.proofs.Trees.{count-leaf, self-once, count-plug, count-node_at, inner, fits-end}
+use Rattle.loc_rb.proofs.OneChange.{by-link}
+use Rattle.loc_rb.proofs.Rotations.{Beside, can-change-beside, beside-changed, beside-hung}
+use Rattle.loc_rb.proofs.InsertionSteps.{new-beside}
 
 -- the tree of the node whose place is taken
 abbrev pub tree_at : (n : Nodes) (es : List (Link × Turn)) (at : Link) → NodeAt n es at → Tree
 tree_at n es at p = node at p.left p.item p.colour p.right
 
-pub node-fits : (n : Nodes) (es : List (Link × Turn)) (at : Link) (p : NodeAt n es at) → Fits (live n) (tree_at n es at p)
-node-fits n es at p = fits-end (live n) p.frames (tree_at n es at p) p.spot.fits
+-- the tree v of the other node, on a side
+pub side-fits : (n m : Nodes) (es : List (Link × Turn)) (at : Link) (p : NodeAt n es at) (turn : Turn) (v w : Tree) → tree_at n es at p ≡ node_at turn at v p.item p.colour w → Spot m es p.frames (tree_at n es at p) → Fits (live m) (node_at turn at v p.item p.colour w)
+side-fits n m es at p turn v w e sp = subst (λ (t : Tree). Fits (live m) t) e (fits-end (live m) p.frames (tree_at n es at p) sp.fits)
 
 -- the new node beside the tree, with these trees under it
 abbrev pub NewBeside : Nodes → (n : Nodes) (es : List (Link × Turn)) (at : Link) → NodeAt n es at → Link → ℕ → Tree → Tree → Type 0
-NewBeside m n es at p new item a b = Beside m es p.frames (tree_at n es at p) new (node new a item p.colour b)
+NewBeside m n es at p new item a b = Beside m es p.frames (tree_at n es at p) new (node new a item p.colour b) leaf
 
 -- it is bare at first
 pub new-bare : (n m : Nodes) (es : List (Link × Turn)) (at : Link) (p : NodeAt n es at) (item : ℕ) (k : Colour) (bare : Link) → Makes n m item k bare → ((y : Row) → n.rows at ≡ Some y → k ≡ y.colour) → NewBeside m n es at p bare item leaf leaf
 new-bare n m es at p item k bare d h =
+    subst (λ (z : Colour). Beside m es p.frames (tree_at n es at p) bare (node bare leaf item z leaf) leaf) (colour-is n Left at p.left p.item p.colour k p.right (side-fits n n es at p Left p.left p.right refl p.spot) h) (new-beside n m item k bare es p.frames (tree_at n es at p) d p.spot)
+
+-- the new node can take it
+pub can-take : (n m : Nodes) (es none : List (Link × Turn)) (at : Link) (p : NodeAt n es at) (item : ℕ) (new : Link) (turn : Turn) (s other v w : Tree) (o : Option Link) → tree_at n es at p ≡ node_at turn at v p.item p.colour w
+    → Beside m es p.frames (tree_at n es at p) new (node_at turn new s item p.colour other) leaf → none ≡ [] → ((y : Row) → n.rows at ≡ Some y → o ≡ child_of turn y) → CanChange m none new o
+can-take n m es none at p item new turn s other v w o e h z r =
+    can-change-beside m es none p.frames (tree_at n es at p) new turn s v item p.colour other leaf o h (inner (live m) turn at v p.item p.colour w (side-fits n m es at p turn v w e h.spot)).0
+    (child-is n turn at v p.item p.colour w o (side-fits n n es at p turn v w e p.spot) r) z
+
+-- and takes it
+pub taken : (n m k : Nodes) (es none none' : List (Link × Turn)) (at : Link) (p : NodeAt n es at) (item : ℕ) (new next : Link) (turn : Turn) (s other v w : Tree) (o : Option Link) → tree_at n es at p ≡ node_at turn at v p.item p.colour w
+    → Beside m es p.frames (tree_at n es at p) new (node_at turn new s item p.colour other) leaf → none ≡ [] → ((y : Row) → n.rows at ≡ Some y → o ≡ child_of turn y) → count new other ≤ count new w → Changes m k none none' new next turn o
+    → Beside k es p.frames (tree_at n es at p) next (node_at turn next v item p.colour other) leaf
+taken n m k es none none' at p item new next turn s other v w o e h z r less ch =
     let T = tree_at n es at p in
-    record {
-      spot = make-spot n m item k bare es p.frames T d p.spot;
-      none = new-nowhere n bare (plug p.frames T) d.fresh p.spot.fits;
-      fits = subst (λ (z : Colour). Fits (live m) (node bare leaf item z leaf)) (colour-is n Left at p.left p.item p.colour k p.right (node-fits n es at p) h) (make-fits n m item k bare d);
-    }
+    let zero_there : count new v + count new other ≡ 0 = (let a = h.apart new in let b = self-once new (count new (plug p.frames T) + count new leaf) in let i = count-plug new p.frames T in
+    let j : count new T ≡ cond (same at new) 1 0 + (count new v + count new w) = ap (count new) e ∙ count-node_at new turn at v p.item p.colour w in omega (arith, a, b, i, j, less)) in
+    beside-changed m k es none none' p.frames T new next turn s v item p.colour other leaf o h (inner (live m) turn at v p.item p.colour w (side-fits n m es at p turn v w e h.spot)).0 zero_there
+    (child-is n turn at v p.item p.colour w o (side-fits n n es at p turn v w e p.spot) r) z ch
 
--- it can take the left tree, and does
-pub can-left : (n m : Nodes) (es none : List (Link × Turn)) (at : Link) (p : NodeAt n es at) (item : ℕ) (bare : Link) (o : Option Link) → NewBeside m n es at p bare item leaf leaf → none ≡ [] → ((y : Row) → n.rows at ≡ Some y → o ≡ child_of Left y) → CanChange m none bare o
-can-left n m es none at p item bare o h z r =
-    subst (λ (i : List (Link × Turn)). CanChange m i bare o) (sym z)
-    (can-change-beside m es p.frames (tree_at n es at p) bare Left leaf p.left item p.colour leaf o h.spot h.none h.fits (fits-end (live m) p.frames (tree_at n es at p) h.spot.fits).1 (child-is n Left at p.left p.item p.colour p.right o (node-fits n es at p) r))
-
--- it has the left tree
-pub new-left : (n m k : Nodes) (es none none' : List (Link × Turn)) (at : Link) (p : NodeAt n es at) (item : ℕ) (bare half : Link) (o : Option Link) → NewBeside m n es at p bare item leaf leaf → none ≡ [] → ((y : Row) → n.rows at ≡ Some y → o ≡ child_of Left y)
-    → Changes m k none none' bare half Left o → NewBeside k n es at p half item p.left leaf
-new-left n m k es none none' at p item bare half o h z r ch =
-    let T = tree_at n es at p in let a = parts-none bare p.frames at p.left p.item p.colour p.right h.none in
-    beside-changed m k es none' p.frames T bare half Left leaf p.left item p.colour leaf o h.spot h.none h.fits (fits-end (live m) p.frames T h.spot.fits).1 a.0 (count-leaf bare)
-    (child-is n Left at p.left p.item p.colour p.right o (node-fits n es at p) r) (subst (λ (i : List (Link × Turn)). Changes m k i none' bare half Left o) z ch)
-
--- it can take the right tree, and does
-pub can-right : (n m : Nodes) (es none : List (Link × Turn)) (at : Link) (p : NodeAt n es at) (item : ℕ) (half : Link) (o : Option Link) → NewBeside m n es at p half item p.left leaf → none ≡ [] → ((y : Row) → n.rows at ≡ Some y → o ≡ child_of Right y) → CanChange m none half o
-can-right n m es none at p item half o h z r =
-    subst (λ (i : List (Link × Turn)). CanChange m i half o) (sym z)
-    (can-change-beside m es p.frames (tree_at n es at p) half Right leaf p.right item p.colour p.left o h.spot h.none h.fits (fits-end (live m) p.frames (tree_at n es at p) h.spot.fits).2 (child-is n Right at p.right p.item p.colour p.left o (node-fits n es at p) r))
-
--- it has both trees
-pub new-right : (n m k : Nodes) (es none none' : List (Link × Turn)) (at : Link) (p : NodeAt n es at) (item : ℕ) (half new : Link) (o : Option Link) → NewBeside m n es at p half item p.left leaf → none ≡ [] → ((y : Row) → n.rows at ≡ Some y → o ≡ child_of Right y)
-    → Changes m k none none' half new Right o → NewBeside k n es at p new item p.left p.right
-new-right n m k es none none' at p item half new o h z r ch =
-    let T = tree_at n es at p in let a = parts-none half p.frames at p.left p.item p.colour p.right h.none in
-    beside-changed m k es none' p.frames T half new Right leaf p.right item p.colour p.left o h.spot h.none h.fits (fits-end (live m) p.frames T h.spot.fits).2 a.1 a.0
-    (child-is n Right at p.right p.item p.colour p.left o (node-fits n es at p) r) (subst (λ (i : List (Link × Turn)). Changes m k i none' half new Right o) z ch)
-
--- and then it can take the place
-can-replace-at : (m : Nodes) (new : Link) (item : ℕ) (es : List (Link × Turn)) (C : List Frame) (at : Link) (a : Tree) (x : ℕ) (c : Colour) (b : Tree) → Beside m es C (node at a x c b) new (node new a item c b) → CanTransplant m es C (node at a x c b) (node new a item c b) (Some new)
-can-replace-at m new item es C at a x c b h = record {
-  spot = h.spot;
-  fits = h.fits;
-  to = refl;
-  apart = λ l. let i = count-plug l C (node at a x c b) in let j = count-node_at l Left at a x c b in let u = count-plug l C (node new a item c b) in let v = count-node_at l Left new a item c b in let s = h.spot.apart l in
-      (elim (same new l) as (λ k. same new l ≡ k → count l (plug C (node new a item c b)) ≤ 1) [
-        | true ↦ λ e. let z = subst (λ (k : Link). count k (plug C (node at a x c b)) ≡ 0) (same-eq new l e) h.none in let w : ◌≡◌ {A = ℕ} (cond (same new l) 1 0) 1 = ap (λ k. cond k 1 0) e in omega (arith, i, j, u, v, z, w)
-        | false ↦ λ e. let w : ◌≡◌ {A = ℕ} (cond (same new l) 1 0) 0 = ap (λ k. cond k 1 0) e in omega (arith, i, j, u, v, s, w)
-      ]) refl;
-}
-
--- the same, by the place
-pub can-replace : (n m : Nodes) (es : List (Link × Turn)) (at : Link) (p : NodeAt n es at) (item : ℕ) (new : Link) → NewBeside m n es at p new item p.left p.right → CanTransplant m es p.frames (tree_at n es at p) (node new p.left item p.colour p.right) (Some new)
-can-replace n m es at p item new h = can-replace-at m new item es p.frames at p.left p.item p.colour p.right h
+-- the left tree first
+pub left-taken : (n m k : Nodes) (es none none' : List (Link × Turn)) (at : Link) (p : NodeAt n es at) (item : ℕ) (c : Colour) (bare half : Link) (left : Option Link) → Makes n m item c bare → ((y : Row) → n.rows at ≡ Some y → c ≡ y.colour)
+    → none ≡ [] → ((y : Row) → n.rows at ≡ Some y → left ≡ child_of Left y) → Changes m k none none' bare half Left left → NewBeside k n es at p half item p.left leaf
+left-taken n m k es none none' at p item c bare half left makes its none_is left_is lefts =
+    taken n m k es none none' at p item bare half Left leaf leaf p.left p.right left refl (new-bare n m es at p item c bare makes its) none_is left_is (let z = count-leaf bare in omega (arith, z)) lefts
 
 -- the calls together: the new node with both trees can take the place
 pub new-placed : (n m k q : Nodes) (es none none' rest rest' : List (Link × Turn)) (at : Link) (p : NodeAt n es at) (item : ℕ) (c : Colour) (bare half new : Link) (left right : Option Link) → Makes n m item c bare → ((y : Row) → n.rows at ≡ Some y → c ≡ y.colour)
     → none ≡ [] → ((y : Row) → n.rows at ≡ Some y → left ≡ child_of Left y) → Changes m k none none' bare half Left left → rest ≡ [] → ((y : Row) → n.rows at ≡ Some y → right ≡ child_of Right y) → Changes k q rest rest' half new Right right
     → CanTransplant q es p.frames (tree_at n es at p) (node new p.left item p.colour p.right) (Some new)
 new-placed n m k q es none none' rest rest' at p item c bare half new left right makes its none_is left_is lefts rest_is right_is rights =
-    let h = new-left n m k es none none' at p item bare half left (new-bare n m es at p item c bare makes its) none_is left_is lefts in
-    can-replace n q es at p item new (new-right n k q es rest rest' at p item half new right h rest_is right_is rights)
+    let h = left-taken n m k es none none' at p item c bare half left makes its none_is left_is lefts in
+    beside-hung q es p.frames (tree_at n es at p) new (node new p.left item p.colour p.right) leaf (taken n k q es rest rest' at p item half new Right leaf p.left p.right p.left right refl h rest_is right_is (omega arith) rights)
+    (λ l. let i = count-node_at l Left at p.left p.item p.colour p.right in let j = count-node_at l Left new p.left item p.colour p.right in omega (arith, i, j)) refl
 
 -- one call of `make`, with an old item
 pub within-makes : (n m : Nodes) (item : ℕ) (k : Colour) (r : Link) → Makes n m item k r → IsOld n item → Within 1 0 n m

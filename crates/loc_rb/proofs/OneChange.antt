@@ -1,5 +1,5 @@
 -- What one change does to a tree that hangs at the newest root.
-use Rattle.std.proofs.Common.{◌≡◌, ℕ, zero, suc, List, [], ◌∷◌, ◌++◌, refl, sym, ap, ◌∙◌, subst, Option, Some, None, ◌+◌, ◌≤◌, ◌<◌, cond, true, false, arith, ◌⊎◌, inl, inr, Bool, length}
+use Rattle.std.proofs.Common.{◌≡◌, ℕ, zero, suc, List, [], ◌∷◌, ◌++◌, refl, sym, ap, ◌∙◌, subst, Option, Some, None, ◌+◌, ◌≤◌, ◌<◌, cond, true, false, arith, ◌⊎◌, inl, inr, length}
 use Rattle.std.specs.Prelude.{◌≢◌}
 use Rattle.std.specs.List.{AllByRecursion}
 use Rattle.loc_pool.specs.declared.Link.{Link}
@@ -7,36 +7,23 @@ use Rattle.loc_pool.specs.declared.Turn.{Turn}
 use Rattle.loc_pool.specs.declared.Turn.TheVariants.{Left, Right}
 use Rattle.loc_pool.specs.declared.Colour.{Colour}
 use Rattle.loc_pool.specs.Same.{same}
-use Rattle.loc_pool.proofs.Same.{same-refl, same-eq}
+use Rattle.loc_pool.proofs.Same.{same-eq}
 pub use Rattle.loc_pool.proofs.Same.{not-same, by-link, some-link}
 use Rattle.loc_rb.specs.Trees.{Row, Reading, Tree, leaf, node, top, Fits, Frame, node_at, under, plug, entries, links_of, next, Carried, SameButLinks, count, IsApart, child_of, Once, Leads}
-use Rattle.loc_rb.specs.Nodes.{Nodes, live, IsLive, IsLiveOrNone, HasRow, CanChange, Changes, Roots, StandFor, StandsFor}
+use Rattle.loc_rb.specs.Nodes.{Nodes, live, IsLive, IsLiveOrNone, HasRow, CanChange, Changes, Roots, StandFor}
 use Rattle.loc_rb.specs.Places.{Spot}
 use Rattle.loc_rb.specs.Steps.{Replaced, CanTransplant}
-use Rattle.loc_rb.proofs.Trees.{Avoids-nil, rename, change-tree, stays, fits-end, inner, top-node_at, node-row, count-node_at, count-plug, spine, sides, at-clear, twice, apart-all, split-last, plug-snoc}
-
-cond-some : (b : Bool) (o : Option Row) (x : Row) → cond b o None ≡ Some x → (o ≡ Some x) × (b ≡ true)
-cond-some true o x e = (e, refl)
-cond-some false o x e = cc
+use Rattle.loc_rb.proofs.Trees.{rename, change-tree, stays, fits-end, inner, top-node_at, node-row, occurs, sides, self-once, count-at, absent, split-last, plug-snoc}
+pub use Rattle.loc_rb.proofs.Trees.{entries-snoc}
 
 pub live-rows : (n : Nodes) (l : Link) (x : Row) → live n l ≡ Some x → (n.rows l ≡ Some x) × (n.current l ≡ true)
-live-rows n l x e = cond-some (n.current l) (n.rows l) x e
+live-rows n l x e = (elim (n.current l) as (λ b. cond b (n.rows l) None ≡ Some x → (n.rows l ≡ Some x) × (b ≡ true)) [ true ↦ λ q. (q, refl) | false ↦ λ q. cc ]) e
 
 pub is-live : (n : Nodes) (l : Link) (x : Row) → n.rows l ≡ Some x → n.current l ≡ true → live n l ≡ Some x
 is-live n l x e c = ap (λ b. cond b (n.rows l) None) c ∙ e
 
 pub has-row : (n : Nodes) (l : Link) → IsLive n l → HasRow n l
 has-row n l h = (h.0, (live-rows n l h.0 h.1).0)
-
--- how often a link stands in a list
-unfoldable pub occurs : Link → List Link → ℕ
-occurs l [] = 0
-occurs l (k ∷ ks) = cond (same k l) 1 0 + occurs l ks
-
-pub spine-occurs : (l : Link) (C : List Frame) → spine l C ≡ occurs l (links_of (entries C))
-unfolding spine occurs
-spine-occurs l [] = refl
-spine-occurs l (fr ∷ C) = ap (λ z. cond (same fr.link l) 1 0 + z) (spine-occurs l C)
 
 pub occurs-not : (l : Link) (ks : List Link) → AllByRecursion (λ k. l ≢ k) ks → occurs l ks ≡ 0
 unfolding occurs
@@ -51,49 +38,28 @@ once-occurs l (k ∷ ks) o = (elim (same k l) as (λ b. same k l ≡ b → cond 
   | false ↦ λ e. let r = once-occurs l ks o.1 in omega (arith, r)
 ]) refl
 
-occurs-all : (ks : List Link) → AllByRecursion (λ m. 1 ≤ occurs m ks) ks
-unfolding occurs
-occurs-all [] = tt
-occurs-all (k ∷ ks) = (
-  let e : cond (same k k) 1 0 + occurs k ks ≡ 1 + occurs k ks = ap (λ b. cond b 1 0 + occurs k ks) (same-refl k) in omega (arith, e),
-  apart-all (λ m. 1 ≤ occurs m ks) (λ m. 1 ≤ cond (same k m) 1 0 + occurs m ks) (λ m h. omega (arith, h)) ks (occurs-all ks),
-)
-
 pub occurs-once : (ks : List Link) → ((l : Link) → occurs l ks ≤ 1) → Once ks
 unfolding occurs
 occurs-once [] h = tt
 occurs-once (k ∷ ks) h = (
-  apart-all (λ m. 1 ≤ occurs m ks) (λ m. k ≢ m) (λ m o. twice k m (occurs m ks) (h m) o) ks (occurs-all ks),
+  absent k ks (let z : cond (same k k) 1 0 + occurs k ks ≤ 1 = h k in let e = self-once k (occurs k ks) in omega (arith, z, e)),
   occurs-once ks (λ l. let z : cond (same k l) 1 0 + occurs l ks ≤ 1 = h l in omega (arith, z)),
 )
 
--- a link with a row is none of the new ones
-not-one : (n : Nodes) (l k k' : Link) (x : Row) → n.rows l ≡ Some x → StandsFor n k k' → l ≢ k → l ≢ k'
-not-one n l k k' x e s d = λ q. (elim s as (λ _. ⊥) [
-  | inl i ↦ d (q ∙ i)
-  | inr i ↦ let r : None ≡ Some x = sym i ∙ ap n.rows (sym q) ∙ e in cc
-])
-
--- nor one of those that stand for others
-pub not-new : (n : Nodes) (l : Link) (x : Row) → n.rows l ≡ Some x → (ks ks' : List Link) → StandFor n ks ks' → AllByRecursion (λ k. l ≢ k) ks → AllByRecursion (λ k. l ≢ k) ks'
-not-new n l x e [] [] s a = tt
-not-new n l x e [] (k' ∷ ks') s a = absurd s
-not-new n l x e (k ∷ ks) [] s a = absurd s
-not-new n l x e (k ∷ ks) (k' ∷ ks') s a = (not-one n l k k' x e s.0 a.0, not-new n l x e ks ks' s.1 a.1)
-
--- nor does it stand more often among them
-fewer-one : (n : Nodes) (l k k' : Link) (x : Row) → n.rows l ≡ Some x → StandsFor n k k' → cond (same k' l) 1 0 ≤ cond (same k l) 1 0
-fewer-one n l k k' x e s = elim s as (λ _. cond (same k' l) 1 0 ≤ cond (same k l) 1 0) [
-  | inl i ↦ let q : ◌≡◌ {A = ℕ} (cond (same k' l) 1 0) (cond (same k l) 1 0) = ap (λ m. cond (same m l) 1 0) i in omega (arith, q)
-  | inr i ↦ let q : ◌≡◌ {A = ℕ} (cond (same k' l) 1 0) 0 = ap (λ b. cond b 1 0) (not-same k' l (λ z. let r : None ≡ Some x = sym i ∙ ap n.rows z ∙ e in cc)) in omega (arith, q)
-]
-
+-- a link with a row stands no more often among those that stand for others
 fewer : (n : Nodes) (l : Link) (x : Row) → n.rows l ≡ Some x → (ks ks' : List Link) → StandFor n ks ks' → occurs l ks' ≤ occurs l ks
 unfolding occurs
 fewer n l x e [] [] s = omega arith
 fewer n l x e [] (k' ∷ ks') s = absurd s
 fewer n l x e (k ∷ ks) [] s = absurd s
-fewer n l x e (k ∷ ks) (k' ∷ ks') s = let p = fewer-one n l k k' x e s.0 in let q = fewer n l x e ks ks' s.1 in omega (arith, p, q)
+fewer n l x e (k ∷ ks) (k' ∷ ks') s = let r = fewer n l x e ks ks' s.1 in elim s.0 as (λ _. cond (same k' l) 1 0 + occurs l ks' ≤ cond (same k l) 1 0 + occurs l ks) [
+  | inl i ↦ let q : ◌≡◌ {A = ℕ} (cond (same k' l) 1 0) (cond (same k l) 1 0) = ap (λ m. cond (same m l) 1 0) i in omega (arith, q, r)
+  | inr i ↦ let q : ◌≡◌ {A = ℕ} (cond (same k' l) 1 0) 0 = ap (λ b. cond b 1 0) (not-same k' l (λ z. let r : None ≡ Some x = sym i ∙ ap n.rows z ∙ e in cc)) in omega (arith, q, r)
+]
+
+-- nor among them where it was none of the others
+pub not-new : (n : Nodes) (l : Link) (x : Row) → n.rows l ≡ Some x → (ks ks' : List Link) → StandFor n ks ks' → AllByRecursion (λ k. l ≢ k) ks → AllByRecursion (λ k. l ≢ k) ks'
+not-new n l x e ks ks' s a = absent l ks' (let z = occurs-not l ks a in let q = fewer n l x e ks ks' s in omega (arith, z, q))
 
 pub none-or : (i : ℕ) → (i ≡ 0) ⊎ (1 ≤ i)
 none-or zero = inl refl
@@ -111,17 +77,14 @@ apart-new n m es es' at r turn to R d live_R apart l = elim (none-or (R l)) as (
   | inr z ↦ let h = has-row n l (live_R l z) in let q = fewer n l h.0 h.1 (at ∷ links_of es) (r ∷ links_of es') d.rows.stand_for in let a = apart l in omega (arith, q, a)
 ]
 
-in-row-node : (f : Reading) (l k : Link) (s t : Tree) → (y : Row) × (f k ≡ Some y) → (1 ≤ count l s → (y : Row) × (f l ≡ Some y)) → (1 ≤ count l t → (y : Row) × (f l ≡ Some y)) → 1 ≤ cond (same k l) 1 0 + (count l s + count l t) → (y : Row) × (f l ≡ Some y)
-in-row-node f l k s t here left right = (elim (same k l) as (λ b. same k l ≡ b → 1 ≤ cond b 1 0 + (count l s + count l t) → (y : Row) × (f l ≡ Some y)) [
-  | true ↦ λ e _. subst (λ (m : Link). (y : Row) × (f m ≡ Some y)) (same-eq k l e) here
-  | false ↦ λ e h. elim (either-one (count l s) (count l t) (omega (arith, h))) as (λ _. (y : Row) × (f l ≡ Some y)) [ inl z ↦ left z | inr z ↦ right z ]
-]) refl
-
 -- a link that stands in a tree has a row
 pub in-row : (f : Reading) (l : Link) (t : Tree) → Fits f t → 1 ≤ count l t → (y : Row) × (f l ≡ Some y)
 unfolding count
 in-row f l leaf p h = let z : 1 ≤ 0 = h in absurd (let q : ⊥ = omega (arith, z) in q)
-in-row f l (node k a x c b) p h = in-row-node f l k a b (_, p.0) (in-row f l a p.1) (in-row f l b p.2) h
+in-row f l (node k a x c b) p h =
+    by-link ((y : Row) × (f l ≡ Some y)) k l (λ q. (_, ap f (sym q) ∙ p.0))
+    (λ d. let z : ◌≡◌ {A = ℕ} (cond (same k l) 1 0) 0 = ap (λ i. cond i 1 0) (not-same k l d) in let o : 1 ≤ cond (same k l) 1 0 + (count l a + count l b) = h in
+    elim (either-one (count l a) (count l b) (omega (arith, o, z))) as (λ _. (y : Row) × (f l ≡ Some y)) [ inl i ↦ in-row f l a p.1 i | inr i ↦ in-row f l b p.2 i ])
 
 -- a live link that is not on the path stays live
 pub others-live : (n m : Nodes) (es es' : List (Link × Turn)) (at r : Link) (turn : Turn) (to : Option Link) → Changes n m es es' at r turn to
@@ -129,13 +92,6 @@ pub others-live : (n m : Nodes) (es es' : List (Link × Turn)) (at r : Link) (tu
 others-live n m es es' at r turn to d l a y e =
     let p = live-rows n l y e in
     is-live m l y (d.rows.others l (not-new n l y p.0 (at ∷ links_of es) (r ∷ links_of es') d.rows.stand_for a) y p.0) (d.rows.current l a p.1)
-
--- a carried path has the same frames but for the links
-pub SameButLinks-rename : (f g : Reading) (C : List Frame) (es : List (Link × Turn)) (r : Link) → Carried f g (entries C) es r → SameButLinks C (rename C es)
-SameButLinks-rename f g [] [] r k = tt
-SameButLinks-rename f g [] (e ∷ es) r k = absurd k
-SameButLinks-rename f g (fr ∷ C) [] r k = absurd k
-SameButLinks-rename f g (fr ∷ C) (e ∷ es) r k = (refl, refl, refl, refl, SameButLinks-rename f g C es r k.2)
 
 pub SameButLinks-refl : (C : List Frame) → SameButLinks C C
 SameButLinks-refl [] = tt
@@ -149,93 +105,73 @@ SameButLinks-trans (fr ∷ C) [] E p q = absurd p
 SameButLinks-trans (fr ∷ C) (gr ∷ D) [] p q = absurd q
 SameButLinks-trans (fr ∷ C) (gr ∷ D) (hr ∷ E) p q = (q.0 ∙ p.0, q.1 ∙ p.1, q.2 ∙ p.2, q.3 ∙ p.3, SameButLinks-trans C D E p.4 q.4)
 
+-- what holds of no frames, and of one pair more that is the same but for its links, holds of frames that are so
+pub alike-induction : (P : List Frame → List Frame → Type 0) → P [] [] → ((fr gr : Frame) (C D : List Frame) → SameButLinks (fr ∷ C) (gr ∷ D) → P C D → P (fr ∷ C) (gr ∷ D)) → (C D : List Frame) → SameButLinks C D → P C D
+alike-induction P z s [] [] p = z
+alike-induction P z s [] (gr ∷ D) p = absurd p
+alike-induction P z s (fr ∷ C) [] p = absurd p
+alike-induction P z s (fr ∷ C) (gr ∷ D) p = s fr gr C D p (alike-induction P z s C D p.4)
+
 pub SameButLinks-snoc : (C D : List Frame) (fr gr : Frame) → SameButLinks C D → SameButLinks (fr ∷ []) (gr ∷ []) → SameButLinks (C ++ fr ∷ []) (D ++ gr ∷ [])
-SameButLinks-snoc [] [] fr gr p q = q
-SameButLinks-snoc [] (hr ∷ D) fr gr p q = absurd p
-SameButLinks-snoc (hr ∷ C) [] fr gr p q = absurd p
-SameButLinks-snoc (hr ∷ C) (kr ∷ D) fr gr p q = (p.0, p.1, p.2, p.3, SameButLinks-snoc C D fr gr p.4 q)
+SameButLinks-snoc C D fr gr p q = alike-induction (λ F G. SameButLinks (F ++ fr ∷ []) (G ++ gr ∷ [])) q (λ hr kr F G s h. (s.0, s.1, s.2, s.3, h)) C D p
 
 pub sides-SameButLinks : (l : Link) (C D : List Frame) → SameButLinks C D → sides l D ≡ sides l C
 unfolding sides
-sides-SameButLinks l [] [] p = refl
-sides-SameButLinks l [] (gr ∷ D) p = absurd p
-sides-SameButLinks l (fr ∷ C) [] p = absurd p
-sides-SameButLinks l (fr ∷ C) (gr ∷ D) p = let a : count l gr.other ≡ count l fr.other = ap (count l) p.3 in let b = sides-SameButLinks l C D p.4 in omega (arith, a, b)
-
--- how often a link stands in a whole tree, by its parts
-pub count-at : (l : Link) (C : List Frame) (turn : Turn) (at : Link) (t : Tree) (x : ℕ) (c : Colour) (other : Tree)
-    → count l (plug C (node_at turn at t x c other)) ≡ occurs l (at ∷ links_of (entries C)) + (sides l C + (count l t + count l other))
-unfolding occurs
-count-at l C turn at t x c other =
-    let p = count-plug l C (node_at turn at t x c other) in let q = count-node_at l turn at t x c other in let r = spine-occurs l C in omega (arith, p, q, r)
+sides-SameButLinks l = alike-induction (λ C D. sides l D ≡ sides l C) refl (λ fr gr C D s h. (let a : count l gr.other ≡ count l fr.other = ap (count l) s.3 in omega (arith, a, h)))
 
 pub top-plug : (C : List Frame) (t : Tree) (at : Link) → top t ≡ Some at → top (plug C t) ≡ Some (next (entries C) at)
 top-plug [] t at e = e
 top-plug (fr ∷ C) t at e = top-node_at fr.turn fr.link (plug C t) fr.item fr.colour fr.other
 
-child-replaced-by : (n m : Nodes) (es' : List (Link × Turn)) (at r : Link) (turn : Turn) (C : List Frame) (x : ℕ) (c : Colour) (other s v : Tree)
-    → Changes n m (entries C) es' at r turn (top v) → Spot n (entries C) C (node_at turn at s x c other) → Fits (live n) v → IsApart (plug C (node_at turn at v x c other))
+-- what one change does: v hangs in the place of s
+pub child-replaced : (n m : Nodes) (es es' : List (Link × Turn)) (at r : Link) (turn : Turn) (to : Option Link) (C : List Frame) (x : ℕ) (c : Colour) (other s v : Tree)
+    → Changes n m es es' at r turn to → Spot n es C (node_at turn at s x c other) → to ≡ top v → Fits (live n) v → IsApart (plug C (node_at turn at v x c other))
     → Replaced m es' C (node_at turn r v x c other)
-child-replaced-by n m es' at r turn C x c other s v d sp q apart =
-    let es = entries C in let D = rename C es' in
-    let T = node_at turn at s x c other in
-    let clear = at-clear C turn at v x c other apart in
-    let on = change-tree (live n) (live m) C es' at r turn x c other s v d.rows.here d.rows.above (others-live n m es es' at r turn (top v) d) sp.fits clear.0 clear.1 clear.2 q in
+child-replaced n m es es' at r turn to C x c other s v given sp e q apart =
+    let d : Changes n m (entries C) es' at r turn (top v) = subst (λ (z : List (Link × Turn) × Option Link). Changes n m z.0 es' at r turn z.1) (λ i. (sym sp.path i, e i)) given in
+    let D = rename C es' in let T = node_at turn at s x c other in
+    let kept : (l : Link) → 1 ≤ sides l C + (count l v + count l other) → (y : Row) → live n l ≡ Some y → live m l ≡ Some y = λ l o.
+    others-live n m (entries C) es' at r turn (top v) d l (absent l (at ∷ links_of (entries C)) (let k = count-at l C turn at v x c other in let a = apart l in omega (arith, k, a, o))) in
+    let on = change-tree (live n) (live m) C es' at r turn x c other s v d.rows.here d.rows.above kept sp.fits q in
     let R : Link → ℕ = λ l. sides l C + (count l v + count l other) in
-    let alike = SameButLinks-rename (live n) (live m) C es' r d.rows.above in
     let live_R : (l : Link) → 1 ≤ R l → IsLive n l = λ l h.
     elim (none-or (count l v)) as (λ _. IsLive n l) [
       | inl z ↦ let k = count-at l C turn at s x c other in in-row (live n) l (plug C T) sp.fits (let h' : 1 ≤ sides l C + (count l v + count l other) = h in omega (arith, z, k, h'))
       | inr z ↦ in-row (live n) l v q z
     ] in
-    let A = apart-new n m es es' at r turn (top v) R d live_R (λ l. let k = count-at l C turn at v x c other in let a = apart l in omega (arith, k, a)) in (
+    let A = apart-new n m (entries C) es' at r turn (top v) R d live_R (λ l. let k = count-at l C turn at v x c other in let a = apart l in omega (arith, k, a)) in (
       D,
-      alike,
+      on.3,
       record {
         path = on.2;
         fits = on.0;
-        apart = λ l. let k = count-at l D turn r v x c other in let a : occurs l (r ∷ links_of es') + (sides l C + (count l v + count l other)) ≤ 1 = A l in let i = sides-SameButLinks l C D alike in
+        apart = λ l. let k = count-at l D turn r v x c other in let a : occurs l (r ∷ links_of es') + (sides l C + (count l v + count l other)) ≤ 1 = A l in let i = sides-SameButLinks l C D on.3 in
             let j : occurs l (r ∷ links_of (entries D)) ≡ occurs l (r ∷ links_of es') = ap (λ (z : List (Link × Turn)). occurs l (r ∷ links_of z)) on.2 in omega (arith, k, a, i, j);
         root = d.rows.from_root (sp.root ∙ top-plug C T at (top-node_at turn at s x c other)) ∙ sym on.1;
       },
     )
 
--- what one change does: v hangs in the place of s
-pub child-replaced : (n m : Nodes) (es es' : List (Link × Turn)) (at r : Link) (turn : Turn) (to : Option Link) (C : List Frame) (x : ℕ) (c : Colour) (other s v : Tree)
-    → Changes n m es es' at r turn to → Spot n es C (node_at turn at s x c other) → to ≡ top v → Fits (live n) v → IsApart (plug C (node_at turn at v x c other))
-    → Replaced m es' C (node_at turn r v x c other)
-child-replaced n m es es' at r turn to C x c other s v d sp e q apart =
-    child-replaced-by n m es' at r turn C x c other s v
-    (subst (λ (z : List (Link × Turn) × Option Link). Changes n m z.0 es' at r turn z.1) (λ i. (sym sp.path i, e i)) d)
-    (record { path = refl; fits = sp.fits; apart = sp.apart; root = sp.root }) q apart
-
 pub node-child : (f : Reading) (turn : Turn) (l : Link) (t : Tree) (x : ℕ) (c : Colour) (other : Tree) → Fits f (node_at turn l t x c other) → (y : Row) × (f l ≡ Some y) × (child_of turn y ≡ top t)
 node-child f Left l t x c other p = (_, p.0, refl)
 node-child f Right l t x c other p = (_, p.0, refl)
 
-leads-of : (f : Reading) (C : List Frame) (t : Tree) (at : Link) → Fits f (plug C t) → top t ≡ Some at → (y : Row) × (f at ≡ Some y) → Leads f (entries C) at
+pub leads-of : (f : Reading) (C : List Frame) (t : Tree) (at : Link) → Fits f (plug C t) → top t ≡ Some at → (y : Row) × (f at ≡ Some y) → Leads f (entries C) at
 leads-of f [] t at p e h = h
 leads-of f (fr ∷ C) t at p e h =
     let k = node-child f fr.turn fr.link (plug C t) fr.item fr.colour fr.other p in
     ((k.0, k.1, k.2 ∙ top-plug C t at e), leads-of f C t at (inner f fr.turn fr.link (plug C t) fr.item fr.colour fr.other p).0 e h)
 
 -- a node of the tree can be changed
-can-change-by : (n : Nodes) (C : List Frame) (turn : Turn) (at : Link) (s : Tree) (x : ℕ) (c : Colour) (other : Tree) (o : Option Link)
-    → Spot n (entries C) C (node_at turn at s x c other) → IsLiveOrNone n o → CanChange n (entries C) at o
-can-change-by n C turn at s x c other o sp t =
+pub can-change : (n : Nodes) (es : List (Link × Turn)) (C : List Frame) (turn : Turn) (at : Link) (s : Tree) (x : ℕ) (c : Colour) (other : Tree) (o : Option Link)
+    → Spot n es C (node_at turn at s x c other) → IsLiveOrNone n o → CanChange n es at o
+can-change n es C turn at s x c other o sp t =
     let T = node_at turn at s x c other in let e = top-node_at turn at s x c other in
-    record {
+    subst (λ (z : List (Link × Turn)). CanChange n z at o) sp.path (record {
       leads = leads-of (live n) C T at sp.fits e (node-row (live n) turn at s x c other (fits-end (live n) C T sp.fits));
       once = occurs-once (at ∷ links_of (entries C)) (λ l. let k = count-at l C turn at s x c other in let a = sp.apart l in omega (arith, k, a));
       from = inl (sp.root ∙ top-plug C T at e);
       to = t;
-    }
-
--- the same by the path
-pub can-change : (n : Nodes) (es : List (Link × Turn)) (C : List Frame) (turn : Turn) (at : Link) (s : Tree) (x : ℕ) (c : Colour) (other : Tree) (o : Option Link)
-    → Spot n es C (node_at turn at s x c other) → IsLiveOrNone n o → CanChange n es at o
-can-change n es C turn at s x c other o sp t =
-    subst (λ (z : List (Link × Turn)). CanChange n z at o) sp.path (can-change-by n C turn at s x c other o (record { path = refl; fits = sp.fits; apart = sp.apart; root = sp.root }) t)
+    })
 
 pub top-live : (n : Nodes) (v : Tree) (o : Option Link) → Fits (live n) v → o ≡ top v → IsLiveOrNone n o
 top-live n leaf o p e = λ l q. let r : None ≡ Some l = sym e ∙ q in cc
@@ -265,15 +201,11 @@ unpushed n ps es e C t x c other sp q = let fr = frame_of e x c other in spot-by
 -- the last entry comes off a path
 pub popped : (n : Nodes) (ps es : List (Link × Turn)) (e : Link × Turn) (C : List Frame) (t : Tree) → Spot n ps C t → ps ≡ es ++ e ∷ [] → Popped n es e C t
 popped n ps es e C t sp q =
-    let k = split-last C es e (sp.path ∙ q) in let fr = k.frame in
-    let F : Link × Turn → Type 0 = λ d. (C ≡ k.front ++ frame_of d fr.item fr.colour fr.other ∷ []) × Spot n es k.front (node_at d.1 d.0 t fr.item fr.colour fr.other) in
-    let there : F (fr.link, fr.turn) = (k.is, spot-by n ps es C k.front t (under fr t) (ap (λ D. plug D t) k.is ∙ plug-snoc k.front fr t) k.remaining sp) in
-    let r = subst F k.entry there in
-    record { front = k.front; item = fr.item; colour = fr.colour; other = fr.other; is = r.0; spot = r.1 }
-
-pub entries-snoc : (C : List Frame) (fr : Frame) → entries (C ++ fr ∷ []) ≡ entries C ++ (fr.link, fr.turn) ∷ []
-entries-snoc [] fr = refl
-entries-snoc (gr ∷ C) fr = ap (λ z. (gr.link, gr.turn) ∷ z) (entries-snoc C fr)
+    let k = split-last C es e (sp.path ∙ q) in let fr = k.1 in
+    let F : Link × Turn → Type 0 = λ d. (C ≡ k.0 ++ frame_of d fr.item fr.colour fr.other ∷ []) × Spot n es k.0 (node_at d.1 d.0 t fr.item fr.colour fr.other) in
+    let there : F (fr.link, fr.turn) = (k.2, spot-by n ps es C k.0 t (under fr t) (ap (λ D. plug D t) k.2 ∙ plug-snoc k.0 fr t) k.4 sp) in
+    let r = subst F k.3 there in
+    record { front = k.0; item = fr.item; colour = fr.colour; other = fr.other; is = r.0; spot = r.1 }
 
 -- a path with one more entry
 pub pushed : (n : Nodes) (es : List (Link × Turn)) (e : Link × Turn) (C : List Frame) (t : Tree) (x : ℕ) (c : Colour) (other : Tree) → Spot n es C (node_at e.1 e.0 t x c other) → Spot n (es ++ e ∷ []) (C ++ frame_of e x c other ∷ []) t
@@ -297,18 +229,16 @@ no-frames [] e = refl
 no-frames (fr ∷ C) e = cc
 
 -- the whole tree is exchanged
-pub root-put : (n m : Nodes) (C : List Frame) (s v : Tree) (o : Option Link) → CanTransplant n [] C s v o → Roots n m o → Replaced m [] C v
-root-put n m C s v o h d =
-    let e = no-frames C h.spot.path in
-    let l : (k : Link) → live n k ≡ live m k = λ k i. cond (sym (d.current k) i) (sym (d.rows k) i) None in
-    subst (λ (D : List Frame). Replaced m [] D v) (sym e) (
-      [],
-      tt,
+pub root-put : (n m : Nodes) (ps es : List (Link × Turn)) (C : List Frame) (s v : Tree) (o : Option Link) → ps ≡ [] → es ≡ [] → CanTransplant n ps C s v o → Roots n m o → Replaced m es C v
+root-put n m ps es C s v o z w h d =
+    let e = sym (no-frames C (h.spot.path ∙ z)) in let l : (k : Link) → live n k ≡ live m k = λ k i. cond (sym (d.current k) i) (sym (d.rows k) i) None in (
+      C,
+      SameButLinks-refl C,
       record {
-        path = refl;
-        fits = stays (live n) (live m) [] (λ k _ y q. sym (l k) ∙ q) v (Avoids-nil v) h.fits;
-        apart = subst (λ (D : List Frame). IsApart (plug D v)) e h.apart;
-        root = d.root ∙ h.to;
+        path = h.spot.path ∙ z ∙ sym w;
+        fits = subst (λ (D : List Frame). Fits (live m) (plug D v)) e (stays (live n) (live m) v (λ k _ y q. sym (l k) ∙ q) h.fits);
+        apart = h.apart;
+        root = d.root ∙ h.to ∙ ap (λ (D : List Frame). top (plug D v)) e;
       },
     )
 

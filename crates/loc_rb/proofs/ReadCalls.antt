@@ -1,5 +1,5 @@
 -- What the reading calls tell of a tree.
-use Rattle.std.proofs.Common.{◌≡◌, ℕ, refl, sym, ap, ◌∙◌, Option, Some, None}
+use Rattle.std.proofs.Common.{◌≡◌, ℕ, refl, sym, ◌∙◌, Option, Some, None, subst}
 use Rattle.loc_pool.specs.declared.Link.{Link}
 use Rattle.loc_pool.specs.declared.Turn.{Turn}
 use Rattle.loc_pool.specs.declared.Turn.TheVariants.{Left, Right}
@@ -10,7 +10,8 @@ use Rattle.loc_rb.specs.Nodes.{Nodes, live, HasRow}
 use Rattle.loc_rb.specs.Balance.{IsBlackTop}
 use Rattle.loc_rb.specs.Steps.{IsRedTop}
 use Rattle.loc_rb.proofs.Trees.{node-row}
-use Rattle.loc_rb.proofs.OneChange.{live-rows, has-row, top-live, node-child, some-link}
+use Rattle.loc_rb.proofs.OneChange.{live-rows, has-row, top-live, node-child}
+use Rattle.loc_rb.proofs.Descent.{sided}
 
 pub node-has-row : (n : Nodes) (turn : Turn) (at : Link) (t : Tree) (x : ℕ) (c : Colour) (other : Tree) → Fits (live n) (node_at turn at t x c other) → HasRow n at
 node-has-row n turn at t x c other p = has-row n at (node-row (live n) turn at t x c other p)
@@ -26,22 +27,21 @@ pub no-top : (t : Tree) → top t ≡ None → IsBlackTop t
 no-top leaf e = tt
 no-top (node l a x c b) e = cc
 
-row-of : (n : Nodes) (m l : Link) (x : Row) → m ≡ l → live n m ≡ Some x → n.rows l ≡ Some x
-row-of n m l x e p = ap n.rows (sym e) ∙ (live-rows n m x p).0
-
--- a child that is read as red is a red top
-pub red-top : (n : Nodes) (t : Tree) (l : Link) → Fits (live n) t → top t ≡ Some l → ((y : Row) → n.rows l ≡ Some y → Red ≡ y.colour) → IsRedTop l t
-red-top n leaf l p e h = cc
-red-top n (node m a x Red b) l p e h = some-link m l e
-red-top n (node m a x Black b) l p e h = let q : Red ≡ Black = h _ (row-of n m l _ (some-link m l e) p.0) in cc
-
--- one that is read as black is a black top
-pub black-top : (n : Nodes) (t : Tree) (l : Link) → Fits (live n) t → top t ≡ Some l → ((y : Row) → n.rows l ≡ Some y → Black ≡ y.colour) → IsBlackTop t
-black-top n leaf l p e h = tt
-black-top n (node m a x Red b) l p e h = let q : Black ≡ Red = h _ (row-of n m l _ (some-link m l e) p.0) in cc
-black-top n (node m a x Black b) l p e h = tt
-
 -- what `colour` answers is the colour of the node
 pub colour-is : (n : Nodes) (turn : Turn) (at : Link) (t : Tree) (x : ℕ) (c k : Colour) (other : Tree) → Fits (live n) (node_at turn at t x c other) → ((y : Row) → n.rows at ≡ Some y → k ≡ y.colour) → k ≡ c
 colour-is n Left at t x c k other p h = h _ (live-rows n at _ p.0).0
 colour-is n Right at t x c k other p h = h _ (live-rows n at _ p.0).0
+
+-- what `colour` answers of the top of a tree
+top-colour : (P : Tree → Type 0) (n : Nodes) (t : Tree) (l : Link) (k : Colour) → ((a : Tree) (x : ℕ) (b : Tree) → P (node l a x k b)) → Fits (live n) t → top t ≡ Some l → ((y : Row) → n.rows l ≡ Some y → k ≡ y.colour) → P t
+top-colour P n t l k so p e h =
+    let s = sided Left l t e in let c = colour-is n Left l s.near s.item s.colour k s.far (subst (λ (z : Tree). Fits (live n) z) s.is p) h in
+    subst P (sym s.is) (subst (λ (z : Colour). P (node l s.near s.item z s.far)) c (so s.near s.item s.far))
+
+-- a child that is read as red is a red top
+pub red-top : (n : Nodes) (t : Tree) (l : Link) → Fits (live n) t → top t ≡ Some l → ((y : Row) → n.rows l ≡ Some y → Red ≡ y.colour) → IsRedTop l t
+red-top n t l = top-colour (IsRedTop l) n t l Red (λ a x b. refl)
+
+-- one that is read as black is a black top
+pub black-top : (n : Nodes) (t : Tree) (l : Link) → Fits (live n) t → top t ≡ Some l → ((y : Row) → n.rows l ≡ Some y → Black ≡ y.colour) → IsBlackTop t
+black-top n t l = top-colour IsBlackTop n t l Black (λ a x b. tt)

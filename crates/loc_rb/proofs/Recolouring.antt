@@ -1,56 +1,38 @@
 -- A node takes another colour.
-use Rattle.std.proofs.Common.{◌≡◌, ℕ, List, [], ◌∷◌, ◌++◌, refl, sym, ap, ◌∙◌, subst, Some, ◌+◌, cond, arith}
+use Rattle.std.proofs.Common.{◌≡◌, ℕ, List, [], ◌∷◌, ◌++◌, refl, sym, ap, ◌∙◌, subst, Option, Some, ◌+◌, ◌≤◌, cond, arith}
 use Rattle.std.specs.Prelude.{◌≢◌}
+use Rattle.std.specs.List.{AllByRecursion}
 use Rattle.loc_pool.specs.declared.Link.{Link}
 use Rattle.loc_pool.specs.declared.Turn.{Turn}
 use Rattle.loc_pool.specs.declared.Turn.TheVariants.{Left, Right}
 use Rattle.loc_pool.specs.declared.Colour.{Colour}
 use Rattle.loc_pool.specs.Same.{same}
-use Rattle.loc_pool.proofs.Same.{same-refl}
-use Rattle.loc_rb.specs.Trees.{Row, Reading, Tree, top, Fits, Frame, node_at, plug, count, IsApart, flip}
+use Rattle.loc_rb.specs.Trees.{Row, Reading, Tree, Fits, Frame, node_at, plug, count, entries, flip, links_of, next, with_child, child_of, Leads, Carried}
 use Rattle.loc_rb.specs.Nodes.{Nodes, live, IsLive, Colours, Within, IsOld}
 use Rattle.loc_rb.specs.Places.{Spot}
-use Rattle.loc_rb.proofs.Trees.{stays, fits-end, inner, top-node_at, count-node_at, count-plug, spine, sides, avoids-count, none-here}
-use Rattle.loc_rb.proofs.OneChange.{live-rows, is-live, has-row, by-link, pushed, unpushed, frame_of}
+use Rattle.loc_rb.proofs.Trees.{rename, carried, stays, fits-end, inner, top-node_at, node-row, occurs, sides, self-once, count-node_at, count-plug, count-at, absent}
+use Rattle.loc_rb.proofs.OneChange.{live-rows, is-live, has-row, by-link, leads-of, top-plug, pushed, unpushed, frame_of}
 use Rattle.loc_rb.proofs.Rotations.{node_at-flip}
 
-keep-step : (f g : Reading) (turn : Turn) (l : Link) (s s' : Tree) (x : ℕ) (c : Colour) (other : Tree) → ((y : Row) → f l ≡ Some y → g l ≡ Some y) → top s' ≡ top s → Fits g s' → Fits g other → Fits f (node_at turn l s x c other) → Fits g (node_at turn l s' x c other)
-keep-step f g Left l s s' x c other k e p o q = (k _ q.0 ∙ (λ i. Some (record { item = x; left = sym e i; right = top other; colour = c })), p, o)
-keep-step f g Right l s s' x c other k e p o q = (k _ q.0 ∙ (λ i. Some (record { item = x; left = top other; right = sym e i; colour = c })), o, p)
+pub some-row : (x y : Row) → Some x ≡ Some y → x ≡ y
+some-row x y e = cc
 
-top-plug-same : (C : List Frame) (s s' : Tree) → top s' ≡ top s → top (plug C s') ≡ top (plug C s)
-top-plug-same [] s s' e = e
-top-plug-same (fr ∷ C) s s' e = top-node_at fr.turn fr.link (plug C s') fr.item fr.colour fr.other ∙ sym (top-node_at fr.turn fr.link (plug C s) fr.item fr.colour fr.other)
+child-same : (turn : Turn) (x : Row) (o : Option Link) → child_of turn x ≡ o → with_child turn o x ≡ x
+child-same Left x o e = λ i. record x { left = sym e i }
+child-same Right x o e = λ i. record x { right = sym e i }
 
--- a change of the row of `at` alone, seen from above
-keeps-path : (f g : Reading) (at : Link) → ((l : Link) → l ≢ at → (x : Row) → f l ≡ Some x → g l ≡ Some x) → (C : List Frame) (s s' : Tree) → spine at C ≡ 0 → sides at C ≡ 0 → top s' ≡ top s → Fits g s' → Fits f (plug C s) → Fits g (plug C s')
-unfolding spine sides
-keeps-path f g at h [] s s' n m e p q = p
-keeps-path f g at h (fr ∷ C) s s' n m e p q =
-    let parts = inner f fr.turn fr.link (plug C s) fr.item fr.colour fr.other q in
-    keep-step f g fr.turn fr.link (plug C s) (plug C s') fr.item fr.colour fr.other (h fr.link (none-here fr.link at (spine at C) n)) (top-plug-same C s s' e)
-    (keeps-path f g at h C s s' (omega (arith, n)) (omega (arith, m)) e p parts.0)
-    (stays f g (at ∷ []) (λ l a. h l a.0) fr.other (avoids-count (at ∷ []) fr.other (omega (arith, m), tt)) parts.1) q
+-- a path above a row that changed is as it was
+pub path-same : (f g : Reading) (at : Link) → ((l : Link) → l ≢ at → (x : Row) → f l ≡ Some x → g l ≡ Some x) → (es : List (Link × Turn)) → Leads f es at → AllByRecursion (λ m. at ≢ m) (links_of es) → Carried f g es es at
+path-same f g at h [] l a = tt
+path-same f g at h (e ∷ es) l a = (
+  refl,
+  (λ x q. let w = some-row (l.0.0) x (sym (l.0.1) ∙ q) in h e.0 (λ s. a.0 (sym s)) x q ∙ ap Some (sym (child-same e.1 x (Some (next es at)) (ap (child_of e.1) (sym w) ∙ l.0.2)))),
+  path-same f g at h es l.1 a.1,
+)
 
 recolour-step : (f g : Reading) (turn : Turn) (l : Link) (s : Tree) (x : ℕ) (c c' : Colour) (other : Tree) → ((y : Row) → f l ≡ Some y → g l ≡ Some (record y { colour = c' })) → Fits g s → Fits g other → Fits f (node_at turn l s x c other) → Fits g (node_at turn l s x c' other)
 recolour-step f g Left l s x c c' other k p o q = (k _ q.0, p, o)
 recolour-step f g Right l s x c c' other k p o q = (k _ q.0, o, p)
-
--- a colour written in one row changes it in the tree, and nothing else
-pub recoloured : (f g : Reading) (C : List Frame) (turn : Turn) (at : Link) (s : Tree) (x : ℕ) (c c' : Colour) (other : Tree)
-    → ((y : Row) → f at ≡ Some y → g at ≡ Some (record y { colour = c' })) → ((l : Link) → l ≢ at → (y : Row) → f l ≡ Some y → g l ≡ Some y)
-    → Fits f (plug C (node_at turn at s x c other)) → IsApart (plug C (node_at turn at s x c other))
-    → Fits g (plug C (node_at turn at s x c' other)) × IsApart (plug C (node_at turn at s x c' other))
-recoloured f g C turn at s x c c' other k h p apart =
-    let T = node_at turn at s x c other in let U = node_at turn at s x c' other in
-    let n = count-plug at C T in let m = count-node_at at turn at s x c other in let le = apart at in
-    let o : cond (same at at) 1 0 + (count at s + count at other) ≡ 1 + (count at s + count at other) = ap (λ b. cond b 1 0 + (count at s + count at other)) (same-refl at) in
-    let start = fits-end f C T p in let parts = inner f turn at s x c other start in
-    let a : (t : Tree) → count at t ≡ 0 → Fits f t → Fits g t = λ t z q. stays f g (at ∷ []) (λ l a. h l a.0) t (avoids-count (at ∷ []) t (z, tt)) q in (
-      keeps-path f g at h C T U (omega (arith, n, m, le, o)) (omega (arith, n, m, le, o)) (top-node_at turn at s x c' other ∙ sym (top-node_at turn at s x c other))
-          (recolour-step f g turn at s x c c' other k (a s (omega (arith, n, m, le, o)) parts.0) (a other (omega (arith, n, m, le, o)) parts.1) start) p,
-      (λ l. let i = count-plug l C T in let j = count-plug l C U in let u = count-node_at l turn at s x c other in let v = count-node_at l turn at s x c' other in let w = apart l in omega (arith, i, j, u, v, w)),
-    )
 
 pub colours-here : (n m : Nodes) (at : Link) (k : Colour) → Colours n m at k → (y : Row) → live n at ≡ Some y → live m at ≡ Some (record y { colour = k })
 colours-here n m at k d y e = let p = live-rows n at y e in is-live m at _ (d.here y p.0) (d.current at ∙ p.1)
@@ -74,16 +56,28 @@ within-colours n m at k d h = record {
       (λ o. (l, x, sym (d.others l o) ∙ e, refl));
 }
 
+rename-self : (C : List Frame) → rename C (entries C) ≡ C
+rename-self [] = refl
+rename-self (fr ∷ C) = ap (λ D. fr ∷ D) (rename-self C)
+
 -- the top of what hangs at the end of a path takes a colour
 pub recolour-spot : (n m : Nodes) (es : List (Link × Turn)) (C : List Frame) (turn : Turn) (at : Link) (s : Tree) (x : ℕ) (c k : Colour) (other : Tree)
     → Colours n m at k → Spot n es C (node_at turn at s x c other) → Spot m es C (node_at turn at s x k other)
 recolour-spot n m es C turn at s x c k other d sp =
-    let r = recoloured (live n) (live m) C turn at s x c k other (colours-here n m at k d) (colours-others n m at k d) sp.fits sp.apart in
+    let f = live n in let g = live m in let T = node_at turn at s x c other in let U = node_at turn at s x k other in
+    let start = fits-end f C T sp.fits in let parts = inner f turn at s x c other start in
+    let once : (l : Link) → cond (same at l) 1 0 + (occurs l (links_of (entries C)) + (sides l C + (count l s + count l other))) ≤ 1 = λ l.
+    let i = count-plug l C T in let j = count-node_at l turn at s x c other in let a = sp.apart l in omega (arith, i, j, a) in
+    let none : occurs at (links_of (entries C)) + (sides at C + (count at s + count at other)) ≡ 0 = (let o = once at in let e = self-once at (occurs at (links_of (entries C)) + (sides at C + (count at s + count at other))) in omega (arith, o, e)) in
+    let kept : (P : Link → ℕ) → P at ≡ 0 → (l : Link) → 1 ≤ P l → (y : Row) → f l ≡ Some y → g l ≡ Some y = λ P z l o. colours-others n m at k d l (λ q. let w = ap P q in let v : ⊥ = omega (arith, w, z, o) in v) in
+    let above = path-same f g at (colours-others n m at k d) (entries C) (leads-of f C T at sp.fits (top-node_at turn at s x c other) (node-row f turn at s x c other start)) (absent at (links_of (entries C)) (omega (arith, none))) in
+    let on = carried f g C (entries C) T U at (kept (λ l. sides l C) (omega (arith, none))) sp.fits above (top-node_at turn at s x k other)
+    (recolour-step f g turn at s x c k other (colours-here n m at k d) (stays f g s (kept (λ l. count l s) (omega (arith, none))) parts.0) (stays f g other (kept (λ l. count l other) (omega (arith, none))) parts.1) start) in
     record {
       path = sp.path;
-      fits = r.0;
-      apart = r.1;
-      root = d.root ∙ sp.root ∙ sym (top-plug-same C (node_at turn at s x c other) (node_at turn at s x k other) (top-node_at turn at s x k other ∙ sym (top-node_at turn at s x c other)));
+      fits = subst (λ (D : List Frame). Fits g (plug D U)) (rename-self C) on.0;
+      apart = λ l. let i = count-at l C turn at s x c other in let j = count-at l C turn at s x k other in let a = sp.apart l in omega (arith, i, j, a);
+      root = d.root ∙ sp.root ∙ top-plug C T at (top-node_at turn at s x c other) ∙ sym (top-plug C U at (top-node_at turn at s x k other));
     }
 
 -- the child on one side takes a colour
@@ -98,6 +92,5 @@ recolour-child n m es C side up turn at s x c k other y cu o d sp =
 pub recolour-other : (n m : Nodes) (es : List (Link × Turn)) (C : List Frame) (side : Turn) (up : Link) (turn : Turn) (at : Link) (s : Tree) (x : ℕ) (c k : Colour) (other : Tree) (y : ℕ) (cu : Colour) (t : Tree)
     → Colours n m at k → Spot n es C (node_at side up t y cu (node_at turn at s x c other)) → Spot m es C (node_at side up t y cu (node_at turn at s x k other))
 recolour-other n m es C side up turn at s x c k other y cu t d sp =
-    let p = subst (λ (z : Tree). Spot n es C z) (sym (node_at-flip side up (node_at turn at s x c other) y cu t)) sp in
-    let q = recolour-child n m es C (flip side) up turn at s x c k other y cu t d p in
-    subst (λ (z : Tree). Spot m es C z) (node_at-flip side up (node_at turn at s x k other) y cu t) q
+    subst (λ (z : Tree). Spot m es C z) (node_at-flip side up (node_at turn at s x k other) y cu t)
+    (recolour-child n m es C (flip side) up turn at s x c k other y cu t d (subst (λ (z : Tree). Spot n es C z) (sym (node_at-flip side up (node_at turn at s x c other) y cu t)) sp))

@@ -11,11 +11,12 @@ use Rattle.loc_rb.specs.Balance.{IsBlackTop, MayHang, black, HasBlackHeight, May
 use Rattle.loc_rb.specs.Places.{Spot, Holds}
 use Rattle.loc_rb.specs.Steps.{IsRedTop, ToRotate, Replaced, LacksBlack, Uneven, Siblings}
 use Rattle.loc_rb.proofs.Trees.{inner, fits-end, node-row, plug-snoc}
-use Rattle.loc_rb.proofs.OneChange.{pushed, popped, frame_of, SameButLinks-refl, no-frames, some-link}
+use Rattle.loc_rb.proofs.OneChange.{pushed, popped, frame_of, SameButLinks-refl, no-frames}
 use Rattle.loc_rb.proofs.ReadCalls.{colour-is, child-is}
 use Rattle.loc_rb.proofs.Rotations.{to_turn, to-rotate, turned_tree, node_at-flip}
 use Rattle.loc_rb.proofs.Recolouring.{recolour-spot, recolour-other}
-use Rattle.loc_rb.proofs.Balanced.{balanced-join, may-hang, may-be-black, black-hangs, black-top-node_at, RedShape, red-shape, red-parts, red-join, red-blackened, zero-black, awaits-popped, awaits-above, awaits-alike, awaits-root, takes-longer, holds-of}
+use Rattle.loc_rb.proofs.Descent.{sided}
+use Rattle.loc_rb.proofs.Balanced.{balanced-parts, may-be, balanced-join, may-hang, may-be-black, black-hangs, black-top-node_at, RedShape, red-shape, red-parts, red-join, red-blackened, zero-black, awaits-popped, awaits-above, awaits-alike, awaits-root, takes-longer, holds-of}
 use Rattle.loc_rb.proofs.ItemLists.{items-alike, items-under, items-turned, ReplacedUp, replaced-up}
 use Rattle.loc_rb.proofs.InsertionSteps.{popped-list, red-top-live}
 
@@ -40,8 +41,7 @@ pub sides-level : (n : Nodes) (ps : List (Link × Turn)) (D : List Frame) (turn 
     → items (plug D (node_at turn high (node_at turn low t x Black a) y colour b)) ≡ L → Holds n L
 sides-level n ps D turn high low t x a y colour b k L sp w m rt ra rb bb e =
     let V = node_at turn low t x Black a in
-    holds-of n ps D (node_at turn high V y colour b) (black colour + (1 + k)) L sp w (may-hang w.parent turn high V y colour b m)
-    (balanced-join turn high V y colour b (1 + k) (black-hangs colour V (black-top-node_at turn low t x a)) (black-hangs colour b bb) (balanced-join turn low t x Black a k tt tt rt ra) rb) e
+    holds-of n ps D (node_at turn high V y colour b) (black colour + (1 + k)) L sp w (may-hang _ _ _ _ _ _ _ m) (balanced-join _ _ _ _ _ _ _ (black-hangs colour V (black-top-node_at _ _ _ _ _)) (black-hangs colour b bb) (balanced-join _ _ _ _ _ _ _ tt tt rt ra) rb) e
 
 pub sibling-fits : (n : Nodes) (es : List (Link × Turn)) (at : Link) (turn : Turn) (sib : Link) (L : List ℕ) → (s : Siblings n es at turn sib L) → Fits (live n) (node_at turn at s.tree s.item s.colour (node_at turn sib s.near s.sibling_item Black s.far)) × Fits (live n) (node_at turn sib s.near s.sibling_item Black s.far)
 sibling-fits n es at turn sib L s =
@@ -67,9 +67,7 @@ sibling-red-sub n es at turn sib L s bn bf =
 
 sibling-red-list : (n : Nodes) (es : List (Link × Turn)) (at : Link) (turn : Turn) (sib : Link) (L : List ℕ) → (s : Siblings n es at turn sib L) → items (plug s.frames (node_at turn at s.tree s.item Black (node_at turn sib s.near s.sibling_item Red s.far))) ≡ L
 sibling-red-list n es at turn sib L s =
-    let S = node_at turn sib s.near s.sibling_item Red s.far in let T = node_at turn sib s.near s.sibling_item Black s.far in
-    items-alike s.frames s.frames (node_at turn at s.tree s.item s.colour T) (node_at turn at s.tree s.item Black S) (SameButLinks-refl s.frames)
-    (items-under turn at at s.tree s.tree s.item s.colour Black T S refl (items-under turn sib sib s.near s.near s.sibling_item Black Red s.far s.far refl refl)) ∙ s.list
+    items-alike _ _ _ _ (SameButLinks-refl s.frames) (items-under turn at at _ _ _ _ _ _ _ refl (items-under turn sib sib _ _ _ _ _ _ _ refl refl)) ∙ s.list
 
 -- under a black node the tree of `at` then lacks a black node
 pub sibling-red-under-black : (n m : Nodes) (es : List (Link × Turn)) (at : Link) (turn : Turn) (sib : Link) (L : List ℕ) → (s : Siblings n es at turn sib L) → Colours n m sib Red → IsBlackTop s.near → IsBlackTop s.far
@@ -94,11 +92,9 @@ sibling-red-under-black n m es at turn sib L s d bn bf f =
 pub sibling-red-under-red : (n m p : Nodes) (es : List (Link × Turn)) (at : Link) (turn : Turn) (sib : Link) (L : List ℕ) → (s : Siblings n es at turn sib L) → Colours n m sib Red → Colours m p at Black → IsBlackTop s.near → IsBlackTop s.far
     → ((y : Row) → m.rows at ≡ Some y → Red ≡ y.colour) → Holds p L
 sibling-red-under-red n m p es at turn sib L s d d' bn bf f =
-    let S = node_at turn sib s.near s.sibling_item Red s.far in let sp = sibling-red n m es at turn sib L s d in
-    let e = colour-is m turn at s.tree s.item s.colour Red S (fits-end (live m) s.frames (node_at turn at s.tree s.item s.colour S) sp.fits) f in
+    let S = node_at turn sib s.near s.sibling_item Red s.far in let sp = sibling-red n m es at turn sib L s d in let e = colour-is m turn at s.tree s.item s.colour Red S (fits-end _ _ _ sp.fits) f in
     let w = subst (λ (i : ℕ). Awaits s.frames i) (zero-black (1 + s.height)) (subst (λ (z : Colour). Awaits s.frames (black z + (1 + s.height))) (sym e) s.awaits) in
-    holds-of p es s.frames (node_at turn at s.tree s.item Black S) (1 + s.height) L (recolour-spot m p es s.frames turn at s.tree s.item s.colour Black S d' sp) w
-    (may-hang w.parent turn at s.tree s.item Black S (may-be-black w.parent)) (sibling-red-sub n es at turn sib L s bn bf) (sibling-red-list n es at turn sib L s)
+    holds-of p es s.frames (node_at turn at s.tree s.item Black S) (1 + s.height) L (recolour-spot _ _ _ _ _ _ _ _ _ _ _ d' sp) w (may-hang _ _ _ _ _ _ _ (may-be-black w.parent)) (sibling-red-sub n es at turn sib L s bn bf) (sibling-red-list n es at turn sib L s)
 
 -- a sibling is to rise
 abbrev pub sibling-to-rotate : (n : Nodes) (ps es : List (Link × Turn)) (C : List Frame) (at : Link) (turn o : Turn) (sib : Link) (x w : ℕ) (cx cy : Colour) (t a b : Tree) → o ≡ flip turn → ps ≡ es ++ (at, o) ∷ [] → Spot n es C (node_at turn at t x cx (node_at turn sib a w cy b)) → ToRotate n ps sib
@@ -113,15 +109,12 @@ sibling-rotation n es at turn o sib L ps s e q = sibling-to-rotate n ps es s.fra
 pub sibling-rotated : (n m m' : Nodes) (es ps : List (Link × Turn)) (at : Link) (turn o : Turn) (sib low high far : Link) (colour : Colour) (L : List ℕ) → (s : Siblings n es at turn sib L) → IsRedTop far s.far → o ≡ flip turn → colour ≡ s.colour
     → Replaced m ps s.frames (turned_tree o low high s.item s.sibling_item Black colour s.tree s.near s.far) → Colours m m' far Black → Holds m' L
 sibling-rotated n m m' es ps at turn o sib low high far colour L s rt eo e mv d =
-    let D = mv.0 in let r = red-shape turn far s.far rt in
-    let V = node_at turn low s.tree s.item Black s.near in let F = node_at turn far r.near r.item Black r.far in
+    let D = mv.0 in let r = red-shape turn far s.far rt in let V = node_at turn low s.tree s.item Black s.near in let F = node_at turn far r.near r.item Black r.far in
     let sp = subst (λ (t : Tree). Spot m ps D t) (sibling-turned turn o low high s.item s.sibling_item Black colour s.tree s.near s.far eo) mv.2 in
     let p = recolour-other m m' ps D turn high turn far r.near r.item Red Black r.far s.sibling_item colour V d (subst (λ (t : Tree). Spot m ps D (node_at turn high V s.sibling_item colour t)) r.is sp) in
     sides-level m' ps D turn high low s.tree s.item s.near s.sibling_item s.colour F s.height L (subst (λ (z : Colour). Spot m' ps D (node_at turn high V s.sibling_item z F)) e p)
-    (awaits-alike s.frames D (black s.colour + (1 + s.height)) mv.1 s.awaits) s.may s.balanced s.near_balanced (red-blackened turn far s.far s.height r s.far_balanced) (black-top-node_at turn far r.near r.item r.far)
-    (items-alike s.frames D (node_at turn at s.tree s.item s.colour (node_at turn sib s.near s.sibling_item Black s.far)) (node_at turn high V s.sibling_item s.colour F) mv.1
-    (items-under turn high high V V s.sibling_item s.colour s.colour s.far F refl (items-under turn far far r.near r.near r.item Red Black r.far r.far refl refl ∙ ap items (sym r.is))
-    ∙ sibling-items turn at sib low high s.item s.sibling_item s.colour Black Black s.colour s.tree s.near s.far) ∙ s.list)
+    (awaits-alike _ _ _ mv.1 s.awaits) s.may s.balanced s.near_balanced (red-blackened _ _ _ _ r s.far_balanced) (black-top-node_at _ _ _ _ _)
+    (items-alike _ _ _ _ mv.1 (items-under turn high high V V s.sibling_item s.colour s.colour s.far F refl (items-under turn far far _ _ _ _ _ _ _ refl refl ∙ ap items (sym r.is)) ∙ sibling-items turn at sib low high s.item s.sibling_item s.colour Black Black s.colour s.tree s.near s.far) ∙ s.list)
 
 -- the near nephew is to rise over the sibling
 abbrev pub nephew-rotation : (n : Nodes) (es : List (Link × Turn)) (at : Link) (turn o : Turn) (sib near : Link) (L : List ℕ) (ps qs : List (Link × Turn)) → (s : Siblings n es at turn sib L) → IsRedTop near s.near → o ≡ flip turn
@@ -154,21 +147,16 @@ pub nephew-rotated : (n m m' : Nodes) (es ps qs : List (Link × Turn)) (at : Lin
     → (k : ReplacedUp m ps s.frames o s.item s.colour s.tree (turned_tree turn low mid s.sibling_item r.item Black Red s.far r.near r.far))
     → Replaced m' qs k.frames (turned_tree o l h s.item r.item Black colour s.tree r.far (node_at turn low r.near s.sibling_item Black s.far)) → Holds m' L
 nephew-rotated n m m' es ps qs at turn o sib near low mid l h colour L s r e ec k mv =
-    let B = node_at turn low r.near s.sibling_item Black s.far in let V = node_at turn l s.tree s.item Black r.far in
-    let D = mv.0 in
-    let sp = subst (λ (t : Tree). Spot m' qs D t) (sibling-turned turn o l h s.item r.item Black colour s.tree r.far B e) mv.2 in
-    let parts = red-parts (flip turn) near s.near s.height r s.near_balanced in
+    let B = node_at turn low r.near s.sibling_item Black s.far in let V = node_at turn l s.tree s.item Black r.far in let D = mv.0 in
+    let S = node_at turn sib s.near s.sibling_item Black s.far in let W = turned_tree turn low mid s.sibling_item r.item Black Red s.far r.near r.far in
+    let sp = subst (λ (t : Tree). Spot m' qs D t) (sibling-turned turn o l h s.item r.item Black colour s.tree r.far B e) mv.2 in let parts = red-parts _ _ _ _ r s.near_balanced in
     sides-level m' qs D turn h l s.tree s.item r.far r.item s.colour B s.height L (subst (λ (z : Colour). Spot m' qs D (node_at turn h V r.item z B)) ec sp)
-    (awaits-alike k.frames D (black s.colour + (1 + s.height)) mv.1 (awaits-alike s.frames k.frames (black s.colour + (1 + s.height)) k.alike s.awaits)) s.may s.balanced parts.3
-    (balanced-join turn low r.near s.sibling_item Black s.far s.height tt tt parts.2 s.far_balanced) (black-top-node_at turn low r.near s.sibling_item s.far)
-    (items-alike k.frames D (node_at o k.up (turned_tree turn low mid s.sibling_item r.item Black Red s.far r.near r.far) s.item s.colour s.tree) (node_at turn h V r.item s.colour B) mv.1
+    (awaits-alike k.frames D (black s.colour + (1 + s.height)) mv.1 (awaits-alike s.frames k.frames _ k.alike s.awaits)) s.may s.balanced parts.3 (balanced-join _ _ _ _ _ _ _ tt tt parts.2 s.far_balanced) (black-top-node_at _ _ _ _ _)
+    (items-alike k.frames D (node_at o k.up W s.item s.colour s.tree) _ mv.1
     (sibling-items turn k.up mid l h s.item r.item s.colour Red Black s.colour s.tree r.far B
     ∙ ap items (sym (sibling-turn turn o k.up mid s.item r.item s.colour Red s.tree r.far B e)) ∙ ap (λ t. items (node_at o k.up t s.item s.colour s.tree)) (sym (nephew-eq turn o mid B r.item r.far e)))
-    ∙ items-alike s.frames k.frames (node_at turn at s.tree s.item s.colour (node_at turn sib s.near s.sibling_item Black s.far)) (node_at o k.up (turned_tree turn low mid s.sibling_item r.item Black Red s.far r.near r.far) s.item s.colour s.tree) k.alike
-    (items-under o at k.up (node_at turn sib s.near s.sibling_item Black s.far) (turned_tree turn low mid s.sibling_item r.item Black Red s.far r.near r.far) s.item s.colour s.colour s.tree s.tree
-    (items-turned turn sib near low mid s.sibling_item r.item Black Red Black Red s.far r.near r.far ∙ ap (λ t. items (node_at turn sib t s.sibling_item Black s.far)) (sym r.is)) refl
-    ∙ ap (λ t. items (node_at t at (node_at turn sib s.near s.sibling_item Black s.far) s.item s.colour s.tree)) e ∙ ap items (node_at-flip turn at (node_at turn sib s.near s.sibling_item Black s.far) s.item s.colour s.tree))
-    ∙ s.list)
+    ∙ items-alike s.frames k.frames _ _ k.alike (items-under o at k.up S W s.item s.colour s.colour s.tree s.tree (items-turned turn sib near low mid s.sibling_item r.item Black Red Black Red s.far r.near r.far ∙ ap (λ t. items (node_at turn sib t s.sibling_item Black s.far)) (sym r.is)) refl
+    ∙ ap (λ t. items (node_at t at S s.item s.colour s.tree)) e ∙ ap items (node_at-flip turn at S s.item s.colour s.tree)) ∙ s.list)
 
 -- the far child of a sibling that rose is live
 pub far-risen-live : (n m : Nodes) (es ps : List (Link × Turn)) (at : Link) (turn o : Turn) (sib low high far : Link) (colour : Colour) (L : List ℕ) → (s : Siblings n es at turn sib L) → IsRedTop far s.far → o ≡ flip turn
@@ -187,17 +175,13 @@ pub record BlackShape (turn : Turn) (l : Link) (t : Tree) (k : ℕ) : Type 0 whe
   pub near_balanced : HasBlackHeight near k
   pub far_balanced : HasBlackHeight far k
 
-one-less : (k j : ℕ) → 1 + k ≡ 1 + j → j ≡ k
-one-less k j e = omega (arith, e)
-
 -- a tree with a black top has that shape
 pub black-shape : (turn : Turn) (l : Link) (t : Tree) (k : ℕ) → IsBlackTop t → HasBlackHeight t (1 + k) → top t ≡ Some l → BlackShape turn l t k
-black-shape turn l leaf k b r e = cc
-black-shape turn l (node m a x Red b) k bt r e = absurd bt
-black-shape Left l (node m a x Black b) k bt r e = let z = one-less k r.2.0 r.2.1 in
-    record { near = a; item = x; far = b; is = λ i. node (some-link m l e i) a x Black b; near_balanced = subst (λ (i : ℕ). HasBlackHeight a i) z r.2.2; far_balanced = subst (λ (i : ℕ). HasBlackHeight b i) z r.2.3 }
-black-shape Right l (node m a x Black b) k bt r e = let z = one-less k r.2.0 r.2.1 in
-    record { near = b; item = x; far = a; is = λ i. node (some-link m l e i) a x Black b; near_balanced = subst (λ (i : ℕ). HasBlackHeight b i) z r.2.3; far_balanced = subst (λ (i : ℕ). HasBlackHeight a i) z r.2.2 }
+black-shape turn l t k bt r e =
+    let s = sided turn l t e in let c = may-be Red turn l s.near s.item s.colour s.far (subst (λ (z : Tree). IsBlackTop z) s.is bt) in
+    let p = balanced-parts turn l s.near s.item s.colour s.far (1 + k) (subst (λ (z : Tree). HasBlackHeight z (1 + k)) s.is r) in
+    let z : p.2.0 ≡ k = (let h : 1 + k ≡ 1 + p.2.0 = p.2.1 ∙ ap (λ i. black i + p.2.0) c in omega (arith, h)) in
+    record { near = s.near; item = s.item; far = s.far; is = s.is ∙ ap (λ i. node_at turn l s.near s.item i s.far) c; near_balanced = subst (λ (i : ℕ). HasBlackHeight s.near i) z p.2.2; far_balanced = subst (λ (i : ℕ). HasBlackHeight s.far i) z p.2.3 }
 
 -- the black sibling and its children
 abbrev pub siblings : (n : Nodes) (es : List (Link × Turn)) (at : Link) (turn : Turn) (sib : Link) (L : List ℕ) → (u : Uneven n es at turn L) → IsBlackTop u.other → top u.other ≡ Some sib → Siblings n es at turn sib L
@@ -225,8 +209,7 @@ siblings n es at turn sib L u b e =
 -- what the tests of the children ask for
 pub other-fits : (n : Nodes) (es : List (Link × Turn)) (at : Link) (turn o : Turn) (L : List ℕ) → (u : Uneven n es at turn L) → o ≡ flip turn → Fits (live n) (node_at o at u.other u.item u.colour u.tree)
 other-fits n es at turn o L u e =
-    subst (λ (t : Turn). Fits (live n) (node_at t at u.other u.item u.colour u.tree)) (sym e)
-    (subst (λ (t : Tree). Fits (live n) t) (sym (node_at-flip turn at u.other u.item u.colour u.tree)) (fits-end (live n) u.frames (node_at turn at u.tree u.item u.colour u.other) u.spot.fits))
+    subst (λ (t : Tree). Fits (live n) t) (sym (ap (λ z. node_at z at u.other u.item u.colour u.tree) e ∙ node_at-flip turn at u.other u.item u.colour u.tree)) (fits-end _ _ _ u.spot.fits)
 
 -- the siblings, by what the reading of the child tells
 abbrev pub siblings-read : (n : Nodes) (es : List (Link × Turn)) (at : Link) (turn o : Turn) (sib : Link) (L : List ℕ) (answer : Option Link) → (u : Uneven n es at turn L) → IsBlackTop u.other → o ≡ flip turn
@@ -308,13 +291,10 @@ red-sibling-rotated n m es ps qs at turn o sib low high L u rt r e mv pushed_is 
       other_may = parts.0;
       other_balanced = parts.2;
       list = ap items (plug-snoc D (frame_of (high, turn) r.item Black r.far) V)
-          ∙ items-alike u.frames D (node_at turn at u.tree u.item u.colour u.other) (node_at turn high V r.item Black r.far) mv.1
-          (sibling-items turn at sib low high u.item r.item u.colour Red Red Black u.tree r.near r.far ∙ ap (λ t. items (node_at turn at u.tree u.item u.colour t)) (sym r.is))
-          ∙ u.list;
+          ∙ items-alike _ _ _ _ mv.1 (sibling-items turn at sib low high u.item r.item u.colour Red Red Black u.tree r.near r.far ∙ ap (λ t. items (node_at turn at u.tree u.item u.colour t)) (sym r.is)) ∙ u.list;
     } in
     subst (λ (z : List (Link × Turn)). (v : Uneven m z low turn L) × IsBlackTop v.other × (v.colour ≡ Red)) (sym pushed_is) (v, parts.0, refl)
 
 pub far-fits : (n : Nodes) (es : List (Link × Turn)) (at : Link) (turn o : Turn) (sib : Link) (L : List ℕ) → (s : Siblings n es at turn sib L) → o ≡ flip turn → Fits (live n) (node_at o sib s.far s.sibling_item Black s.near)
 far-fits n es at turn o sib L s e =
-    subst (λ (t : Turn). Fits (live n) (node_at t sib s.far s.sibling_item Black s.near)) (sym e)
-    (subst (λ (t : Tree). Fits (live n) t) (sym (node_at-flip turn sib s.far s.sibling_item Black s.near)) (sibling-fits n es at turn sib L s).1)
+    subst (λ (t : Tree). Fits (live n) t) (sym (ap (λ z. node_at z sib s.far s.sibling_item Black s.near) e ∙ node_at-flip turn sib s.far s.sibling_item Black s.near)) (sibling-fits n es at turn sib L s).1

@@ -1,6 +1,7 @@
 -- A rotation: the child takes the node, and the node the child's inner tree.
-use Rattle.std.proofs.Common.{◌≡◌, ℕ, List, [], ◌∷◌, ◌++◌, refl, sym, ap, ◌∙◌, subst, Option, Some, ◌+◌, ◌≤◌, cond, arith, ◌⊎◌, inl, inr}
+use Rattle.std.proofs.Common.{◌≡◌, ℕ, List, [], ◌∷◌, ◌++◌, refl, sym, ap, ◌∙◌, subst, Option, Some, ◌+◌, ◌≤◌, cond, arith, inl, inr}
 use Rattle.std.specs.Prelude.{◌≢◌}
+use Rattle.std.proofs.lemmas.List.{same_from_push}
 use Rattle.std.specs.List.{AllByRecursion}
 use Rattle.loc_pool.specs.declared.Link.{Link}
 use Rattle.loc_pool.specs.declared.Turn.{Turn}
@@ -8,13 +9,13 @@ use Rattle.loc_pool.specs.declared.Turn.TheVariants.{Left, Right}
 use Rattle.loc_pool.specs.declared.Colour.{Colour}
 use Rattle.loc_pool.specs.Same.{same}
 use Rattle.loc_pool.proofs.Same.{same-refl}
-use Rattle.loc_rb.specs.Trees.{Row, Tree, top, Fits, Frame, node_at, plug, entries, links_of, next, SameButLinks, count, flip, child_of, with_child}
-use Rattle.loc_rb.specs.Nodes.{Nodes, live, IsLive, HasRow, CanChange, Changes}
+use Rattle.loc_rb.specs.Trees.{Row, Tree, leaf, node, top, Fits, Frame, node_at, plug, entries, links_of, SameButLinks, count, flip, child_of}
+use Rattle.loc_rb.specs.Nodes.{Nodes, live, IsLive, CanChange, Changes}
 use Rattle.loc_rb.specs.Places.{Spot}
 use Rattle.loc_rb.specs.Steps.{CanTransplant, ToRotate, Replaced}
-use Rattle.loc_rb.proofs.Trees.{Avoids, change-tree, stays, fits-end, inner, top-node_at, node-row, count-node_at, count-plug, sides, at-clear, avoids-count, none-here}
-use Rattle.loc_rb.proofs.ReadCalls.{node-has-row, child-is}
-use Rattle.loc_rb.proofs.OneChange.{occurs, child-replaced, can-change, SameButLinks-trans, top-live, apart-new, in-row, others-live, sides-SameButLinks, count-at, top-plug, some-link, either-one}
+use Rattle.loc_rb.proofs.Trees.{change-tree, stays, fits-end, inner, top-node_at, node-row, occurs, sides, self-once, count-node_at, count-plug, count-at, absent}
+use Rattle.loc_rb.proofs.ReadCalls.{child-is}
+use Rattle.loc_rb.proofs.OneChange.{child-replaced, can-change, SameButLinks-trans, top-live, apart-new, in-row, others-live, sides-SameButLinks, either-one}
 
 -- a node turns round
 pub node_at-flip : (turn : Turn) (l : Link) (t : Tree) (x : ℕ) (c : Colour) (other : Tree) → node_at (flip turn) l t x c other ≡ node_at turn l other x c t
@@ -25,121 +26,60 @@ pub flip-flip : (turn : Turn) → flip (flip turn) ≡ turn
 flip-flip Left = refl
 flip-flip Right = refl
 
--- after the first change: `at` has the inner tree, and the child hangs under no other
-pub record Half (n : Nodes) (es : List (Link × Turn)) (C : List Frame) (low child : Link) (turn : Turn) (x y : ℕ) (cx cy : Colour) (a b d : Tree) : Type 0 where
-  pub frames : List Frame
-  pub alike : SameButLinks C frames
-  pub spot : Spot n es frames (node_at turn low b x cx a)
-  pub fits : Fits (live n) (node_at (flip turn) child b y cy d)
-  pub apart : (l : Link) → occurs l (low ∷ links_of es) + (sides l frames + (count l (node_at (flip turn) child b y cy d) + count l a)) ≤ 1
+-- the tree stands as before, and beside it another one, whose top r hangs under no node, and which may share trees with it but for `more`
+pub record Beside (n : Nodes) (es : List (Link × Turn)) (C : List Frame) (t : Tree) (r : Link) (u more : Tree) : Type 0 where
+  pub spot : Spot n es C t
+  pub fits : Fits (live n) u
+  pub more_fits : Fits (live n) more
+  pub apart : (l : Link) → cond (same r l) 1 0 + (count l (plug C t) + count l more) ≤ 1
 
--- the first change leads there
-pub halved : (n m : Nodes) (es es' : List (Link × Turn)) (C : List Frame) (at low child : Link) (turn : Turn) (x y : ℕ) (cx cy : Colour) (a b d : Tree) (o : Option Link)
-    → Spot n es C (node_at turn at (node_at (flip turn) child b y cy d) x cx a) → Changes n m es es' at low turn o → o ≡ top b
-    → Half m es' C low child turn x y cx cy a b d
-halved n m es es' C at low child turn x y cx cy a b d o sp ch e =
-    let Y = node_at (flip turn) child b y cy d in let T = node_at turn at Y x cx a in
-    let total : (l : Link) → occurs l (at ∷ links_of (entries C)) + (sides l C + (count l Y + count l a)) ≤ 1 = λ l. let k = count-at l C turn at Y x cx a in let h = sp.apart l in omega (arith, k, h) in
-    let start = inner (live n) turn at Y x cx a (fits-end (live n) C T sp.fits) in
-    let fb = (inner (live n) (flip turn) child b y cy d start.0).0 in
-    let mv = child-replaced n m es es' at low turn o C x cx a Y b ch sp e fb
-    (λ l. let k = count-at l C turn at b x cx a in let h = total l in let i = count-node_at l (flip turn) child b y cy d in omega (arith, k, h, i)) in
-    let R = λ (l : Link). sides l C + (count l Y + count l a) in
-    let live_R : (l : Link) → 1 ≤ R l → IsLive n l = λ l h. in-row (live n) l (plug C T) sp.fits (let h' : 1 ≤ sides l C + (count l Y + count l a) = h in let k = count-at l C turn at Y x cx a in omega (arith, h', k)) in
-    let A = apart-new n m es es' at low turn o R ch live_R (λ l. subst (λ (z : List (Link × Turn)). occurs l (at ∷ links_of z) + R l ≤ 1) sp.path (total l)) in
+top-counts : (l : Link) (t : Tree) → top t ≡ Some l → 1 ≤ count l t
+unfolding count
+top-counts l leaf e = cc
+top-counts l (node m a x c b) e = let q : m ≡ l = cc in let z : ◌≡◌ {A = ℕ} (cond (same m l) 1 0) 1 = ap (λ i. cond (same i l) 1 0) q ∙ ap (λ i. cond i 1 0) (same-refl l) in omega (arith, z)
+
+not-root : (n : Nodes) (es : List (Link × Turn)) (C : List Frame) (t : Tree) (l : Link) (u more : Tree) → Beside n es C t l u more → AllByRecursion (λ k. n.root ≢ Some k) (l ∷ [])
+not-root n es C t l u more h =
+    ((λ e. let o = top-counts l (plug C t) (sym h.spot.root ∙ e) in let a = h.apart l in let s = self-once l (count l (plug C t) + count l more) in let q : ⊥ = omega (arith, o, a, s) in q), tt)
+
+-- its top can be changed
+pub can-change-beside : (n : Nodes) (es none : List (Link × Turn)) (C : List Frame) (t : Tree) (l : Link) (turn : Turn) (s v : Tree) (x : ℕ) (c : Colour) (other more : Tree) (o : Option Link)
+    → Beside n es C t l (node_at turn l s x c other) more → Fits (live n) v → o ≡ top v → none ≡ [] → CanChange n none l o
+can-change-beside n es none C t l turn s v x c other more o h fv e z = subst (λ (i : List (Link × Turn)). CanChange n i l o) (sym z) (record {
+  leads = node-row (live n) turn l s x c other h.fits;
+  once = (tt, tt);
+  from = inr (not-root n es C t l (node_at turn l s x c other) more h);
+  to = top-live n v o fv e;
+})
+
+-- and the change leaves the tree as it is
+pub beside-changed : (n m : Nodes) (es none es' : List (Link × Turn)) (C : List Frame) (t : Tree) (l r : Link) (turn : Turn) (s v : Tree) (x : ℕ) (c : Colour) (other more : Tree) (o : Option Link)
+    → Beside n es C t l (node_at turn l s x c other) more → Fits (live n) v → count l v + count l other ≡ 0 → o ≡ top v → none ≡ [] → Changes n m none es' l r turn o
+    → Beside m es C t r (node_at turn r v x c other) more
+unfolding occurs sides
+beside-changed n m es none es' C t l r turn s v x c other more o h fv zero_there e z given =
+    let ch : Changes n m [] es' l r turn (top v) = subst (λ (i : List (Link × Turn) × Option Link). Changes n m i.0 es' l r turn i.1) (λ i. (z i, e i)) given in
+    let R : Link → ℕ = λ k. count k (plug C t) + count k more in
+    let a : R l ≡ 0 = (let a = h.apart l in let s = self-once l (count l (plug C t) + count l more) in omega (arith, a, s)) in
+    let kept : (P : Link → ℕ) → P l ≡ 0 → (k : Link) → 1 ≤ P k → (y : Row) → live n k ≡ Some y → live m k ≡ Some y = λ P i k j.
+    others-live n m [] es' l r turn (top v) ch k ((λ q. let w = ap P q in let f : ⊥ = omega (arith, i, j, w) in f), tt) in
+    let A = apart-new n m [] es' l r turn (top v) R ch (λ k j. elim (either-one (count k (plug C t)) (count k more) j) as (λ _. IsLive n k) [ inl i ↦ in-row (live n) k (plug C t) h.spot.fits i | inr i ↦ in-row (live n) k more h.more_fits i ])
+    (λ k. let b = h.apart k in let f : (cond (same l k) 1 0 + 0) + (count k (plug C t) + count k more) ≤ 1 = omega (arith, b) in f) in
     record {
-      frames = mv.0;
-      alike = mv.1;
-      spot = mv.2;
-      fits = stays (live n) (live m) (at ∷ links_of (entries C)) (λ l k row q. others-live n m es es' at low turn o ch l (subst (λ (z : List (Link × Turn)). AllByRecursion (λ i. l ≢ i) (at ∷ links_of z)) sp.path k) row q) Y (at-clear C turn at Y x cx a sp.apart).2 start.0;
-      apart = λ l. let i = sides-SameButLinks l C mv.0 mv.1 in let h : occurs l (low ∷ links_of es') + (sides l C + (count l Y + count l a)) ≤ 1 = A l in omega (arith, i, h);
+      spot = record { path = h.spot.path; fits = stays (live n) (live m) (plug C t) (kept (λ k. count k (plug C t)) (omega (arith, a))) h.spot.fits; apart = h.spot.apart; root = ch.rows.other_root (not-root n es C t l (node_at turn l s x c other) more h) ∙ h.spot.root };
+      fits = (change-tree (live n) (live m) [] es' l r turn x c other s v ch.rows.here ch.rows.above (kept (λ k. 0 + (count k v + count k other)) (omega (arith, zero_there))) h.fits fv).0;
+      more_fits = stays (live n) (live m) more (kept (λ k. count k more) (omega (arith, a))) h.more_fits;
+      apart = λ k. let b : (cond (same r k) 1 0 + occurs k (links_of es')) + (count k (plug C t) + count k more) ≤ 1 = A k in omega (arith, b);
     }
 
-occurs-head : (l r : Link) (ks : List Link) → occurs l (r ∷ ks) ≡ cond (same r l) 1 0 + occurs l ks
-unfolding occurs
-occurs-head l r ks = refl
-
-occurs-none : (l : Link) → occurs l [] ≡ 0
-unfolding occurs
-occurs-none l = refl
-
-self-once : (l : Link) (k : ℕ) → cond (same l l) 1 0 + k ≡ 1 + k
-self-once l k = ap (λ b. cond b 1 0 + k) (same-refl l)
-
-next-not : (l r : Link) (es : List (Link × Turn)) → occurs l (r ∷ links_of es) ≡ 0 → next es r ≢ l
-unfolding occurs
-next-not l r [] z = none-here r l (occurs l []) z
-next-not l r (e ∷ es) z = none-here e.0 l (occurs l (links_of es)) (let z' : cond (same r l) 1 0 + (cond (same e.0 l) 1 0 + occurs l (links_of es)) ≡ 0 = z in omega (arith, z'))
-
-child-once : (n : Nodes) (es : List (Link × Turn)) (C : List Frame) (low child : Link) (turn : Turn) (x y : ℕ) (cx cy : Colour) (a b d : Tree) (h : Half n es C low child turn x y cx cy a b d)
-    → (occurs child (low ∷ links_of es) ≡ 0) × (sides child h.frames ≡ 0) × (count child a ≡ 0) × (count child b ≡ 0) × (count child d ≡ 0)
-child-once n es C low child turn x y cx cy a b d h =
-    let p = h.apart child in let q = count-node_at child (flip turn) child b y cy d in let s = self-once child (count child b + count child d) in
-    (omega (arith, p, q, s), omega (arith, p, q, s), omega (arith, p, q, s), omega (arith, p, q, s), omega (arith, p, q, s))
-
-can-turn-root : (n : Nodes) (es : List (Link × Turn)) (C : List Frame) (low child : Link) (turn : Turn) (x y : ℕ) (cx cy : Colour) (a b d : Tree) → Half n es C low child turn x y cx cy a b d → AllByRecursion (λ l. n.root ≢ Some l) (child ∷ [])
-can-turn-root n es C low child turn x y cx cy a b d h =
-    let z = child-once n es C low child turn x y cx cy a b d h in
-    let e = h.spot.root ∙ top-plug h.frames (node_at turn low b x cx a) low (top-node_at turn low b x cx a) ∙ ap (λ p. Some (next p low)) h.spot.path in
-    ((λ q. next-not child low es z.0 (some-link (next es low) child (sym e ∙ q))), tt)
-
-either : (l : Link) (D : List Frame) (V d : Tree) → 1 ≤ count l (plug D V) + count l d → (1 ≤ count l (plug D V)) ⊎ (1 ≤ count l d)
-either l D V d h = either-one (count l (plug D V)) (count l d) h
-
--- what the second change asks for
-pub can-turn : (n : Nodes) (es : List (Link × Turn)) (C : List Frame) (low child : Link) (turn : Turn) (x y : ℕ) (cx cy : Colour) (a b d : Tree) → Half n es C low child turn x y cx cy a b d → CanChange n [] child (Some low)
-can-turn n es C low child turn x y cx cy a b d h =
-    record {
-      leads = node-row (live n) (flip turn) child b y cy d h.fits;
-      once = (tt, tt);
-      from = inr (can-turn-root n es C low child turn x y cx cy a b d h);
-      to = λ l q. subst (λ (i : Link). IsLive n i) (some-link low l q) (node-row (live n) turn low b x cx a (fits-end (live n) h.frames (node_at turn low b x cx a) h.spot.fits));
-    }
-
--- after it the child can take the place of the node
-pub turned : (n m : Nodes) (es es' : List (Link × Turn)) (C : List Frame) (low child high : Link) (turn : Turn) (x y : ℕ) (cx cy : Colour) (a b d : Tree) (h : Half n es C low child turn x y cx cy a b d)
-    → Changes n m [] es' child high (flip turn) (Some low) → CanTransplant m es h.frames (node_at turn low b x cx a) (node_at (flip turn) high (node_at turn low b x cx a) y cy d) (Some high)
-turned n m es es' C low child high turn x y cx cy a b d h ch =
-    let D = h.frames in let V = node_at turn low b x cx a in let W = node_at (flip turn) high V y cy d in
-    let z = child-once n es C low child turn x y cx cy a b d h in
-    let oth : (l : Link) → AllByRecursion (λ k. l ≢ k) (child ∷ []) → (row : Row) → live n l ≡ Some row → live m l ≡ Some row = others-live n m [] es' child high (flip turn) (Some low) ch in
-    let cV : count child V ≡ 0 = (let k = count-node_at child turn low b x cx a in let i = occurs-head child low (links_of es) in omega (arith, k, z, i)) in
-    let av : Avoids (child ∷ []) V = avoids-count (child ∷ []) V (cV, tt) in
-    let fV = fits-end (live n) D V h.spot.fits in
-    let on = change-tree (live n) (live m) [] es' child high (flip turn) y cy d b V
-    (subst (λ (o : Option Link). (row : Row) → live n child ≡ Some row → live m high ≡ Some (with_child (flip turn) o row)) (sym (top-node_at turn low b x cx a)) ch.rows.here)
-    ch.rows.above oth h.fits tt (avoids-count (child ∷ []) d (z.4, tt)) av fV in
-    let cD : count child (plug D V) ≡ 0 = (let k = count-at child D turn low b x cx a in let p : occurs child (low ∷ links_of (entries D)) ≡ occurs child (low ∷ links_of es) = ap (λ (e : List (Link × Turn)). occurs child (low ∷ links_of e)) h.spot.path in omega (arith, k, p, z)) in
-    let R = λ (l : Link). count l (plug D V) + count l d in
-    let fd = (inner (live n) (flip turn) child b y cy d h.fits).1 in
-    let parts : (l : Link) → cond (same child l) 1 0 + (count l (plug D V) + count l d) ≤ 1 = λ l.
-    let k = count-at l D turn low b x cx a in let p : occurs l (low ∷ links_of (entries D)) ≡ occurs l (low ∷ links_of es) = ap (λ (e : List (Link × Turn)). occurs l (low ∷ links_of e)) h.spot.path in
-    let q = h.apart l in let i = count-node_at l (flip turn) child b y cy d in omega (arith, k, p, q, i) in
-    let live_R : (l : Link) → 1 ≤ R l → IsLive n l = λ l o. elim (let o' : 1 ≤ count l (plug D V) + count l d = o in either l D V d o') as (λ _. IsLive n l) [ inl i ↦ in-row (live n) l (plug D V) h.spot.fits i | inr i ↦ in-row (live n) l d fd i ] in
-    let A = apart-new n m [] es' child high (flip turn) (Some low) R ch live_R (λ l. let k = occurs-head l child [] in let k' = occurs-none l in let p = parts l in let g : occurs l (child ∷ []) + (count l (plug D V) + count l d) ≤ 1 = omega (arith, k, k', p) in g) in
-    record {
-      spot = record {
-        path = h.spot.path;
-        fits = stays (live n) (live m) (child ∷ []) oth (plug D V) (avoids-count (child ∷ []) (plug D V) (cD, tt)) h.spot.fits;
-        apart = h.spot.apart;
-        root = ch.rows.other_root (can-turn-root n es C low child turn x y cx cy a b d h) ∙ h.spot.root;
-      };
-      fits = on.0;
-      apart = λ l. let p : occurs l (high ∷ links_of es') + (count l (plug D V) + count l d) ≤ 1 = A l in let i = occurs-head l high (links_of es') in
-          let j = count-plug l D W in let k = count-plug l D V in let g = count-node_at l (flip turn) high V y cy d in omega (arith, p, i, j, k, g);
-      to = sym (top-node_at (flip turn) high V y cy d);
-    }
-
--- two lists with one last entry each agree in both parts
-pub snoc-inj : (xs ys : List (Link × Turn)) (p q : Link × Turn) → xs ++ p ∷ [] ≡ ys ++ q ∷ [] → (xs ≡ ys) × (p ≡ q)
-snoc-inj [] [] p q e = (refl, (let r : p ≡ q = cc in r))
-snoc-inj [] (y ∷ []) p q e = let z : ◌≡◌ {A = List (Link × Turn)} [] (q ∷ []) = cc in cc
-snoc-inj [] (y ∷ z ∷ ys) p q e = let w : ◌≡◌ {A = List (Link × Turn)} [] (z ∷ (ys ++ q ∷ [])) = cc in cc
-snoc-inj (x ∷ []) [] p q e = let z : ◌≡◌ {A = List (Link × Turn)} (p ∷ []) [] = cc in cc
-snoc-inj (x ∷ z ∷ xs) [] p q e = let w : ◌≡◌ {A = List (Link × Turn)} (z ∷ (xs ++ p ∷ [])) [] = cc in cc
-snoc-inj (x ∷ xs) (y ∷ ys) p q e =
-    let h : x ≡ y = cc in let t : xs ++ p ∷ [] ≡ ys ++ q ∷ [] = cc in
-    let k = snoc-inj xs ys p q t in ((λ i. h i ∷ k.0 i), k.1)
+-- then it can take the place of what hangs at the end of the path
+pub beside-hung : (n : Nodes) (es : List (Link × Turn)) (C : List Frame) (t : Tree) (r : Link) (u more : Tree) → Beside n es C t r u more → ((l : Link) → count l u ≤ cond (same r l) 1 0 + (count l t + count l more)) → top u ≡ Some r → CanTransplant n es C t u (Some r)
+beside-hung n es C t r u more h fewer e = record {
+  spot = h.spot;
+  fits = h.fits;
+  apart = λ l. let i = count-plug l C t in let j = count-plug l C u in let a = h.apart l in let f = fewer l in omega (arith, i, j, a, f);
+  to = sym e;
+}
 
 -- the tree that a rotation is to turn
 abbrev pub to_turn : Turn → Link → Link → ℕ → ℕ → Colour → Colour → Tree → Tree → Tree → Tree
@@ -167,23 +107,17 @@ to-rotate n ps es C turn at child x y cx cy a b d q sp = record {
   spot = sp;
 }
 
--- a spot above the last entry, by the entry that was popped
-pub aligned : (F : Link × Turn → Tree) (n : Nodes) (ps es es' : List (Link × Turn)) (e e' : Link × Turn) (C : List Frame) → ps ≡ es ++ e ∷ [] → ps ≡ es' ++ e' ∷ [] → Spot n es C (F e) → Spot n es' C (F e')
-aligned F n ps es es' e e' C p q sp = let k = snoc-inj es es' e e' (sym p ∙ q) in subst (λ (z : List (Link × Turn) × Link × Turn). Spot n z.0 C (F (z.1, z.2))) (λ i. (k.0 i, (k.1 i).0, (k.1 i).1)) sp
-
 -- the same rotation, by the entry that was popped
 abbrev pub popped-rotation : (n : Nodes) (ps es : List (Link × Turn)) (e : Link × Turn) (child : Link) → ToRotate n ps child → ps ≡ es ++ e ∷ [] → ToRotate n ps child
 popped-rotation n ps es e child r q =
     to-rotate n ps es r.frames e.1 e.0 child r.item r.child_item r.colour r.child_colour r.outer r.inner r.far q
-    (aligned (λ z. to_turn z.1 z.0 child r.item r.child_item r.colour r.child_colour r.outer r.inner r.far) n ps r.above es (r.at, r.turn) e r.frames r.entry q r.spot)
+    (let k = same_from_push r.above es (r.at, r.turn) e (sym r.entry ∙ q) in
+    subst (λ (z : List (Link × Turn) × Link × Turn). Spot n z.0 r.frames (to_turn z.2 z.1 child r.item r.child_item r.colour r.child_colour r.outer r.inner r.far)) (λ i. (k.0 i, (k.1 i).0, (k.1 i).1)) r.spot)
 
 -- the trees of the child, which stand
-child-fits : (n : Nodes) (ps : List (Link × Turn)) (child : Link) (r : ToRotate n ps child) → Fits (live n) (node_at (flip r.turn) child r.inner r.child_item r.child_colour r.far)
+pub child-fits : (n : Nodes) (ps : List (Link × Turn)) (child : Link) (r : ToRotate n ps child) → Fits (live n) (node_at (flip r.turn) child r.inner r.child_item r.child_colour r.far)
 child-fits n ps child r =
     (inner (live n) r.turn r.at (node_at (flip r.turn) child r.inner r.child_item r.child_colour r.far) r.item r.colour r.outer (fits-end (live n) r.frames (to_turn r.turn r.at child r.item r.child_item r.colour r.child_colour r.outer r.inner r.far) r.spot.fits)).0
-
-pub child-row : (n : Nodes) (ps : List (Link × Turn)) (child : Link) → ToRotate n ps child → HasRow n child
-child-row n ps child r = node-has-row n (flip r.turn) child r.inner r.child_item r.child_colour r.far (child-fits n ps child r)
 
 -- the child of the child that goes over to the other node
 pub inner-is : (n : Nodes) (ps : List (Link × Turn)) (child : Link) (r : ToRotate n ps child) (side : Turn) (o : Option Link) → side ≡ flip r.turn
@@ -197,25 +131,53 @@ can-lower n ps child r o e =
     can-change n r.above r.frames r.turn r.at (node_at (flip r.turn) child r.inner r.child_item r.child_colour r.far) r.item r.colour r.outer o r.spot
     (top-live n r.inner o (inner (live n) (flip r.turn) child r.inner r.child_item r.child_colour r.far (child-fits n ps child r)).0 e)
 
--- after the first change
-abbrev pub HalfOf : Nodes → (n : Nodes) (ps : List (Link × Turn)) (child : Link) → ToRotate n ps child → List (Link × Turn) → Link → Type 0
-HalfOf m n ps child r es low = Half m es r.frames low child r.turn r.item r.child_item r.colour r.child_colour r.outer r.inner r.far
+-- after the first change: the node has the inner tree, and the child stands beside
+pub record Lowered (m n : Nodes) (ps : List (Link × Turn)) (child : Link) (r : ToRotate n ps child) (es : List (Link × Turn)) (low : Link) : Type 0 where
+  pub frames : List Frame
+  pub alike : SameButLinks r.frames frames
+  pub beside : Beside m es frames (node_at r.turn low r.inner r.item r.colour r.outer) child (node_at (flip r.turn) child r.inner r.child_item r.child_colour r.far) r.far
 
-pub lowered : (n m : Nodes) (ps es : List (Link × Turn)) (child low : Link) (r : ToRotate n ps child) (o : Option Link) → o ≡ top r.inner → Changes n m r.above es r.at low r.turn o → HalfOf m n ps child r es low
-lowered n m ps es child low r o e ch = halved n m r.above es r.frames r.at low child r.turn r.item r.child_item r.colour r.child_colour r.outer r.inner r.far o r.spot ch e
+pub lowered : (n m : Nodes) (ps es : List (Link × Turn)) (child low : Link) (r : ToRotate n ps child) (o : Option Link) → o ≡ top r.inner → Changes n m r.above es r.at low r.turn o → Lowered m n ps child r es low
+lowered n m ps es child low r o e ch =
+    let C = r.frames in let Y = node_at (flip r.turn) child r.inner r.child_item r.child_colour r.far in let T = node_at r.turn r.at Y r.item r.colour r.outer in
+    let up : (l : Link) → count l (plug C T) ≡ occurs l (r.at ∷ links_of (entries C)) + (sides l C + (count l Y + count l r.outer)) = λ l. count-at l C r.turn r.at Y r.item r.colour r.outer in
+    let below : (l : Link) → count l Y ≡ cond (same child l) 1 0 + (count l r.inner + count l r.far) = λ l. count-node_at l (flip r.turn) child r.inner r.child_item r.child_colour r.far in
+    let start = child-fits n ps child r in let parts = inner (live n) (flip r.turn) child r.inner r.child_item r.child_colour r.far start in
+    let mv = child-replaced n m r.above es r.at low r.turn o C r.item r.colour r.outer Y r.inner ch r.spot e parts.0
+    (λ l. let k = count-at l C r.turn r.at r.inner r.item r.colour r.outer in let h = r.spot.apart l in let i = up l in let j = below l in omega (arith, k, h, i, j)) in
+    let R = λ (l : Link). sides l C + (count l Y + count l r.outer) in
+    let total : (l : Link) → occurs l (r.at ∷ links_of r.above) + R l ≤ 1 = λ l. subst (λ (z : List (Link × Turn)). occurs l (r.at ∷ links_of z) + R l ≤ 1) r.spot.path (let h = r.spot.apart l in let i = up l in omega (arith, h, i)) in
+    let kept : (l : Link) → 1 ≤ R l → (y : Row) → live n l ≡ Some y → live m l ≡ Some y = λ l j. others-live n m r.above es r.at low r.turn o ch l (absent l (r.at ∷ links_of r.above) (let h = total l in omega (arith, h, j))) in
+    let A = apart-new n m r.above es r.at low r.turn o R ch (λ l j. in-row (live n) l (plug C T) r.spot.fits (let i = up l in omega (arith, i, j))) total in
+    record {
+      frames = mv.0;
+      alike = mv.1;
+      beside = record {
+        spot = mv.2;
+        fits = stays (live n) (live m) Y (λ l j. kept l (omega (arith, j))) start;
+        more_fits = stays (live n) (live m) r.far (λ l j. kept l (let i = below l in omega (arith, i, j))) parts.1;
+        apart = λ l. let k = count-at l mv.0 r.turn low r.inner r.item r.colour r.outer in let i = sides-SameButLinks l C mv.0 mv.1 in let h : occurs l (low ∷ links_of es) + (sides l C + (count l Y + count l r.outer)) ≤ 1 = A l in let j = below l in
+            let p : occurs l (low ∷ links_of (entries mv.0)) ≡ occurs l (low ∷ links_of es) = ap (λ (z : List (Link × Turn)). occurs l (low ∷ links_of z)) mv.2.path in omega (arith, k, i, h, j, p);
+      };
+    }
 
--- what the second change asks for, where its path `none` is empty
-pub can-raise : (n m : Nodes) (ps es none : List (Link × Turn)) (child low : Link) (r : ToRotate n ps child) → HalfOf m n ps child r es low → none ≡ [] → CanChange m none child (Some low)
+-- what the second change asks for
+pub can-raise : (n m : Nodes) (ps es none : List (Link × Turn)) (child low : Link) (r : ToRotate n ps child) → Lowered m n ps child r es low → none ≡ [] → CanChange m none child (Some low)
 can-raise n m ps es none child low r h e =
-    subst (λ (z : List (Link × Turn)). CanChange m z child (Some low)) (sym e) (can-turn m es r.frames low child r.turn r.item r.child_item r.colour r.child_colour r.outer r.inner r.far h)
+    let V = node_at r.turn low r.inner r.item r.colour r.outer in
+    can-change-beside m es none h.frames V child (flip r.turn) r.inner V r.child_item r.child_colour r.far r.far (Some low) h.beside (fits-end (live m) h.frames V h.beside.spot.fits) (sym (top-node_at r.turn low r.inner r.item r.colour r.outer)) e
 
--- after the second change the child can take the place of the other node
-pub raised : (n m p : Nodes) (ps es none none' : List (Link × Turn)) (child low high : Link) (r : ToRotate n ps child) (h : HalfOf m n ps child r es low) (side : Turn) → none ≡ [] → side ≡ flip r.turn
+-- after it the child can take the place of the other node
+pub raised : (n m p : Nodes) (ps es none none' : List (Link × Turn)) (child low high : Link) (r : ToRotate n ps child) (h : Lowered m n ps child r es low) (side : Turn) → none ≡ [] → side ≡ flip r.turn
     → Changes m p none none' child high side (Some low)
     → CanTransplant p es h.frames (node_at r.turn low r.inner r.item r.colour r.outer) (turned_tree r.turn low high r.item r.child_item r.colour r.child_colour r.outer r.inner r.far) (Some high)
 raised n m p ps es none none' child low high r h side e s ch =
-    turned m p es none' r.frames low child high r.turn r.item r.child_item r.colour r.child_colour r.outer r.inner r.far h
-    (subst (λ (z : List (Link × Turn) × Turn). Changes m p z.0 none' child high z.1 (Some low)) (λ i. (e i, s i)) ch)
+    let V = node_at r.turn low r.inner r.item r.colour r.outer in
+    let zero_there : count child V + count child r.far ≡ 0 = (let a = h.beside.apart child in let s = self-once child (count child (plug h.frames V) + count child r.far) in let i = count-plug child h.frames V in omega (arith, a, s, i)) in
+    beside-hung p es h.frames V high (node_at (flip r.turn) high V r.child_item r.child_colour r.far) r.far
+    (beside-changed m p es none none' h.frames V child high (flip r.turn) r.inner V r.child_item r.child_colour r.far r.far (Some low) h.beside (fits-end (live m) h.frames V h.beside.spot.fits) zero_there
+    (sym (top-node_at r.turn low r.inner r.item r.colour r.outer)) e (subst (λ (i : Turn). Changes m p none none' child high i (Some low)) s ch))
+    (λ l. let k = count-node_at l (flip r.turn) high V r.child_item r.child_colour r.far in omega (arith, k)) (top-node_at (flip r.turn) high V r.child_item r.child_colour r.far)
 
 -- after the third the tree at the end of the path is turned: the whole rotation, by what its calls tell
 pub rotated : (n m p q : Nodes) (ps up es none none' qs : List (Link × Turn)) (e : Link × Turn) (child low high : Link) (side side' : Turn) (o : Option Link) (r : ToRotate n ps child) → ps ≡ up ++ e ∷ [] → side ≡ flip e.1 → ((row : Row) → n.rows child ≡ Some row → o ≡ child_of side row)
@@ -237,5 +199,5 @@ turned-live m ps C turn low high x y cx cy a b d mv =
 pub same-turn : (q : Nodes) (ps es : List (Link × Turn)) (e : Link × Turn) (qs : List (Link × Turn)) (child low high : Link) (n : Nodes) (r : ToRotate n ps child) (cx cy : Colour) → ps ≡ es ++ e ∷ []
     → Replaced q qs r.frames (turned_tree e.1 low high r.item r.child_item cx cy r.outer r.inner r.far) → Replaced q qs r.frames (turned_tree r.turn low high r.item r.child_item cx cy r.outer r.inner r.far)
 same-turn q ps es e qs child low high n r cx cy z mv =
-    let back = (snoc-inj r.above es (r.at, r.turn) e (sym r.entry ∙ z)).1 in
+    let back = (same_from_push r.above es (r.at, r.turn) e (sym r.entry ∙ z)).1 in
     subst (λ (t : Turn). Replaced q qs r.frames (turned_tree t low high r.item r.child_item cx cy r.outer r.inner r.far)) (sym (ap (λ k. k.1) back)) mv

@@ -13,7 +13,7 @@ use Rattle.loc_rb.specs.Steps.{IsRedTop, Replaced, CanTransplant, LacksBlack, To
 use Rattle.loc_rb.proofs.Trees.{fits-end, count-plug, count-node_at, items-plug}
 use Rattle.loc_rb.proofs.ReadCalls.{no-top, colour-is}
 use Rattle.loc_rb.proofs.Recolouring.{recolour-spot}
-use Rattle.loc_rb.proofs.Balanced.{balanced-parts, taken-by, awaits-alike, awaits-cut, black-hangs, holds-of, red-shape, red-blackened, zero-black, may-hang, may-be-black}
+use Rattle.loc_rb.proofs.Balanced.{taken-by, awaits-alike, awaits-cut, black-hangs, holds-of, red-shape, red-blackened, zero-black, may-hang, may-be-black}
 use Rattle.loc_rb.proofs.ItemLists.{before-SameButLinks, after-SameButLinks}
 use Rattle.loc_rb.proofs.OneChange.{some-link}
 use Rattle.loc_rb.proofs.InsertionSteps.{red-top-live}
@@ -61,30 +61,29 @@ splice-list n es at L D t q s e =
     ∙ ap (λ z. before p.frames ++ z) (append_assoc (items p.left) (items p.right) (after p.frames)) ∙ sym (append_assoc (before p.frames) (items p.left) (items p.right ++ after p.frames))
     ∙ (λ i. p.low i ++ p.high i) ∙ q.list
 
+-- the children of a node whose colour is told
+coloured-parts : (c k : Colour) (l : Link) (a : Tree) (x : ℕ) (b : Tree) (h : ℕ) → c ≡ k → HasBlackHeight (node l a x c b) h → MayHang k a × MayHang k b × ((i : ℕ) × (h ≡ black k + i) × HasBlackHeight a i × HasBlackHeight b i)
+coloured-parts c k l a x b h e p = subst (λ (z : Colour). HasBlackHeight (node l a x z b) h) e p
+
 -- a red node leaves a red-black tree
 pub splice-red : (n m : Nodes) (es ps : List (Link × Turn)) (at : Link) (L : List ℕ) → (q : ToSpliceOut n es at L) → Replaced m ps q.place.frames (remaining q.place.left q.place.right) → q.place.colour ≡ Red → Holds m L
 splice-red n m es ps at L q mv e =
     let p = q.place in let T = node at p.left q.item p.colour p.right in let U = remaining p.left p.right in
-    let t = taken-by Red p.balanced.1.0 p.frames T p.balanced.0 p.balanced.1.1 in
-    let parts = subst (λ (z : Colour). MayHang z p.left × MayHang z p.right × ((i : ℕ) × (t.height ≡ black z + i) × HasBlackHeight p.left i × HasBlackHeight p.right i)) e (balanced-parts Left at p.left q.item p.colour p.right t.height t.balanced) in
-    let z : t.height ≡ parts.2.0 = parts.2.1 ∙ zero-black parts.2.0 in
-    holds-of m ps mv.0 U t.height L mv.2 (awaits-alike p.frames mv.0 t.height mv.1 (awaits-cut p.frames T p.balanced t)) (black-hangs t.parent U (remaining-has IsBlackTop p.left p.right parts.0 parts.1))
-    (subst (λ (i : ℕ). HasBlackHeight U i) (sym z) (remaining-has (λ u. HasBlackHeight u parts.2.0) p.left p.right parts.2.2 parts.2.3)) (splice-list n es at L mv.0 U q mv.1 refl)
+    let t = taken-by Red p.balanced.1.0 p.frames T p.balanced.0 p.balanced.1.1 in let parts = coloured-parts p.colour Red at p.left q.item p.right t.height e t.balanced in
+    holds-of m ps mv.0 U t.height L mv.2 (awaits-alike _ _ _ mv.1 (awaits-cut p.frames T p.balanced t)) (black-hangs t.parent U (remaining-has IsBlackTop p.left p.right parts.0 parts.1))
+    (subst (λ (i : ℕ). HasBlackHeight U i) (sym (parts.2.1 ∙ zero-black parts.2.0)) (remaining-has (λ u. HasBlackHeight u parts.2.0) p.left p.right parts.2.2 parts.2.3)) (splice-list n es at L mv.0 U q mv.1 refl)
 
 -- what a black node that is cut out leaves
 record BlackSplice (n : Nodes) (es : List (Link × Turn)) (at : Link) (L : List ℕ) (q : ToSpliceOut n es at L) : Type 0 where
   pub awaits : Awaits q.place.frames (1 + 0)
   pub balanced : HasBlackHeight (remaining q.place.left q.place.right) 0
 
-no-height : (a b : Tree) (k : ℕ) → MissesChild a b → HasBlackHeight a k → HasBlackHeight b k → k ≡ 0
-no-height a b k s p q = elim s as (λ _. k ≡ 0) [ inl e ↦ subst (λ (t : Tree). HasBlackHeight t k) e p | inr e ↦ subst (λ (t : Tree). HasBlackHeight t k) e q ]
-
 black-splice : (n : Nodes) (es : List (Link × Turn)) (at : Link) (L : List ℕ) → (q : ToSpliceOut n es at L) → q.place.colour ≡ Black → BlackSplice n es at L q
 black-splice n es at L q e =
     let p = q.place in let T = node at p.left q.item p.colour p.right in
     let t = taken-by Red p.balanced.1.0 p.frames T p.balanced.0 p.balanced.1.1 in
-    let parts = subst (λ (z : Colour). MayHang z p.left × MayHang z p.right × ((i : ℕ) × (t.height ≡ black z + i) × HasBlackHeight p.left i × HasBlackHeight p.right i)) e (balanced-parts Left at p.left q.item p.colour p.right t.height t.balanced) in
-    let z = no-height p.left p.right parts.2.0 q.spare parts.2.2 parts.2.3 in
+    let parts = coloured-parts p.colour Black at p.left q.item p.right t.height e t.balanced in
+    let z = elim q.spare as (λ _. parts.2.0 ≡ 0) [ inl e ↦ subst (λ (t : Tree). HasBlackHeight t parts.2.0) e parts.2.2 | inr e ↦ subst (λ (t : Tree). HasBlackHeight t parts.2.0) e parts.2.3 ] in
     record {
       awaits = subst (λ (i : ℕ). Awaits p.frames i) (parts.2.1 ∙ ap (λ i. 1 + i) z) (awaits-cut p.frames T p.balanced t);
       balanced = subst (λ (i : ℕ). HasBlackHeight (remaining p.left p.right) i) z (remaining-has (λ u. HasBlackHeight u parts.2.0) p.left p.right parts.2.2 parts.2.3);
@@ -106,9 +105,8 @@ pub splice-red-child : (n m m' : Nodes) (es ps : List (Link × Turn)) (at child 
 splice-red-child n m m' es ps at child L q mv e o d =
     let b = black-splice n es at L q e in let U = remaining q.place.left q.place.right in let r = red-shape Left child U (zero-red U child b.balanced o) in
     let T = node child r.near r.item Black r.far in
-    holds-of m' ps mv.0 T (1 + 0) L (recolour-spot m m' ps mv.0 Left child r.near r.item Red Black r.far d (subst (λ (t : Tree). Spot m ps mv.0 t) r.is mv.2))
-    (awaits-alike q.place.frames mv.0 (1 + 0) mv.1 b.awaits) (may-hang b.awaits.parent Left child r.near r.item Black r.far (may-be-black b.awaits.parent)) (red-blackened Left child U 0 r b.balanced)
-    (splice-list n es at L mv.0 T q mv.1 (ap items (sym r.is)))
+    holds-of m' ps mv.0 T (1 + 0) L (recolour-spot m m' ps mv.0 Left child r.near r.item Red Black r.far d (subst (λ (t : Tree). Spot m ps mv.0 t) r.is mv.2)) (awaits-alike _ _ _ mv.1 b.awaits)
+    (may-hang b.awaits.parent Left child r.near r.item Black r.far (may-be-black b.awaits.parent)) (red-blackened Left child U 0 r b.balanced) (splice-list n es at L mv.0 T q mv.1 (ap items (sym r.is)))
 
 -- without a child a black node is lacking
 pub splice-lacks : (n m : Nodes) (es ps : List (Link × Turn)) (at : Link) (L : List ℕ) → (q : ToSpliceOut n es at L) → Replaced m ps q.place.frames (remaining q.place.left q.place.right) → q.place.colour ≡ Black → top (remaining q.place.left q.place.right) ≡ None → LacksBlack m ps L

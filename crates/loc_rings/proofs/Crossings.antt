@@ -8,14 +8,8 @@ use Rattle.loc_spec_plane.specs.Rays.{crosses_right}
 use Rattle.loc_spec_plane.specs.Rings.{ring_segments, segment_between}
 use Rattle.loc_laws_order.proofs.Sides.{above-not_below, on-not_above, on-not_below}
 use Rattle.loc_laws_rays.proofs.Parity.{exactly_one-false}
+use Rattle.loc_laws_rays.proofs.RayLaw.{turn_back}
 use Rattle.loc_rings.specs.Parity.{IsParity}
-
--- the turn of the way back
-turn_back : (a b p : Point) → turn b a p ≡ pos 0 -ℤ turn a b p
-unfolding turn
-turn_back a b p =
-    let ax = variable 0 in let ay = variable 1 in let bx = variable 2 in let by = variable 3 in let x = variable 4 in let y = variable 5 in
-    ring (a.x ∷ a.y ∷ b.x ∷ b.y ∷ p.x ∷ p.y ∷ []) (minus (times (minus ax bx) (minus y by)) (times (minus ay by) (minus x bx))) (minus (number (pos 0)) (minus (times (minus bx ax) (minus y ay)) (times (minus by ay) (minus x ax)))) tt
 
 -- a way down has the point to its left exactly where the point is below the segment
 below_is : (s : Edge) (p : Point) → int_lt (pos 0) (turn s.hi s.lo p) ≡ is_below s p

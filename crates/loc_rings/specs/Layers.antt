@@ -1,4 +1,4 @@
--- The features of a layer and its limits. The words: `point_count`, `points_of`, `IsLayer`.
+-- The features of a layer and its limits. The words: `point_count`, `layer_points`, `IsLayer`.
 use Rattle.std.specs.Prelude.{ℕ, ◌≤◌, ◌^◌, List, length, sum_by}
 use Rattle.loc_rings.specs.Values.{Feature, rings_of}
 
@@ -7,10 +7,10 @@ abbrev pub point_count : Feature → ℕ
 point_count feature = sum_by length (rings_of feature)
 
 -- the written ring points of all features
-abbrev pub points_of : List Feature → ℕ
-points_of features = sum_by point_count features
+abbrev pub layer_points : List Feature → ℕ
+layer_points features = sum_by point_count features
 
 -- a layer has at most 2^18 features, which have at most 2^20 written ring points together
 pub record IsLayer (features : List Feature) : Type 0 where
   pub few_features : length features ≤ 2 ^ 18
-  pub few_points : points_of features ≤ 2 ^ 20
+  pub few_points : layer_points features ≤ 2 ^ 20

@@ -1,6 +1,7 @@
 // A feature: an id and its rings.
 
 ghost use Rattle.std.specs.Prelude.{◌≡◌, ◌≤◌, length, vec_len};
+ghost use Rattle.loc_rings.specs.Values.{most_id_bytes};
 
 use crate::rings::Rings;
 use std::marker::Model;
@@ -14,19 +15,19 @@ pub struct Feature {
 
 impl Model for Feature {
     ghost use Rattle.std.specs.Prelude.{◌≤◌, vec_len};
-    ghost use Rattle.loc_rings.specs.Values.{Feature as FeatureValue};
+    ghost use Rattle.loc_rings.specs.Values.{Feature as FeatureValue, most_id_bytes};
 
     ghost Value = { FeatureValue };
 
     ghost view = { λ f. record { id = f.id.items; polygons = f.rings } };
 
-    ghost invariant = { λ f. vec_len f.id ≤ 200 };
+    ghost invariant = { λ f. vec_len f.id ≤ most_id_bytes };
 }
 
 impl Feature {
     /// The feature with this id and these rings.
     pub fn new(id: Vec<u8>, rings: Rings) -> Feature
-        requires { vec_len id ≤ 200 }
+        requires { vec_len id ≤ most_id_bytes }
         ensures id { result.id ≡ id.items }
         ensures polygons { result.polygons ≡ rings }
     {
@@ -36,7 +37,7 @@ impl Feature {
     /// The bytes of the id.
     pub fn id(&self) -> &[u8]
         ensures value { result.now ≡ self.now.id }
-        ensures short { length result.now ≤ 200 }
+        ensures short { length result.now ≤ most_id_bytes }
     {
         self.id.as_slice()
     }

@@ -2,7 +2,7 @@
 
 ghost use Rattle.std.specs.Prelude.{◌≡◌, ◌^◌, ◌+◌, ◌<◌, ◌≤◌, [], ◌∷◌, ◌++◌, length, slice_get, sum_by, nat_le, Some, IfSome, MatchOption, OnOk, OnErr};
 ghost use Rattle.loc_spec_text.specs.Reading.{all_rings};
-ghost use Rattle.loc_rings.specs.Layers.{IsLayer, point_count, points_of};
+ghost use Rattle.loc_rings.specs.Layers.{IsLayer, point_count, layer_points};
 
 use crate::features::Feature;
 use crate::rings::Rings;
@@ -24,13 +24,13 @@ pub struct Layer {
 impl Model for Layer {
     ghost use Rattle.std.specs.Prelude.{◌≡◌, List};
     ghost use Rattle.loc_rings.specs.Values.{Feature as FeatureValue};
-    ghost use Rattle.loc_rings.specs.Layers.{IsLayer, points_of};
+    ghost use Rattle.loc_rings.specs.Layers.{IsLayer, layer_points};
 
     ghost Value = { List FeatureValue };
 
     ghost view = { λ l. l.features.items };
 
-    ghost invariant = { λ l. IsLayer l.features.items × (l.points ≡ points_of l.features.items) };
+    ghost invariant = { λ l. IsLayer l.features.items × (l.points ≡ layer_points l.features.items) };
 }
 
 // How many points there are with those of these rings, unless they pass the limit.
@@ -70,7 +70,7 @@ impl Layer {
 
     /// Whether the layer stays within its limit of ring points with this feature.
     pub fn has_room(&self, feature: &Feature) -> bool
-        ensures { result ≡ nat_le (points_of self.now + point_count feature.now) (2 ^ 20) }
+        ensures { result ≡ nat_le (layer_points self.now + point_count feature.now) (2 ^ 20) }
     {
         points_with(self.points, feature.rings()).is_some()
     }
@@ -78,7 +78,7 @@ impl Layer {
     /// Appends a feature. A refusal drops it, and leaves the layer as it was.
     pub fn add(&mut self, feature: Feature) -> Result<(), AllocError>
         requires few_features { length self.old < 2 ^ 18 }
-        requires few_points { points_of self.old + point_count feature ≤ 2 ^ 20 }
+        requires few_points { layer_points self.old + point_count feature ≤ 2 ^ 20 }
         ensures ok { OnOk result (self.new ≡ self.old ++ feature ∷ []) }
         ensures err { OnErr result (self.new ≡ self.old) }
     {
@@ -97,7 +97,7 @@ impl Layer {
 
     /// How many written ring points the features have together.
     pub fn points(&self) -> usize
-        ensures { result ≡ points_of self.now }
+        ensures { result ≡ layer_points self.now }
     {
         self.points
     }

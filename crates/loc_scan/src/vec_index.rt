@@ -26,9 +26,9 @@ pub struct VecIndex {
 
 impl Model for VecIndex {
     ghost use Rattle.std.specs.Prelude.{map};
-    ghost use Rattle.loc_scan.specs.Versions.{Versions};
+    ghost use Rattle.loc_scan.specs.Versions.{KeptLists};
 
-    ghost Value = { Versions };
+    ghost Value = { KeptLists };
 
     ghost view = { λ v. record { status = v.status; lists = map (λ list. list.items) v.lists.items } };
 }

@@ -4,6 +4,8 @@ pub mod PointExamples
 pub mod ReaderLaws
 pub mod LineLaws
 pub mod NumberLaws
-pub mod PieceLaws
+pub mod SymbolLaws
 pub mod CutLaws
 pub mod FaultLaws
+pub mod AnsweredLaws
+pub mod DigitLaws

@@ -9,26 +9,26 @@ use Rattle.std.specs.Prelude.{Result, Err, MatchOption}
 use Rattle.loc_spec_text.specs.Bytes.{err_or}
 use Rattle.loc_spec_text.specs.declared.TextFault.{TextFault}
 use Rattle.loc_spec_text.specs.Reading.{Polygons, reading, reading_of, Reads, ReadsTree, word_fault}
-use Rattle.loc_spec_text.specs.Geometry.{Piece, word, number, open_mark, close_mark, comma, other, separated, enclosed, enclosed_or_empty, PointText, WidePoint, two, three, four, numbers, wide_numbers, point, ring, polygon, Polygon, Ring, Spells, IsTree, pieces}
+use Rattle.loc_spec_text.specs.Geometry.{Symbol, word, number, open_mark, close_mark, comma, other, separated, enclosed, enclosed_or_empty, PointText, WidePoint, two, three, four, numbers, wide_numbers, point, ring, polygon, Polygon, Ring, Spells, IsTree, symbols}
 
--- the next piece is a number
-abbrev pub starts_number : List Piece → Bool
+-- the next symbol is a number
+abbrev pub starts_number : List Symbol → Bool
 starts_number (number n ∷ ps) = true
 starts_number _ = false
 
-pub record IsReader {X : Type 0} (spelled : X → List Piece) (Good : X → Type 0) (read : Reader X) : Type 0 where
-  pub sound : (ps rest : List Piece) (x : X) → read ps ≡ Some (x, rest) → (ps ≡ spelled x ++ rest) × Good x
-  pub complete : (x : X) (rest : List Piece) → Good x → starts_number rest ≡ false → read (spelled x ++ rest) ≡ Some (x, rest)
+pub record IsReader {X : Type 0} (spelled : X → List Symbol) (Good : X → Type 0) (read : Reader X) : Type 0 where
+  pub sound : (ps rest : List Symbol) (x : X) → read ps ≡ Some (x, rest) → (ps ≡ spelled x ++ rest) × Good x
+  pub complete : (x : X) (rest : List Symbol) → Good x → starts_number rest ≡ false → read (spelled x ++ rest) ≡ Some (x, rest)
 
-abbrev NextSplit : {X : Type 0} → Reader (List X) → X → List Piece → List X → List Piece → Type 0
-NextSplit {X} more x ps xs rest = ((ps ≡ close_mark ∷ rest) × (xs ≡ x ∷ [])) ⊎ ((q : List Piece) × (ys : List X) × (ps ≡ comma ∷ q) × (more q ≡ Some (ys, rest)) × (xs ≡ x ∷ ys))
+abbrev NextSplit : {X : Type 0} → Reader (List X) → X → List Symbol → List X → List Symbol → Type 0
+NextSplit {X} more x ps xs rest = ((ps ≡ close_mark ∷ rest) × (xs ≡ x ∷ [])) ⊎ ((q : List Symbol) × (ys : List X) × (ps ≡ comma ∷ q) × (more q ≡ Some (ys, rest)) × (xs ≡ x ∷ ys))
 
-more-sound : {X : Type 0} (x : X) (o : Option (List X × List Piece)) (xs : List X) (rest : List Piece) → option_map (onto x) o ≡ Some (xs, rest)
+more-sound : {X : Type 0} (x : X) (o : Option (List X × List Symbol)) (xs : List X) (rest : List Symbol) → option_map (onto x) o ≡ Some (xs, rest)
     → (ys : List X) × (o ≡ Some (ys, rest)) × (xs ≡ x ∷ ys)
 more-sound x None xs rest e = absurd (cc)
 more-sound x (Some r) xs rest e = let p = some_pair_parts (x ∷ r.0) xs r.1 rest e in (r.0, ap (λ q. Some (r.0, q)) p.1, sym p.0)
 
-next-sound : {X : Type 0} (more : Reader (List X)) (x : X) (ps : List Piece) (xs : List X) (rest : List Piece) → next more x ps ≡ Some (xs, rest) → NextSplit more x ps xs rest
+next-sound : {X : Type 0} (more : Reader (List X)) (x : X) (ps : List Symbol) (xs : List X) (rest : List Symbol) → next more x ps ≡ Some (xs, rest) → NextSplit more x ps xs rest
 next-sound more x (close_mark ∷ q) xs rest e = let p = some_pair_parts (x ∷ []) xs q rest e in inl (ap (λ r. close_mark ∷ r) p.1, sym p.0)
 next-sound more x (comma ∷ q) xs rest e = let s = more-sound x (more q) xs rest e in inr (q, s.0, refl, s.1, s.2)
 next-sound more x [] xs rest e = absurd (cc)
@@ -37,12 +37,12 @@ next-sound more x (number w ∷ q) xs rest e = absurd (cc)
 next-sound more x (open_mark ∷ q) xs rest e = absurd (cc)
 next-sound more x (other w ∷ q) xs rest e = absurd (cc)
 
-separated-more : {X : Type 0} (spelled : X → List Piece) (x : X) (ys : List X) → ys ≢ [] → separated spelled (x ∷ ys) ≡ spelled x ++ comma ∷ separated spelled ys
+separated-more : {X : Type 0} (spelled : X → List Symbol) (x : X) (ys : List X) → ys ≢ [] → separated spelled (x ∷ ys) ≡ spelled x ++ comma ∷ separated spelled ys
 separated-more spelled x [] h = absurd (h refl)
 separated-more spelled x (y ∷ ys) h = refl
 
-module _ {X : Type 0} (spelled : X → List Piece) (Good : X → Type 0) (read : Reader X) (law : IsReader spelled Good read) where
-  members-sound : (k : ℕ) (ps rest : List Piece) (xs : List X) → members_at read k ps ≡ Some (xs, rest)
+module _ {X : Type 0} (spelled : X → List Symbol) (Good : X → Type 0) (read : Reader X) (law : IsReader spelled Good read) where
+  members-sound : (k : ℕ) (ps rest : List Symbol) (xs : List X) → members_at read k ps ≡ Some (xs, rest)
       → (ps ≡ separated spelled xs ++ close_mark ∷ rest) × AllByRecursion Good xs × (xs ≢ [])
   members-sound zero ps rest xs e = absurd (cc)
   members-sound (suc k) ps rest xs e = option_and_then_some (λ p. next (members_at read k) p.0 p.1) (read ps) (xs, rest) e (λ p r n.
@@ -59,7 +59,7 @@ module _ {X : Type 0} (spelled : X → List Piece) (Good : X → Type 0) (read :
         )
       ])
 
-  members-complete : (k : ℕ) (x : X) (xs : List X) (rest : List Piece) → AllByRecursion Good (x ∷ xs) → length (x ∷ xs) ≤ k
+  members-complete : (k : ℕ) (x : X) (xs : List X) (rest : List Symbol) → AllByRecursion Good (x ∷ xs) → length (x ∷ xs) ≤ k
       → members_at read k (separated spelled (x ∷ xs) ++ close_mark ∷ rest) ≡ Some (x ∷ xs, rest)
   members-complete zero x xs rest good fits = absurd (omega arith)
   members-complete (suc k) x [] rest good fits = rw (law.complete x (close_mark ∷ rest) good.0 refl) refl
@@ -71,16 +71,16 @@ module _ {X : Type 0} (spelled : X → List Piece) (Good : X → Type 0) (read :
   length-separated x [] = omega arith
   length-separated x (y ∷ ys) = omega (arith, length-separated y ys, length-append (spelled x) (comma ∷ separated spelled (y ∷ ys)))
 
-  members_fit : (x : X) (xs : List X) (rest : List Piece) → length (x ∷ xs) ≤ length (separated spelled (x ∷ xs) ++ close_mark ∷ rest)
+  members_fit : (x : X) (xs : List X) (rest : List Symbol) → length (x ∷ xs) ≤ length (separated spelled (x ∷ xs) ++ close_mark ∷ rest)
   members_fit x xs rest = omega (arith, length-separated x xs, length-append (separated spelled (x ∷ xs)) (close_mark ∷ rest))
 
   -- a list in parentheses
-  enclosed-sound : (ps rest : List Piece) (xs : List X) → enclosed_at read ps ≡ Some (xs, rest) → (ps ≡ enclosed spelled xs ++ rest) × (AllByRecursion Good xs × (xs ≢ []))
+  enclosed-sound : (ps rest : List Symbol) (xs : List X) → enclosed_at read ps ≡ Some (xs, rest) → (ps ≡ enclosed spelled xs ++ rest) × (AllByRecursion Good xs × (xs ≢ []))
   enclosed-sound (open_mark ∷ ps) rest xs e = let s = members-sound (length ps) ps rest xs e in
       (ap (λ q. open_mark ∷ q) (s.0 ∙ sym (append_assoc (separated spelled xs) (close_mark ∷ []) rest)), (s.1, s.2))
   enclosed-sound _ rest xs e = absurd (cc)
 
-  enclosed-complete : (xs : List X) (rest : List Piece) → AllByRecursion Good xs × (xs ≢ []) → enclosed_at read (enclosed spelled xs ++ rest) ≡ Some (xs, rest)
+  enclosed-complete : (xs : List X) (rest : List Symbol) → AllByRecursion Good xs × (xs ≢ []) → enclosed_at read (enclosed spelled xs ++ rest) ≡ Some (xs, rest)
   enclosed-complete [] rest good = absurd (good.1 refl)
   enclosed-complete (x ∷ xs) rest good = rw (append_assoc (separated spelled (x ∷ xs)) (close_mark ∷ []) rest)
       (members-complete (length (separated spelled (x ∷ xs) ++ close_mark ∷ rest)) x xs rest good.0 (members_fit x xs rest))
@@ -94,18 +94,18 @@ module _ {X : Type 0} (spelled : X → List Piece) (Good : X → Type 0) (read :
   enclosed_or_empty-more [] h = absurd (h refl)
   enclosed_or_empty-more (x ∷ xs) h = refl
 
-  list-sound : (ps rest : List Piece) (xs : List X) → list_at read ps ≡ Some (xs, rest) → (ps ≡ enclosed_or_empty spelled xs ++ rest) × AllByRecursion Good xs
+  list-sound : (ps rest : List Symbol) (xs : List X) → list_at read ps ≡ Some (xs, rest) → (ps ≡ enclosed_or_empty spelled xs ++ rest) × AllByRecursion Good xs
   list-sound (word w ∷ ps) rest xs e =
       let c = cond_some (bytes_eq w (codes "EMPTY")) ([], ps) (xs, rest) e in
       let w_is = (bytes_eq-Decides w (codes "EMPTY")).0 c.0 in
-      let xs_is : [] ≡ xs = ap (λ (p : List X × List Piece). p.0) c.1 in
-      let rest_is : ps ≡ rest = ap (λ (p : List X × List Piece). p.1) c.1 in
+      let xs_is : [] ≡ xs = ap (λ (p : List X × List Symbol). p.0) c.1 in
+      let rest_is : ps ≡ rest = ap (λ (p : List X × List Symbol). p.1) c.1 in
       (ap (λ v. word v ∷ ps) w_is ∙ ap (λ q. word (codes "EMPTY") ∷ q) rest_is ∙ ap (λ ys. enclosed_or_empty spelled ys ++ rest) xs_is, rw (sym xs_is) tt)
   list-sound (open_mark ∷ ps) rest xs e = let s = enclosed-sound (open_mark ∷ ps) rest xs e in
       (s.0 ∙ ap (λ q. q ++ rest) (sym (enclosed_or_empty-more xs s.1.1)), s.1.0)
   list-sound _ rest xs e = absurd (cc)
 
-  list-complete : (xs : List X) (rest : List Piece) → AllByRecursion Good xs → list_at read (enclosed_or_empty spelled xs ++ rest) ≡ Some (xs, rest)
+  list-complete : (xs : List X) (rest : List Symbol) → AllByRecursion Good xs → list_at read (enclosed_or_empty spelled xs ++ rest) ≡ Some (xs, rest)
   list-complete [] rest good = refl
   list-complete (x ∷ xs) rest good = enclosed-complete (x ∷ xs) rest (good, λ z. cc)
 
@@ -113,7 +113,7 @@ module _ {X : Type 0} (spelled : X → List Piece) (Good : X → Type 0) (read :
   pub list_reader : IsReader (enclosed_or_empty spelled) (AllByRecursion Good) (list_at read)
   list_reader = record { sound = list-sound; complete = λ xs rest good h. list-complete xs rest good }
 
-point-sound : (ps rest : List Piece) (p : PointText) → point_at ps ≡ Some (p, rest) → (ps ≡ point numbers p ++ rest) × ⊤
+point-sound : (ps rest : List Symbol) (p : PointText) → point_at ps ≡ Some (p, rest) → (ps ≡ point numbers p ++ rest) × ⊤
 point-sound (number x ∷ number y ∷ ps) rest p e = let s = some_pair_parts (x, y) p ps rest e in
     (ap (λ (q : PointText). number q.0 ∷ number q.1 ∷ ps) s.0 ∙ ap (λ r. number p.0 ∷ number p.1 ∷ r) s.1, tt)
 point-sound _ rest p e = absurd (cc)
@@ -122,10 +122,10 @@ point-sound _ rest p e = absurd (cc)
 pub point_reader : IsReader (point numbers) (λ p. ⊤) point_at
 point_reader = record { sound = point-sound; complete = λ p rest good h. refl }
 
-from_some : (w p : WidePoint) (ps rest : List Piece) → ◌≡◌ {A = Option (WidePoint × List Piece)} (Some (w, ps)) (Some (p, rest)) → (point wide_numbers w ++ ps ≡ point wide_numbers p ++ rest) × ⊤
+from_some : (w p : WidePoint) (ps rest : List Symbol) → ◌≡◌ {A = Option (WidePoint × List Symbol)} (Some (w, ps)) (Some (p, rest)) → (point wide_numbers w ++ ps ≡ point wide_numbers p ++ rest) × ⊤
 from_some w p ps rest e = let s = some_pair_parts w p ps rest e in (ap (λ (q : WidePoint). point wide_numbers q ++ ps) s.0 ∙ ap (λ r. point wide_numbers p ++ r) s.1, tt)
 
-wide_end-sound : (x y z : List ℕ) (ps rest : List Piece) (p : WidePoint) → wide_end x y z ps ≡ Some (p, rest) → (number x ∷ number y ∷ number z ∷ ps ≡ point wide_numbers p ++ rest) × ⊤
+wide_end-sound : (x y z : List ℕ) (ps rest : List Symbol) (p : WidePoint) → wide_end x y z ps ≡ Some (p, rest) → (number x ∷ number y ∷ number z ∷ ps ≡ point wide_numbers p ++ rest) × ⊤
 wide_end-sound x y z (number m ∷ ps) rest p e = from_some (four x y z m) p ps rest e
 wide_end-sound x y z [] rest p e = from_some (three x y z) p [] rest e
 wide_end-sound x y z (word w ∷ ps) rest p e = from_some (three x y z) p (word w ∷ ps) rest e
@@ -134,7 +134,7 @@ wide_end-sound x y z (close_mark ∷ ps) rest p e = from_some (three x y z) p (c
 wide_end-sound x y z (comma ∷ ps) rest p e = from_some (three x y z) p (comma ∷ ps) rest e
 wide_end-sound x y z (other w ∷ ps) rest p e = from_some (three x y z) p (other w ∷ ps) rest e
 
-wide_more-sound : (x y : List ℕ) (ps rest : List Piece) (p : WidePoint) → wide_more x y ps ≡ Some (p, rest) → (number x ∷ number y ∷ ps ≡ point wide_numbers p ++ rest) × ⊤
+wide_more-sound : (x y : List ℕ) (ps rest : List Symbol) (p : WidePoint) → wide_more x y ps ≡ Some (p, rest) → (number x ∷ number y ∷ ps ≡ point wide_numbers p ++ rest) × ⊤
 wide_more-sound x y (number z ∷ ps) rest p e = wide_end-sound x y z ps rest p e
 wide_more-sound x y [] rest p e = from_some (two x y) p [] rest e
 wide_more-sound x y (word w ∷ ps) rest p e = from_some (two x y) p (word w ∷ ps) rest e
@@ -143,20 +143,20 @@ wide_more-sound x y (close_mark ∷ ps) rest p e = from_some (two x y) p (close_
 wide_more-sound x y (comma ∷ ps) rest p e = from_some (two x y) p (comma ∷ ps) rest e
 wide_more-sound x y (other w ∷ ps) rest p e = from_some (two x y) p (other w ∷ ps) rest e
 
-wide-sound : (ps rest : List Piece) (p : WidePoint) → wide_point_at ps ≡ Some (p, rest) → (ps ≡ point wide_numbers p ++ rest) × ⊤
+wide-sound : (ps rest : List Symbol) (p : WidePoint) → wide_point_at ps ≡ Some (p, rest) → (ps ≡ point wide_numbers p ++ rest) × ⊤
 wide-sound (number x ∷ number y ∷ ps) rest p e = wide_more-sound x y ps rest p e
 wide-sound _ rest p e = absurd (cc)
 
 -- no number follows
-wide_more-stops : (x y : List ℕ) (ps : List Piece) → starts_number ps ≡ false → wide_more x y ps ≡ Some (two x y, ps)
+wide_more-stops : (x y : List ℕ) (ps : List Symbol) → starts_number ps ≡ false → wide_more x y ps ≡ Some (two x y, ps)
 wide_more-stops x y (number z ∷ ps) h = absurd (cc)
 wide_more-stops x y _ h = refl
 
-wide_end-stops : (x y z : List ℕ) (ps : List Piece) → starts_number ps ≡ false → wide_end x y z ps ≡ Some (three x y z, ps)
+wide_end-stops : (x y z : List ℕ) (ps : List Symbol) → starts_number ps ≡ false → wide_end x y z ps ≡ Some (three x y z, ps)
 wide_end-stops x y z (number m ∷ ps) h = absurd (cc)
 wide_end-stops x y z _ h = refl
 
-wide-complete : (p : WidePoint) (rest : List Piece) → starts_number rest ≡ false → wide_point_at (point wide_numbers p ++ rest) ≡ Some (p, rest)
+wide-complete : (p : WidePoint) (rest : List Symbol) → starts_number rest ≡ false → wide_point_at (point wide_numbers p ++ rest) ≡ Some (p, rest)
 wide-complete (two x y) rest h = wide_more-stops x y rest h
 wide-complete (three x y z) rest h = wide_end-stops x y z rest h
 wide-complete (four x y z m) rest h = refl
@@ -173,11 +173,11 @@ every : {X : Type 0} (xs : List X) → AllByRecursion (λ x. ⊤) xs
 every [] = tt
 every (x ∷ xs) = (tt, every xs)
 
-one_of-sound : {X : Type 0} (r : X × List Piece) (t : List X) → one_of r ≡ Some t → (r.1 ≡ []) × (t ≡ r.0 ∷ [])
+one_of-sound : {X : Type 0} (r : X × List Symbol) (t : List X) → one_of r ≡ Some t → (r.1 ≡ []) × (t ≡ r.0 ∷ [])
 one_of-sound (x, []) t e = (refl, cc)
 one_of-sound (x, q ∷ ps) t e = absurd (cc)
 
-all_of-sound : {X : Type 0} (r : List X × List Piece) (t : List X) → all_of r ≡ Some t → (r.1 ≡ []) × (t ≡ r.0)
+all_of-sound : {X : Type 0} (r : List X × List Symbol) (t : List X) → all_of r ≡ Some t → (r.1 ≡ []) × (t ≡ r.0)
 all_of-sound (xs, []) t e = (refl, cc)
 all_of-sound (xs, q ∷ ps) t e = absurd (cc)
 
@@ -204,7 +204,7 @@ module _ {P : Type 0} (numbers_of : P → List (List ℕ)) (read : Reader P) (la
   abbrev pub Good : List (Polygon P) → Type 0
   Good t = AllByRecursion (AllByRecursion HasPoint) t
 
-  tree_after-sound : (w : List ℕ) (a b : Bool) → bytes_eq w (codes "POLYGON") ≡ a → bytes_eq w (codes "MULTIPOLYGON") ≡ b → (ps : List Piece) (t : List (Polygon P))
+  tree_after-sound : (w : List ℕ) (a b : Bool) → bytes_eq w (codes "POLYGON") ≡ a → bytes_eq w (codes "MULTIPOLYGON") ≡ b → (ps : List Symbol) (t : List (Polygon P))
       → tree_after polygon_at a b ps ≡ Some t → Spells numbers_of (word w ∷ ps) t × Good t
   tree_after-sound w true b is_one is_many ps t e = option_and_then_some one_of (polygon_at ps) t e (λ r h n.
       let o = one_of-sound r t n in
@@ -227,23 +227,23 @@ module _ {P : Type 0} (numbers_of : P → List (List ℕ)) (read : Reader P) (la
       ))
   tree_after-sound w false false is_one is_many ps t e = absurd (cc)
 
-  tree-sound : (ps : List Piece) (t : List (Polygon P)) → tree_of polygon_at ps ≡ Some t → Spells numbers_of ps t × Good t
+  tree-sound : (ps : List Symbol) (t : List (Polygon P)) → tree_of polygon_at ps ≡ Some t → Spells numbers_of ps t × Good t
   tree-sound (word w ∷ ps) t e = tree_after-sound w (bytes_eq w (codes "POLYGON")) (bytes_eq w (codes "MULTIPOLYGON")) refl refl ps t e
   tree-sound _ t e = absurd (cc)
 
-  tree-complete : (ps : List Piece) (t : List (Polygon P)) → Spells numbers_of ps t → Good t → tree_of polygon_at ps ≡ Some t
+  tree-complete : (ps : List Symbol) (t : List (Polygon P)) → Spells numbers_of ps t → Good t → tree_of polygon_at ps ≡ Some t
   tree-complete ps t (inl s) good = let good_one = rw s.1 at good in
       rw (s.2, s.1) (ap (λ q. option_and_then one_of (polygon_at q)) (sym (append-nil (polygon numbers_of s.0))) ∙ ap (option_and_then one_of) (polygon_reader.complete s.0 [] good_one.0 refl))
   tree-complete ps t (inr s) good =
       rw s (ap (λ q. option_and_then all_of (list_at polygon_at q)) (sym (append-nil (enclosed_or_empty (polygon numbers_of) t))) ∙ ap (option_and_then all_of) (polygons_reader.complete t [] good refl))
 
   -- a text's tree is what the reader reads
-  pub IsTree-read : (text : List ℕ) (t : List (Polygon P)) → IsTree numbers_of text t → tree_of polygon_at (pieces text) ≡ Some t
-  IsTree-read text t h = tree-complete (pieces text) t h.spelled (all_in (λ rings. all_in (λ r ne. (every r, ne)) rings) t h.points)
+  pub IsTree-read : (text : List ℕ) (t : List (Polygon P)) → IsTree numbers_of text t → tree_of polygon_at (symbols text) ≡ Some t
+  IsTree-read text t h = tree-complete (symbols text) t h.spelled (all_in (λ rings. all_in (λ r ne. (every r, ne)) rings) t h.points)
 
   -- what the reader gives is a tree of the grammar
-  pub read-IsTree : (text : List ℕ) (t : List (Polygon P)) → tree_of polygon_at (pieces text) ≡ Some t → IsTree numbers_of text t
-  read-IsTree text t e = let s = tree-sound (pieces text) t e in
+  pub read-IsTree : (text : List ℕ) (t : List (Polygon P)) → tree_of polygon_at (symbols text) ≡ Some t → IsTree numbers_of text t
+  read-IsTree text t e = let s = tree-sound (symbols text) t e in
       record { spelled = s.0; points = all_in (λ rings. all_in (λ r good. good.1) rings) t s.1 }
 
   -- a text has at most one tree
@@ -252,9 +252,9 @@ module _ {P : Type 0} (numbers_of : P → List (List ℕ)) (read : Reader P) (la
 
   -- and it has one or none
   pub tree_or_none : (text : List ℕ) → ((t : List (Polygon P)) × IsTree numbers_of text t) ⊎ ((t : List (Polygon P)) → IsTree numbers_of text t → ⊥)
-  tree_or_none text = go (tree_of polygon_at (pieces text)) refl
+  tree_or_none text = go (tree_of polygon_at (symbols text)) refl
     where
-      go : (o : Option (List (Polygon P))) → tree_of polygon_at (pieces text) ≡ o → ((t : List (Polygon P)) × IsTree numbers_of text t) ⊎ ((t : List (Polygon P)) → IsTree numbers_of text t → ⊥)
+      go : (o : Option (List (Polygon P))) → tree_of polygon_at (symbols text) ≡ o → ((t : List (Polygon P)) × IsTree numbers_of text t) ⊎ ((t : List (Polygon P)) → IsTree numbers_of text t → ⊥)
       go (Some t) e = inl (t, read-IsTree text t e)
       go None e = inr (λ t h. none-some t (sym e ∙ IsTree-read text t h))
 

@@ -10,12 +10,12 @@ use Rattle.std.specs.List.{flat_map}
 use Rattle.std.specs.Str.{bytes_eq, byte}
 use Rattle.loc_spec_text.specs.Bytes.{lines}
 use Rattle.loc_spec_text.specs.Number.{is_on_grid, is_in_range}
-use Rattle.loc_spec_text.specs.Geometry.{Piece, word, number, open_mark, close_mark, pieces, PointText}
+use Rattle.loc_spec_text.specs.Geometry.{Symbol, word, number, open_mark, close_mark, symbols, PointText}
 use Rattle.loc_spec_plane.specs.Points.{Point}
 use Rattle.loc_spec_text.specs.Reading.{position}
 
 -- Two numbers, or the word POINT and two numbers in parentheses (OGC 06-103r4, 7.2.2, point text).
-abbrev pub point_texts : List Piece → Option PointText
+abbrev pub point_texts : List Symbol → Option PointText
 point_texts (number x ∷ number y ∷ []) = Some (x, y)
 point_texts (word w ∷ open_mark ∷ number x ∷ number y ∷ close_mark ∷ []) = if bytes_eq w (codes "POINT") then Some (x, y) else None
 point_texts _ = None
@@ -30,7 +30,7 @@ point_on_grid scale p = if is_grid_number scale p.0 && is_grid_number scale p.1 
 
 -- the point of a line of at most 4096 bytes, if it reads as one
 abbrev pub point_of : ℕ → List ℕ → Option Point
-point_of scale line = if nat_le (length line) 4096 then option_and_then (point_on_grid scale) (point_texts (pieces line)) else None
+point_of scale line = if nat_le (length line) 4096 then option_and_then (point_on_grid scale) (point_texts (symbols line)) else None
 
 -- exactly n digits, zeros in front
 abbrev pub padded_digits : ℕ → ℕ → List ℕ

@@ -1,19 +1,19 @@
 -- A plain reader of the grammar, which computes a text's tree. Its law is that it gives exactly the tree that the grammar gives. The words:
---   Reader                         what is read at the front of the pieces, and the pieces behind it
+--   Reader                         what is read at the front of the symbols, and the symbols behind it
 --   onto, next, members_at, enclosed_at, list_at  lists in parentheses
 --   point_at, wide_end, wide_more, wide_point_at  points of two numbers, and of two, three or four
 --   one_of, all_of, tree_after, tree_of  a whole text
 --   geometry_of, wide_geometry_of  the tree of a text in each grammar
 use Rattle.std.specs.Prelude.{ℕ, zero, suc, Bool, true, false, List, [], ◌∷◌, length, codes, if◌then◌else◌, Option, Some, None, option_map, option_and_then}
 use Rattle.std.specs.Str.{bytes_eq}
-use Rattle.loc_spec_text.specs.Geometry.{Piece, word, number, open_mark, close_mark, comma, PointText, WidePoint, two, three, four, Polygon, pieces}
+use Rattle.loc_spec_text.specs.Geometry.{Symbol, word, number, open_mark, close_mark, comma, PointText, WidePoint, two, three, four, Polygon, symbols}
 
--- what is read at the front of the pieces, and the pieces behind it
+-- what is read at the front of the symbols, and the symbols behind it
 abbrev pub Reader : Type 0 → Type 0
-Reader X = List Piece → Option (X × List Piece)
+Reader X = List Symbol → Option (X × List Symbol)
 
 -- x in front of what was read
-abbrev pub onto : {X : Type 0} → X → List X × List Piece → List X × List Piece
+abbrev pub onto : {X : Type 0} → X → List X × List Symbol → List X × List Symbol
 onto x r = (x ∷ r.0, r.1)
 
 -- the rest of a list in parentheses behind its member x
@@ -58,31 +58,31 @@ abbrev pub wide_point_at : Reader WidePoint
 wide_point_at (number x ∷ number y ∷ ps) = wide_more x y ps
 wide_point_at _ = None
 
--- a whole geometry text of pieces, with nothing behind it
-abbrev pub one_of : {X : Type 0} → X × List Piece → Option (List X)
+-- a whole geometry text of symbols, with nothing behind it
+abbrev pub one_of : {X : Type 0} → X × List Symbol → Option (List X)
 one_of (x, []) = Some (x ∷ [])
 one_of (x, q ∷ ps) = None
 
 -- several polygons, with nothing behind them
-abbrev pub all_of : {X : Type 0} → List X × List Piece → Option (List X)
+abbrev pub all_of : {X : Type 0} → List X × List Symbol → Option (List X)
 all_of (xs, []) = Some xs
 all_of (xs, q ∷ ps) = None
 
 -- what stands behind the first word, where that is POLYGON or MULTIPOLYGON
-abbrev pub tree_after : {P : Type 0} → Reader (Polygon P) → Bool → Bool → List Piece → Option (List (Polygon P))
+abbrev pub tree_after : {P : Type 0} → Reader (Polygon P) → Bool → Bool → List Symbol → Option (List (Polygon P))
 tree_after read true b ps = option_and_then one_of (read ps)
 tree_after read false true ps = option_and_then all_of (list_at read ps)
 tree_after read false false ps = None
 
--- the tree of a text that is cut into pieces
-abbrev pub tree_of : {P : Type 0} → Reader (Polygon P) → List Piece → Option (List (Polygon P))
+-- the tree of a text that is cut into symbols
+abbrev pub tree_of : {P : Type 0} → Reader (Polygon P) → List Symbol → Option (List (Polygon P))
 tree_of read (word w ∷ ps) = tree_after read (bytes_eq w (codes "POLYGON")) (bytes_eq w (codes "MULTIPOLYGON")) ps
 tree_of read _ = None
 
 -- the tree of a text whose points have two numbers, and of one whose points have two, three or four
 unfoldable pub geometry_of : List ℕ → Option (List (Polygon PointText))
-geometry_of text = tree_of (list_at (enclosed_at point_at)) (pieces text)
+geometry_of text = tree_of (list_at (enclosed_at point_at)) (symbols text)
 
 -- the same for points of two, three or four numbers
 unfoldable pub wide_geometry_of : List ℕ → Option (List (Polygon WidePoint))
-wide_geometry_of text = tree_of (list_at (enclosed_at wide_point_at)) (pieces text)
+wide_geometry_of text = tree_of (list_at (enclosed_at wide_point_at)) (symbols text)

@@ -2,7 +2,7 @@
 use Rattle.std.proofs.Common.{◌≡◌, ℕ, zero, suc, ◌+◌, ◌<◌, Bool, true, false, not, ◌&&◌, ◌||◌, List, [], ◌∷◌, ◌++◌, length, map, refl, sym, ◌∙◌, ap, ap₂, subst, inl, inr, arith, Option, Some, None, slice_get}
 use Rattle.std.specs.Prelude.{◌==◌}
 use Rattle.std.specs.List.{All, list_all, last_or}
-use Rattle.std.proofs.lemmas.Bool.{and_parts, and_from, or_parts, or_left, or_right, both_ways, cases_Bool, cases_eq, cond-true, cond-false, eq-eqb, ne_eqb, eqb-true, not-true, not_from_false, false_from_ne_true, true_from_ne_false}
+use Rattle.std.proofs.lemmas.Bool.{and_parts, and_from, or_parts, or_left, or_right, both_ways, cases_Bool, cond-true, cond-false, eq-eqb, eqb-true, not-true, not_from_false, false_from_ne_true}
 use Rattle.std.proofs.lemmas.List.{append_assoc, get_or_append_left, get_or-append-add, length-append, map-append}
 use Rattle.std.proofs.lemmas.List.Elements.{All-append, All-cons, All-from_get_or, All-get_or, All-same}
 use Rattle.std.proofs.Math.Seq.{get_or-append_seam}
@@ -12,8 +12,9 @@ use Rattle.loc_spec_plane.specs.Lists.{is_in}
 use Rattle.loc_spec_plane.specs.Points.{Point, Edge, before, up_to, same_point, same_edge, is_below, conflict}
 use Rattle.loc_spec_plane.specs.Tables.{Table, IsTable, corner, edge, lo_of}
 use Rattle.loc_spec_plane.specs.Places.{alive, lower, neighbours_rise, is_chain}
-use Rattle.loc_laws_order.proofs.Sides.{before_decides, before_irrefl, same_point-true, same-from_neither}
-use Rattle.loc_laws_order.proofs.Tests.{same_edge_decides, same_point_decides}
+use Rattle.loc_laws_order.proofs.Sets.{number_swap}
+use Rattle.loc_laws_order.proofs.Sides.{before_either, same_point_sym, before_irrefl, same_point-true}
+use Rattle.loc_laws_order.proofs.Tests.{same_edge_decides}
 use Rattle.loc_laws_order.proofs.TableOrder.{edge_up}
 use Rattle.loc_laws_order.proofs.ListLaws.{get-map}
 use Rattle.loc_laws_order.proofs.ChainLaws.{chain_differ, chain_lower}
@@ -77,12 +78,6 @@ module _ (e : ℕ) (es front back : List ℕ) (parts : es ≡ front ++ e ∷ bac
   above_is (Some a) next = ap (λ ds. slice_get ds 0) (same_parts e front back next.0 (a ∷ next.1) off_front off_back (sym parts ∙ next.2)).1
 
 -- ---- members
-same_number : (a b : ℕ) → (a == b) ≡ (b == a)
-same_number a b = elim (cases_eq a b) [
-  | inl same ↦ eq-eqb a b same ∙ sym (eq-eqb b a (sym same))
-  | inr other ↦ ne_eqb a b other ∙ sym (ne_eqb b a (λ same. other (sym same)))
-]
-
 -- the members of a list without a number that stands once, and of a list with a new one
 members_without : (front back : List ℕ) (e n : ℕ) → is_in e front ≡ false → is_in e back ≡ false → is_in n (front ++ back) ≡ (is_in n (front ++ e ∷ back) && not (n == e))
 members_without front back e n off_front off_back =
@@ -90,12 +85,10 @@ members_without front back e n off_front off_back =
     ∙ (by_number (is_in n front) (is_in n back) (e == n)
     (λ same. subst (λ k. is_in k front ≡ false) (eqb-true e n same) off_front)
     (λ same. subst (λ k. is_in k back ≡ false) (eqb-true e n same) off_back)
-    ∙ ap₂ (λ x y. x && not y) (sym (list_any-append (λ m. m == n) front (e ∷ back))) (same_number e n))
+    ∙ ap₂ (λ x y. x && not y) (sym (list_any-append (λ m. m == n) front (e ∷ back))) (number_swap e n))
   where
     by_number : (x y same : Bool) → (same ≡ true → x ≡ false) → (same ≡ true → y ≡ false) → (x || y) ≡ ((x || (same || y)) && not same)
-    by_number true y true off_x off_y = absurd (let off = off_x refl in cc)
-    by_number false true true off_x off_y = absurd (let off = off_y refl in cc)
-    by_number false false true off_x off_y = refl
+    by_number x y true off_x off_y = rw (off_x refl, off_y refl) refl
     by_number true y false off_x off_y = refl
     by_number false true false off_x off_y = refl
     by_number false false false off_x off_y = refl
@@ -104,7 +97,7 @@ members_with : (front back : List ℕ) (e n : ℕ) → is_in n (front ++ e ∷ b
 members_with front back e n =
     list_any-append (λ m. m == n) front (e ∷ back)
     ∙ (by_number (is_in n front) (is_in n back) (e == n)
-    ∙ ap₂ (λ x y. x || y) (sym (list_any-append (λ m. m == n) front back)) (same_number e n))
+    ∙ ap₂ (λ x y. x || y) (sym (list_any-append (λ m. m == n) front back)) (number_swap e n))
   where
     by_number : (x y same : Bool) → (x || (same || y)) ≡ ((x || y) || same)
     by_number true y same = refl
@@ -215,8 +208,7 @@ lower_by_below e a live placing = elim (cases_Bool (same_point a.lo e.lo)) [
   | inl common ↦ (let same = same_point-true a.lo e.lo common in
       lower_common e a (sym same) ∙ below_to_above a e same (subst (λ p. is_below a p ≡ true) (common_end a e common) placing.1))
   | inr apart ↦ (let not_first : before e.lo a.lo ≡ false = not-true (before e.lo a.lo) (and_parts (up_to a.lo e.lo) (before e.lo a.hi) live).0 in
-      let second : before a.lo e.lo ≡ true = true_from_ne_false (before a.lo e.lo) (λ not_second. both_ways (same_point a.lo e.lo) apart ((same_point_decides a.lo e.lo).1
-      (same-from_neither a.lo e.lo (λ k. both_ways (before a.lo e.lo) not_second ((before_decides a.lo e.lo).1 k)) (λ k. both_ways (before e.lo a.lo) not_first ((before_decides e.lo a.lo).1 k))))) in
+      let second : before a.lo e.lo ≡ true = before_either e.lo a.lo (same_point_sym e.lo a.lo apart) not_first in
       cond-false (before e.lo a.lo) _ _ not_first ∙ (cond-true (before a.lo e.lo) _ _ second ∙ subst (λ p. is_below a p ≡ true) (other_end a e apart) placing.1))
 ]
 

@@ -8,6 +8,7 @@ use Rattle.loc_spec_plane.specs.Points.{touch}
 use Rattle.loc_spec_plane.specs.Lists.{is_in}
 use Rattle.loc_spec_plane.specs.Tables.{Table, IsTable, corner, edge, lo_of, hi_of, pair_before}
 use Rattle.loc_spec_plane.specs.Places.{alive_at, is_edge}
+use Rattle.loc_laws_order.proofs.Sets.{or_none}
 use Rattle.loc_laws_order.proofs.TableOrder.{edge_up, different, rises}
 use Rattle.loc_edges.specs.Ending.{IsBeginning}
 use Rattle.loc_edges.proofs.Hits.{hits-touch}
@@ -65,7 +66,7 @@ none_came t c first m line in_range = record {
     alone false false = refl
 
 -- an edge with a greater number begins at the same corner or a later one
-lo_rises : (t : Table) → IsTable t → (d e : ℕ) → d < e → e < length t.ends → lo_of t d ≤ lo_of t e
+pub lo_rises : (t : Table) → IsTable t → (d e : ℕ) → d < e → e < length t.ends → lo_of t d ≤ lo_of t e
 lo_rises t ok d e less fits = elim (or_cases (nat_lt (lo_of t d) (lo_of t e)) ((lo_of t d == lo_of t e) && nat_lt (hi_of t d) (hi_of t e)) (rises pair_before (0, 0) t.ends d e ok.edges_rise less fits)) [
   | inl before ↦ (let under : lo_of t d < lo_of t e = ltb-true (lo_of t d) (lo_of t e) before in omega arith)
   | inr beside ↦ (let same : lo_of t d ≡ lo_of t e = eqb-true (lo_of t d) (lo_of t e) (and_parts (lo_of t d == lo_of t e) (nat_lt (hi_of t d) (hi_of t e)) beside).0 in omega arith)
@@ -175,11 +176,7 @@ module _ (t : Table) (ok : IsTable t) (c first past : ℕ) (beginning : IsBeginn
   begins e l h b m g e_is l_is b_is m_is g_is = rw (e_is, l_is, b_is, m_is, g_is) refl
 
   passes : (e l h b m g : Bool) → e ≡ true → l ≡ true → b ≡ false → m ≡ true → h ≡ not g → ((e && (l && h)) || b) ≡ (e && (m && not g))
-  passes e l h b m g e_is l_is b_is m_is h_is = rw (e_is, l_is, b_is, m_is, h_is) (plain (not g))
-    where
-      plain : (x : Bool) → ((true && (true && x)) || false) ≡ (true && (true && x))
-      plain true = refl
-      plain false = refl
+  passes e l h b m g e_is l_is b_is m_is h_is = rw (e_is, l_is, b_is, m_is, h_is) (or_none (not g))
 
   later : (e l h b m g : Bool) → e ≡ true → l ≡ false → b ≡ false → m ≡ false → ((e && (l && h)) || b) ≡ (e && (m && not g))
   later e l h b m g e_is l_is b_is m_is = rw (e_is, l_is, b_is, m_is) refl

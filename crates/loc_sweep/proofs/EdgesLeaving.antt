@@ -1,49 +1,27 @@
 -- What the line of a sweep holds while the edges that end at a corner leave it.
-use Rattle.std.proofs.Common.{◌≡◌, ℕ, zero, suc, ◌+◌, ◌-◌, ◌<◌, ◌≤◌, Bool, true, false, not, ◌&&◌, ◌||◌, List, [], ◌∷◌, length, map, take, get_or, filter, refl, sym, ◌∙◌, ap, ap₂, subst, ◌⊎◌, inl, inr, arith, Some, slice_get}
+use Rattle.std.proofs.Common.{◌≡◌, ℕ, zero, suc, ◌+◌, ◌-◌, ◌<◌, Bool, true, false, not, ◌&&◌, ◌||◌, List, [], ◌∷◌, length, map, take, get_or, filter, refl, sym, ◌∙◌, ap, subst, ◌⊎◌, inl, inr, arith, Some, slice_get}
 use Rattle.std.specs.Prelude.{nat_lt, ◌==◌}
 use Rattle.std.specs.List.{list_all, range_with_len}
 use Rattle.std.proofs.lemmas.Option.{slice_get-get_or}
-use Rattle.std.proofs.lemmas.Bool.{and_from, and_parts, and_right, or_from, or_left, or_right, both_ways, cases_Bool, cases_eq, cases_lt, cases_order, cond-true, cond-false, eq-eqb, eqb-true, ne_eqb, le-ltb, lt-ltb, ltb-true, not_from_false, not-true}
-use Rattle.loc_spec_plane.specs.Points.{Edge, before, up_to}
+use Rattle.std.proofs.lemmas.Bool.{and_from, and_parts, or_from, or_left, or_right, both_ways, cases_Bool, cases_lt, cases_order, cond-true, cond-false, eq-eqb, eqb-true, ne_eqb, le-ltb, lt-ltb, ltb-true, not_from_false, not-true}
+use Rattle.loc_spec_plane.specs.Points.{Edge}
 use Rattle.loc_spec_plane.specs.Lists.{is_in}
 use Rattle.loc_spec_plane.specs.Tables.{Table, IsTable, corner, edge, lo_of, hi_of, edge_numbers}
 use Rattle.loc_spec_plane.specs.Places.{alive, is_edge, neighbours_rise}
 use Rattle.loc_laws_order.proofs.ListLaws.{is_in-get}
-use Rattle.loc_laws_order.proofs.TableOrder.{corner_before, corner_up_to}
+use Rattle.loc_laws_order.proofs.AliveAt.{alive_between}
+use Rattle.loc_laws_order.proofs.Kept.{is_in-filter, is_in-range}
+use Rattle.loc_laws_order.proofs.Sets.{number_swap, or_assoc, or_none}
 use Rattle.loc_status.specs.Lists.{is_chain_at}
 use Rattle.loc_status.specs.Meaning.{StatusMeaning, KeepsSealed, Removes}
-use Rattle.loc_sweep.specs.Course.{IsBefore, Leaves}
+use Rattle.loc_sweep.specs.Course.{Leaves}
 use Rattle.loc_sweep.specs.Line.{IsWithout, reaches, goes_past, ending_at}
 use Rattle.loc_sweep.proofs.Chains.{removed_length}
 
 -- ---- the edges that end at a corner
--- the members of a range
-is_in-range : (a k n : ℕ) → is_in n (range_with_len a k) ≡ (not (nat_lt n a) && nat_lt n (a + k))
-is_in-range a zero n = elim (cases_lt n a) [ inl less ↦ grind arith | inr more ↦ grind arith ]
-is_in-range a (suc k) n = elim (cases_eq a n) [
-  | inl same ↦ or_left (a == n) (is_in n (range_with_len (a + 1) k)) (eq-eqb a n same) ∙ sym (and_from (not (nat_lt n a)) (nat_lt n (a + suc k)) (not_from_false (nat_lt n a) (le-ltb n a (omega arith))) (lt-ltb n (a + suc k) (omega arith)))
-  | inr differ ↦ ap₂ (λ x y. x || y) (ne_eqb a n differ) (is_in-range (a + 1) k n) ∙ elim (cases_lt n a) [ inl less ↦ grind arith | inr more ↦ grind arith ]
-]
-
--- the members of a filtered list
-is_in-filter : (test : ℕ → Bool) (ns : List ℕ) (n : ℕ) → is_in n (filter test ns) ≡ (is_in n ns && test n)
-is_in-filter test [] n = refl
-is_in-filter test (m ∷ ns) n = elim (cases_eq m n) [
-  | inl same ↦ subst (λ k. is_in k (filter test (m ∷ ns)) ≡ (is_in k (m ∷ ns) && test k)) same (here (is_in-filter test ns m) (test m) refl)
-  | inr differ ↦ there (test m) refl differ ∙ (is_in-filter test ns n ∙ ap (λ b. (b || is_in n ns) && test n) (sym (ne_eqb m n differ)))
-]
-  where
-    here : is_in m (filter test ns) ≡ (is_in m ns && test m) → (b : Bool) → test m ≡ b → is_in m (filter test (m ∷ ns)) ≡ (is_in m (m ∷ ns) && test m)
-    here rest true passes = ap (is_in m) (cond-true (test m) (m ∷ filter test ns) (filter test ns) passes) ∙ (or_left (m == m) (is_in m (filter test ns)) (eq-eqb m m refl) ∙ sym (and_from (is_in m (m ∷ ns)) (test m) (or_left (m == m) (is_in m ns) (eq-eqb m m refl)) passes))
-    here rest false fails = ap (is_in m) (cond-false (test m) (m ∷ filter test ns) (filter test ns) fails) ∙ (rest ∙ (and_right (is_in m ns) (test m) fails ∙ sym (and_right (is_in m (m ∷ ns)) (test m) fails)))
-
-    there : (b : Bool) → test m ≡ b → (m ≡ n → ⊥) → is_in n (filter test (m ∷ ns)) ≡ is_in n (filter test ns)
-    there true passes differ = ap (is_in n) (cond-true (test m) (m ∷ filter test ns) (filter test ns) passes) ∙ ap (λ b. b || is_in n (filter test ns)) (ne_eqb m n differ)
-    there false fails differ = ap (is_in n) (cond-false (test m) (m ∷ filter test ns) (filter test ns) fails)
-
 -- they are those whose upper end the corner is
 pub is_in-ending : (t : Table) (c n : ℕ) → is_in n (ending_at t c) ≡ (is_edge t n && (hi_of t n == c))
-is_in-ending t c n = is_in-filter (λ e. hi_of t e == c) (edge_numbers t) n ∙ ap (λ b. b && (hi_of t n == c)) (is_in-range 0 (length t.ends) n ∙ elim (cases_lt n (length t.ends)) [ inl less ↦ grind arith | inr more ↦ grind arith ])
+is_in-ending t c n = is_in-filter (λ e. hi_of t e == c) n (edge_numbers t) ∙ ap (λ b. b && (hi_of t n == c)) (is_in-range 0 (length t.ends) n ∙ elim (cases_lt n (length t.ends)) [ inl less ↦ grind arith | inr more ↦ grind arith ])
 
 -- a member of a filtered range does not stand before its place
 not_before-range : (test : ℕ → Bool) (a k j e : ℕ) → slice_get (filter test (range_with_len a k)) j ≡ Some e → is_in e (take j (filter test (range_with_len a k))) ≡ false
@@ -60,7 +38,7 @@ not_before-range test a (suc k) j e at = elim (cases_Bool (test a)) [
     at_front rest zero e at = refl
     at_front rest (suc j) e at =
         let here : is_in e (filter test (range_with_len (a + 1) k)) ≡ true = is_in-get (filter test (range_with_len (a + 1) k)) j e at in
-        let inside = and_parts (is_in e (range_with_len (a + 1) k)) (test e) (sym (is_in-filter test (range_with_len (a + 1) k) e) ∙ here) in
+        let inside = and_parts (is_in e (range_with_len (a + 1) k)) (test e) (sym (is_in-filter test e (range_with_len (a + 1) k)) ∙ here) in
         let bounds = and_parts (not (nat_lt e (a + 1))) (nat_lt e ((a + 1) + k)) (sym (is_in-range (a + 1) k e) ∙ inside.0) in
         or_from (a == e) (is_in e (take j (filter test (range_with_len (a + 1) k)))) (ne_eqb a e (λ same. (let less : e < a + 1 = omega arith in both_ways (nat_lt e (a + 1)) (not-true (nat_lt e (a + 1)) bounds.0) (lt-ltb e (a + 1) less)))) (rest j e at)
 
@@ -77,16 +55,8 @@ ends_here t c j e at =
 -- one more member at the end of a front
 is_in-take : (ns : List ℕ) (j e n : ℕ) → slice_get ns j ≡ Some e → is_in n (take (suc j) ns) ≡ (is_in n (take j ns) || (e == n))
 is_in-take [] j e n at = absurd cc
-is_in-take (m ∷ ns) zero e n at = let same : m ≡ e = cc in ap (λ k. (k == n) || false) same ∙ or_nothing (e == n)
-  where
-    or_nothing : (b : Bool) → (b || false) ≡ (false || b)
-    or_nothing true = refl
-    or_nothing false = refl
-is_in-take (m ∷ ns) (suc j) e n at = ap (λ b. (m == n) || b) (is_in-take ns j e n at) ∙ or_over (m == n) (is_in n (take j ns)) (e == n)
-  where
-    or_over : (a b c : Bool) → (a || (b || c)) ≡ ((a || b) || c)
-    or_over true b c = refl
-    or_over false b c = refl
+is_in-take (m ∷ ns) zero e n at = let same : m ≡ e = cc in ap (λ k. (k == n) || false) same ∙ or_none (e == n)
+is_in-take (m ∷ ns) (suc j) e n at = ap (λ b. (m == n) || b) (is_in-take ns j e n at) ∙ or_assoc (m == n) (is_in n (take j ns)) (e == n)
 
 -- ---- one edge after another
 -- the edges that reach corner c, but for those that have gone
@@ -97,21 +67,6 @@ pub record IsLeaving (t : Table) (c : ℕ) (gone : List ℕ) (old new : StatusMe
   pub inserted : new.inserted ≡ old.inserted
   pub balance : new.removed + length new.list ≡ old.removed + length old.list
   pub past_greatest : new.past_greatest ≡ old.past_greatest
-
-and_all : (b : Bool) → b ≡ (b && not false)
-and_all true = refl
-and_all false = refl
-
--- none has gone yet
-pub none_gone : (t : Table) (c : ℕ) (m : StatusMeaning) → IsBefore t c m → IsLeaving t c [] m m
-none_gone t c m before = record {
-  chain = before.list.chain;
-  exact = λ n. before.list.exact n ∙ and_all (reaches t c n);
-  kept = record { sealed_lists = refl; sealed = refl };
-  inserted = refl;
-  balance = refl;
-  past_greatest = refl;
-}
 
 -- the next of those that end there is still in the list
 pub still_there : (t : Table) → IsTable t → (c j e : ℕ) (old mid : StatusMeaning) → slice_get (ending_at t c) j ≡ Some e → IsLeaving t c (take j (ending_at t c)) old mid → is_in e mid.list ≡ true
@@ -129,7 +84,7 @@ pub one_gone : (t : Table) (c j e : ℕ) (old mid new : StatusMeaning) → slice
 one_gone t c j e old mid new at leaving removes chain without = record {
   chain = chain;
   exact = λ n. without n ∙ (ap (λ b. b && not (n == e)) (leaving.exact n) ∙ (table (reaches t c n) (is_in n (take j (ending_at t c))) (n == e) ∙
-      ap (λ b. reaches t c n && not b) (ap (λ b. is_in n (take j (ending_at t c)) || b) (turned n) ∙ sym (is_in-take (ending_at t c) j e n at))));
+      ap (λ b. reaches t c n && not b) (ap (λ b. is_in n (take j (ending_at t c)) || b) (number_swap n e) ∙ sym (is_in-take (ending_at t c) j e n at))));
   kept = record { sealed_lists = removes.kept.sealed_lists ∙ leaving.kept.sealed_lists; sealed = removes.kept.sealed ∙ leaving.kept.sealed };
   inserted = removes.inserted ∙ leaving.inserted;
   balance = (let shorter = removed_length e mid.list new.list removes.list in omega (arith, removes.removed, leaving.balance, shorter));
@@ -141,19 +96,7 @@ one_gone t c j e old mid new at leaving removes chain without = record {
     table true false x = refl
     table false g x = refl
 
-    turned : (n : ℕ) → (n == e) ≡ (e == n)
-    turned n = elim (cases_eq n e) [
-      | inl same ↦ eq-eqb n e same ∙ sym (eq-eqb e n (sym same))
-      | inr differ ↦ ne_eqb n e differ ∙ sym (ne_eqb e n (λ same. differ (sym same)))
-    ]
-
 -- ---- all of them
--- an edge is alive at a corner between its ends
-pub alive_between : (t : Table) → IsTable t → (c n : ℕ) → n < length t.ends → lo_of t n ≤ c → c < hi_of t n → alive (edge t n) (corner t c) ≡ true
-alive_between t ok c n fits from to =
-    let up = ok.goes_up n fits in
-    and_from (up_to (corner t (lo_of t n)) (corner t c)) (before (corner t c) (corner t (hi_of t n))) (corner_up_to t ok (lo_of t n) c from (omega arith)) (corner_before t ok c (hi_of t n) to up.1)
-
 -- edges of which each is alive at a corner
 all_alive : (t : Table) (c : ℕ) (es : List ℕ) → ((n : ℕ) → is_in n es ≡ true → alive (edge t n) (corner t c) ≡ true) → list_all (λ (e : Edge). alive e (corner t c)) (map (edge t) es) ≡ true
 all_alive t c [] each = refl
@@ -178,21 +121,10 @@ past_is t c n = ap (λ b. reaches t c n && not b) (is_in-ending t c n) ∙ elim 
     table : (x y under at over : Bool) → ((under ≡ true) × (at ≡ false) × (over ≡ false)) ⊎ (((under ≡ false) × (at ≡ true) × (over ≡ false)) ⊎ ((under ≡ false) × (at ≡ false) × (over ≡ true)))
         → ((x && (y && not under)) && not (x && at)) ≡ (x && (y && over))
     table false y under at over case = refl
-    table true y under at over (inl (u, a, o)) = rw (u, a, o) (only y)
-      where
-        only : (y : Bool) → ((true && (y && not true)) && not (true && false)) ≡ (true && (y && false))
-        only true = refl
-        only false = refl
-    table true y under at over (inr (inl (u, a, o))) = rw (u, a, o) (only y)
-      where
-        only : (y : Bool) → ((true && (y && not false)) && not (true && true)) ≡ (true && (y && false))
-        only true = refl
-        only false = refl
-    table true y under at over (inr (inr (u, a, o))) = rw (u, a, o) (only y)
-      where
-        only : (y : Bool) → ((true && (y && not false)) && not (true && false)) ≡ (true && (y && true))
-        only true = refl
-        only false = refl
+    table true false under at over case = refl
+    table true true under at over (inl (u, a, o)) = rw (u, o) refl
+    table true true under at over (inr (inl (u, a, o))) = rw (u, a, o) refl
+    table true true under at over (inr (inr (u, a, o))) = rw (u, a, o) refl
 
 -- then the line goes on behind the corner
 pub all_gone : (t : Table) → IsTable t → (c : ℕ) (old new : StatusMeaning) → IsLeaving t c (ending_at t c) old new → Leaves t c old new

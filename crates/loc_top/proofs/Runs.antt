@@ -1,10 +1,11 @@
 -- What holds of a run, by the course of its words.
 use Rattle.std.proofs.Common.{◌≡◌, ◌≢◌, ◌⊎◌, ℕ, ◌≤◌, ap, Option, Some, None, refl, sym, ◌∙◌, subst, inl, inr, arith}
 use Rattle.std.specs.Prelude.{IfSome, option_and_then, option_map}
+use Rattle.loc_spec_text.specs.Bytes.{Text}
 use Rattle.loc_io.specs.Meaning.{KeepsFiles}
 use Rattle.loc_io.specs.Streams.{Stream}
 use Rattle.loc_words.specs.Words.{Asked, query, check, build, ask, verify, face, gen, trial}
-use Rattle.loc_course.specs.Courses.{Text, Course, no_memory}
+use Rattle.loc_course.specs.Courses.{Course, no_memory}
 use Rattle.loc_course.specs.Following.{lacks}
 use Rattle.loc_course.specs.Moments.{Moment}
 use Rattle.loc_course.specs.Sentences.{Ended, InTimes, IsPlain, MakesNone, MayMake, MayRefuseBehind, NoCountRose, Notes, ReadsFail, Sentences, Wrote, note_of}

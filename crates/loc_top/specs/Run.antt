@@ -7,12 +7,13 @@
 --   AWriteFailed, WritesFail  when a write failed
 --   FilesOf               which files change
 use Rattle.std.specs.Prelude.{◌≡◌, ◌≢◌, ◌⊎◌, ℕ, ◌-◌, ◌^◌, ◌<◌, List, Option, Some, None, IfSome, option_and_then, option_map, codes}
+use Rattle.loc_spec_text.specs.Bytes.{Text}
 use Rattle.loc_io.specs.Meaning.{KeepsFiles}
 use Rattle.loc_io.specs.Streams.{Stream}
 use Rattle.loc_spec_text.specs.Points.{ended}
 use Rattle.loc_words.specs.Usage.{usage_text}
 use Rattle.loc_words.specs.Words.{Asked, query, check, build, ask, verify, face, gen, trial, command_of}
-use Rattle.loc_course.specs.Courses.{Text, Course, no_memory}
+use Rattle.loc_course.specs.Courses.{Course, no_memory}
 use Rattle.loc_course.specs.Following.{IsToldAtMost}
 use Rattle.loc_course.specs.Moments.{Moment}
 use Rattle.loc_course.specs.Outcomes.{outcome}

@@ -23,15 +23,15 @@ use Rattle.loc_trapdag.specs.declared.index.Step.{Step}
 use Rattle.loc_trapdag.specs.Graphs.{Graph, step_of, IsPiece, IsStepOf, IsGraphOf, IsIndexOf}
 
 -- a step that is read
-pub step_read : (items : List (Option Step)) (g : Graph) → items ≡ g.cuts → (n : ℕ) → n < length g.cuts → (x : Option Step) → x ≡ get_or items n x → step_of g.cuts n ≡ x
-step_read items g same n real x read = sym (get_or_read g.cuts n x real (read ∙ ap (λ (xs : List (Option Step)). get_or xs n x) same) None)
+pub step_read : (t : Table) (g : Graph) → IsGraphOf t g → (n : ℕ) → n < length g.map.rows → (items : List (Option Step)) → items ≡ g.cuts → (x : Option Step) → x ≡ get_or items n x → (o : Option Step) → x ≡ o → step_of g.cuts n ≡ o
+step_read t g graph n real items same x read o is = sym (get_or_read g.cuts n x (let m = graph.many in omega arith) (read ∙ ap (λ (xs : List (Option Step)). get_or xs n x) same) None) ∙ is
 
 -- a part that is there has a number
 part_some : (t : Bool) (part : Trap) (n : ℕ) (rows : List Trap) (o : Option ℕ) → IsPart t part n rows o → t ≡ true → IsSome o
 part_some t part n rows None h is = absurd (both_ways t h is)
 part_some t part n rows (Some i) h is = refl
 
-part_row : (t : Bool) (part : Trap) (n : ℕ) (rows : List Trap) (o : Option ℕ) (i : ℕ) → IsPart t part n rows o → o ≡ Some i → (n ≤ i) × (i < length rows) × (row_of rows i ≡ part)
+pub part_row : (t : Bool) (part : Trap) (n : ℕ) (rows : List Trap) (o : Option ℕ) (i : ℕ) → IsPart t part n rows o → o ≡ Some i → (n ≤ i) × (i < length rows) × (row_of rows i ≡ part)
 part_row t part n rows None i h at = absurd (cc)
 part_row t part n rows (Some j) i h at = let same : j ≡ i = cc in subst (λ k. (n ≤ k) × (k < length rows) × (row_of rows k ≡ part)) same (h.1, h.2, h.3)
 

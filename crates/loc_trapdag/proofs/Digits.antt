@@ -1,9 +1,10 @@
 -- Digits of a line.
-use Rattle.std.proofs.Common.{◌≡◌, ℕ, zero, suc, ◌+◌, ◌*◌, ◌-◌, ◌<◌, min, Bool, true, cond, List, [], ◌∷◌, take, length, get_or, refl, sym, ◌∙◌, ap, subst, inl, inr, arith}
+use Rattle.std.proofs.Common.{◌≡◌, ℕ, suc, ◌+◌, ◌*◌, ◌-◌, ◌<◌, min, Bool, true, cond, List, [], ◌∷◌, take, length, get_or, refl, sym, ◌∙◌, ap, subst, inl, inr, arith}
 use Rattle.std.specs.Char.{is_ascii_digit, digit_value}
 use Rattle.std.specs.List.{list_all, take_while, prefix_len}
 use Rattle.std.proofs.lemmas.Bool.Decides.{nat_tests}
-use Rattle.std.proofs.lemmas.Bool.{cases_Bool, and_parts, and_from}
+use Rattle.std.proofs.lemmas.Bool.{cases_Bool, and_from, both_ways, true_from_ne_false}
+use Rattle.std.proofs.lemmas.List.Folds.{list_all_at}
 
 -- what is taken from the front while a test holds passes it
 pub all_taken : (p : ℕ → Bool) (xs : List ℕ) → list_all p (take_while p xs) ≡ true
@@ -20,9 +21,7 @@ digit_is x h = grind (arith, nat_tests)
 
 -- each member passes
 pub member_passes : (p : ℕ → Bool) (xs : List ℕ) (i : ℕ) → i < length xs → list_all p xs ≡ true → p (get_or xs i 0) ≡ true
-member_passes p [] i less h = absurd (omega arith)
-member_passes p (x ∷ xs) zero less h = (and_parts (p x) (list_all p xs) h).0
-member_passes p (x ∷ xs) (suc i) less h = member_passes p xs i (omega arith) (and_parts (p x) (list_all p xs) h).1
+member_passes p xs i less h = true_from_ne_false (p (get_or xs i 0)) (λ off. both_ways (list_all p xs) (list_all_at p xs i 0 less off) h)
 
 -- the cap holds at each step
 pub cap_more : (value digits digit cap : ℕ) → value ≡ min digits cap → min (value * 10 + digit) cap ≡ min (digits * 10 + digit) cap

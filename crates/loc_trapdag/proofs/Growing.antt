@@ -2,9 +2,7 @@
 use Rattle.std.proofs.Common.{◌≡◌, ℕ, zero, suc, ◌+◌, ◌-◌, ◌<◌, ◌≤◌, Bool, true, false, not, List, [], ◌∷◌, ◌++◌, length, set, take, replicate, get_or-set_other, get_or-set_same, refl, sym, ◌∙◌, ap, subst, ◌⊎◌, inl, inr, arith}
 use Rattle.std.specs.Prelude.{Option, Some, None, nat_lt, if◌then◌else◌, ◌==◌, ◌≢◌}
 use Rattle.std.proofs.lemmas.Bool.{and_from, cases_Bool, cases_lt, cases_eq, lt-ltb, le-ltb, or_left, or_right, eq-eqb}
-use Rattle.std.proofs.lemmas.List.{length_push, length-set, get_or_past, take_all}
-use Rattle.std.proofs.Math.ListN.{get_or-append}
-use Rattle.std.proofs.Math.Seq.{get_or-append_right}
+use Rattle.std.proofs.lemmas.List.{length_push, length-set, get_or_past}
 use Rattle.std.proofs.lemmas.List.Folds.{list_any-append}
 use Rattle.loc_spec_plane.specs.declared.Trap.{Trap}
 use Rattle.loc_spec_plane.specs.Tables.{Table, lo_of, hi_of}
@@ -13,9 +11,10 @@ use Rattle.loc_laws_traps.proofs.Sends.{real_law}
 use Rattle.loc_traps.specs.declared.map.Split.{Split}
 use Rattle.loc_traps.specs.Meaning.{MapMeaning, IsMapOf, row_of, live_of, among}
 use Rattle.loc_traps.specs.Splits.{split_of, IsPart, IsSplitOf, AreSplits, IsAdded}
+use Rattle.loc_traps.proofs.Burying.{grown}
 use Rattle.loc_trapdag.specs.declared.index.Step.{Step}
 use Rattle.loc_trapdag.specs.Graphs.{Graph, step_of, IsPiece, IsStepOf, IsGraphOf, Marks}
-use Rattle.loc_trapdag.proofs.Descent.{piece_later}
+use Rattle.loc_trapdag.proofs.Descent.{part_row, piece_later}
 
 -- ---- noting splits
 module _ (e : ℕ) (splits : List Split) (old : List (Option Step)) where
@@ -80,18 +79,10 @@ split_from t d n m rows split le s = record {
 
 -- a piece of a split is a new row
 piece_new : (t : Table) (d m : ℕ) (rows : List Trap) (split : Split) → IsSplitOf t d m rows split → (k : ℕ) → IsPiece split k → m ≤ k
-piece_new t d m rows split s k (inl before) = part_at split.before s.before before
-  where
-    part_at : (o : Option ℕ) → IsPart (behind_left (row_of rows split.cut).left (lo_of t d)) (part_before (row_of rows split.cut) (lo_of t d)) m rows o → o ≡ Some k → m ≤ k
-    part_at None h at = absurd (cc)
-    part_at (Some i) h at = let same : i ≡ k = cc in let l = h.1 in omega arith
+piece_new t d m rows split s k (inl before) = (part_row (behind_left (row_of rows split.cut).left (lo_of t d)) (part_before (row_of rows split.cut) (lo_of t d)) m rows split.before k s.before before).0
 piece_new t d m rows split s k (inr (inl above)) = subst (λ i. m ≤ i) above s.above_new.0
 piece_new t d m rows split s k (inr (inr (inl below))) = subst (λ i. m ≤ i) below s.below_new.0
-piece_new t d m rows split s k (inr (inr (inr behind))) = part_at split.behind s.behind behind
-  where
-    part_at : (o : Option ℕ) → IsPart (before_right (row_of rows split.cut).right (hi_of t d)) (part_behind (row_of rows split.cut) (hi_of t d)) m rows o → o ≡ Some k → m ≤ k
-    part_at None h at = absurd (cc)
-    part_at (Some i) h at = let same : i ≡ k = cc in let l = h.1 in omega arith
+piece_new t d m rows split s k (inr (inr (inr behind))) = (part_row (before_right (row_of rows split.cut).right (hi_of t d)) (part_behind (row_of rows split.cut) (hi_of t d)) m rows split.behind k s.behind behind).0
 
 module _ (t : Table) (e : ℕ) (old : Graph) (graph : IsGraphOf t old) (map : MapMeaning) (is_map : IsMapOf t map) (added : IsAdded t e old.map map) (splits : List Split) (are : AreSplits t e (length old.map.rows) map.rows old.map.is_live splits)
     (grown cuts : List (Option Step)) (marks : Marks e splits (length splits) grown cuts) (many : length grown ≡ length map.rows) (same : (n : ℕ) → step_of grown n ≡ step_of old.cuts n) where
@@ -212,15 +203,5 @@ module _ (t : Table) (e : ℕ) (old : Graph) (graph : IsGraphOf t old) (map : Ma
       ]
 
 -- ---- a list of steps that has grown has the same steps
-none_in : (m k : ℕ) → step_of (replicate m None) k ≡ None
-none_in zero k = refl
-none_in (suc m) zero = refl
-none_in (suc m) (suc k) = none_in m k
-
-pub steps_grown : (old cuts grown : List (Option Step)) (n many : ℕ) → cuts ≡ old → many ≡ length cuts → many ≤ n → grown ≡ take n cuts ++ replicate (n - many) None → (k : ℕ) → step_of grown k ≡ step_of old k
-steps_grown old cuts grown n many same is_many le is_grown k =
-    ap (λ (cs : List (Option Step)). step_of cs k) (is_grown ∙ ap (λ (cs : List (Option Step)). cs ++ replicate (n - many) None) (take_all n cuts (omega arith))) ∙ (at (cases_lt k (length cuts)) ∙ ap (λ (cs : List (Option Step)). step_of cs k) same)
-  where
-    at : (k < length cuts) ⊎ (length cuts ≤ k) → step_of (cuts ++ replicate (n - many) None) k ≡ step_of cuts k
-    at (inl less) = get_or-append cuts (replicate (n - many) None) None k less
-    at (inr past) = get_or-append_right cuts (replicate (n - many) None) k None past ∙ (none_in (n - many) (k - length cuts) ∙ sym (get_or_past cuts k None past))
+pub steps_grown : (old cuts grown_cuts : List (Option Step)) (n many : ℕ) → cuts ≡ old → many ≡ length cuts → many ≤ n → grown_cuts ≡ take n cuts ++ replicate (n - many) None → (k : ℕ) → step_of grown_cuts k ≡ step_of old k
+steps_grown old cuts grown_cuts n many same is_many le is_grown k = ap (λ (cs : List (Option Step)). step_of cs k) is_grown ∙ (grown true cuts n many is_many le k ∙ ap (λ (cs : List (Option Step)). step_of cs k) same)

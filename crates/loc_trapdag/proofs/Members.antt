@@ -1,8 +1,9 @@
 -- The members of an order: each edge is one, each is new where it stands, and there are as many as edges.
 use Rattle.std.proofs.Common.{◌≡◌, ℕ, zero, suc, ◌+◌, ◌<◌, ◌≤◌, Bool, true, false, ◌||◌, cond, List, [], ◌∷◌, length, take, drop, get_or, refl, sym, ◌∙◌, ap, inl, inr, arith}
 use Rattle.std.specs.Prelude.{nat_lt, ◌==◌, if◌then◌else◌}
-use Rattle.std.proofs.lemmas.Bool.{cases_Bool, cases_lt, eq-eqb, ne_eqb, lt-ltb, ltb-true, or_left, or_right}
+use Rattle.std.proofs.lemmas.Bool.{cases_Bool, cases_lt, eq-eqb, ne_eqb, lt-ltb, ltb-true, or_left}
 use Rattle.std.proofs.lemmas.List.{take_more, take-append-drop}
+use Rattle.std.proofs.lemmas.List.Folds.{list_any_at}
 use Rattle.std.proofs.lemmas.List.Sums.{sum_by-append}
 use Rattle.loc_spec_plane.specs.Lists.{is_in}
 use Rattle.loc_trapdag.specs.Orders.{IsOrder}
@@ -28,9 +29,7 @@ is_in_many e (x ∷ xs) = elim (cases_Bool (x == e)) [
 ]
 
 member : (xs : List ℕ) (i : ℕ) → i < length xs → is_in (get_or xs i 0) xs ≡ true
-member [] i less = absurd (omega arith)
-member (x ∷ xs) zero less = or_left (x == x) (is_in x xs) (eq-eqb x x refl)
-member (x ∷ xs) (suc i) less = or_right (x == get_or xs i 0) (is_in (get_or xs i 0) xs) (member xs i (omega arith))
+member xs i less = list_any_at (λ m. m == get_or xs i 0) xs i 0 less (eq-eqb (get_or xs i 0) (get_or xs i 0) refl)
 
 one_test : (b : Bool) → nat_lt 0 (if b then 1 else 0) ≡ b
 one_test true = refl

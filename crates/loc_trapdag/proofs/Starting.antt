@@ -38,15 +38,18 @@ start_graph map cuts rows live none t is_map = let one : length map.rows ≡ 1 =
 }
 
 -- ---- edge after edge of an order
-module _ (t : Table) (order added : List ℕ) (is_order : IsOrder (length t.ends) order) (i : ℕ) (are : added ≡ take i order) (less : i < length order) where
-  pub next_real : get_or order i 0 < length t.ends
-  next_real = order_real (length t.ends) order is_order i less
+module _ (t : Table) (order : List ℕ) (is_order : IsOrder (length t.ends) order) (items : List ℕ) (same : items ≡ order) (added : List ℕ) (i : ℕ) (are : added ≡ take i items) (less : i < length items) where
+  still : IsOrder (length t.ends) items
+  still = subst (λ (xs : List ℕ). IsOrder (length t.ends) xs) (sym same) is_order
 
-  pub next_new : among added (get_or order i 0) ≡ false
-  next_new = ap (λ (xs : List ℕ). among xs (get_or order i 0)) are ∙ order_new (length t.ends) order is_order i less
+  pub next_real : get_or items i 0 < length t.ends
+  next_real = order_real (length t.ends) items still i less
 
-  pub next_added : take (i + 1) order ≡ added ++ get_or order i 0 ∷ []
-  next_added = take_more order i 0 less ∙ ap (λ (xs : List ℕ). xs ++ get_or order i 0 ∷ []) (sym are)
+  pub next_new : among added (get_or items i 0) ≡ false
+  next_new = ap (λ (xs : List ℕ). among xs (get_or items i 0)) are ∙ order_new (length t.ends) items still i less
+
+  pub next_added : take (i + 1) items ≡ added ++ get_or items i 0 ∷ []
+  next_added = take_more items i 0 less ∙ ap (λ (xs : List ℕ). xs ++ get_or items i 0 ∷ []) (sym are)
 
 pub all_added : (t : Table) (g : Graph) (order : List ℕ) → IsOrder (length t.ends) order → IsTable t → NoConflict t → AllEnds t → IsGraphOf t g → g.map.added ≡ order → IsIndexOf t g
 all_added t g order is_order ok apart ends graph are = record {

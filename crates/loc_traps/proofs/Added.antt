@@ -1,16 +1,16 @@
 -- The map after an edge is added.
-use Rattle.std.proofs.Common.{◌≡◌, ℕ, zero, suc, ◌+◌, ◌*◌, ◌-◌, ◌<◌, ◌≤◌, Bool, true, false, not, ◌&&◌, ◌||◌, List, [], ◌∷◌, ◌++◌, length, refl, sym, ◌∙◌, ap, subst, inl, inr, arith}
-use Rattle.std.specs.Prelude.{Option, if◌then◌else◌, ◌==◌}
-use Rattle.std.proofs.lemmas.Bool.{cases_Bool, both_ways, or_left, or_right, eq-eqb, eqb-true, false_from_ne_true}
+use Rattle.std.proofs.Common.{◌≡◌, ℕ, ◌+◌, ◌*◌, ◌-◌, ◌<◌, ◌≤◌, Bool, true, false, not, ◌&&◌, ◌||◌, List, [], ◌∷◌, ◌++◌, length, refl, sym, ◌∙◌, ap, subst, inl, inr, arith}
+use Rattle.std.specs.Prelude.{Option, None, if◌then◌else◌, ◌==◌}
+use Rattle.std.proofs.lemmas.Bool.{cases_Bool, both_ways, eq-eqb, eqb-true, false_from_ne_true}
 use Rattle.std.proofs.lemmas.List.{length_push, take_all}
-use Rattle.std.proofs.lemmas.List.Folds.{list_any-append}
+use Rattle.std.proofs.lemmas.List.Folds.{list_any-append, list_any_at}
 use Rattle.loc_spec_plane.specs.declared.Trap.{Trap}
 use Rattle.loc_spec_plane.specs.Tables.{Table, lo_of, hi_of}
 use Rattle.loc_spec_plane.specs.Traps.{is_trap}
 use Rattle.loc_laws_traps.specs.Sets.{IsCalmSet, with_edge, behind_left, before_right, is_cut, is_lowest_at, is_highest_at}
 use Rattle.loc_laws_traps.specs.Maps.{IsMap, AreFresh, Names, Renames}
-use Rattle.loc_laws_traps.proofs.Corners.{same_set}
-use Rattle.loc_laws_traps.proofs.Maps.{map_law, names_law}
+use Rattle.loc_laws_traps.proofs.Corners.{is_first_by, same_set}
+use Rattle.loc_laws_traps.proofs.Maps.{map_law, names_by}
 use Rattle.loc_traps.specs.declared.map.Split.{Split}
 use Rattle.loc_traps.specs.declared.walk.Start.{Start}
 use Rattle.loc_traps.specs.declared.walk.Cut.{Cut}
@@ -23,9 +23,7 @@ use Rattle.loc_traps.proofs.Joining.{are_fresh, old_stays, split_cuts, splits_co
 
 -- some split cuts the row, or none does
 cut_by_member : (splits : List Split) (j : ℕ) → j < length splits → is_cut_by splits (split_of splits j).cut ≡ true
-cut_by_member [] j less = absurd (omega arith)
-cut_by_member (s ∷ splits) zero less = or_left (s.cut == s.cut) (is_cut_by splits s.cut) (eq-eqb s.cut s.cut refl)
-cut_by_member (s ∷ splits) (suc j) less = or_right (s.cut == (split_of splits j).cut) (is_cut_by splits (split_of splits j).cut) (cut_by_member splits j (omega arith))
+cut_by_member splits j less = list_any_at (λ (s : Split). s.cut == (split_of splits j).cut) splits j (record { cut = 0; before = None; above = 0; below = 0; behind = None }) less (eq-eqb (split_of splits j).cut (split_of splits j).cut refl)
 
 cut_by_none : (splits : List Split) (i : ℕ) → ((j : ℕ) → j < length splits → (split_of splits j).cut ≡ i → ⊥) → is_cut_by splits i ≡ false
 cut_by_none splits i off = subst (λ (s : List Split). is_cut_by s i ≡ false) (take_all (length splits) splits (omega arith)) (not_before splits (length splits) (omega arith) i off)
@@ -126,19 +124,20 @@ module _ (t : Table) (m : MapMeaning) (is_map : IsMapOf t m) (e : ℕ) (set : Is
         at_most true = omega arith
         at_most false = omega arith
 
+    -- the names of the lowest and of the highest
+    named_by : (up : Bool) (was now : List (Option ℕ)) → Names t (among m.added) n (row_of m.rows) (live_of m.is_live) (is_first_by t up) (named_of was) → Renames n (length new.rows) (row_of new.rows) (is_first_by t up) (named_of was) (named_of now) → Names t (among new.added) (length new.rows) (row_of new.rows) (live_of new.is_live) (is_first_by t up) (named_of now)
+    named_by up was now names renames = subst (λ (A : ℕ → Bool). Names t A (length new.rows) (row_of new.rows) (live_of new.is_live) (is_first_by t up) (named_of now)) sets
+        (subst (λ (rs : List Trap). Names t (with_edge (among m.added) e) (length rs) (row_of rs) (live_of new.is_live) (is_first_by t up) (named_of now)) (sym rows_is)
+        (names_by t (among m.added) e set is_new_one n (length rows) (row_of rows) (live_of m.is_live) (live_of new.is_live) longer old_map pieces old_rows new_rows (named_of was) (named_of now) up
+        (old_names (is_first_by t up) (named_of was) names) (subst (λ (rs : List Trap). Renames n (length rs) (row_of rs) (is_first_by t up) (named_of was) (named_of now)) rows_is renames)))
+
     pub is_map_of : IsMapOf t new
     is_map_of = record {
       calm = subst (λ (A : ℕ → Bool). IsCalmSet t A) sets set;
       flags = flags;
       map = subst (λ (A : ℕ → Bool). IsMap t A (length new.rows) (row_of new.rows) (live_of new.is_live)) sets
           (subst (λ (rs : List Trap). IsMap t (with_edge (among m.added) e) (length rs) (row_of rs) (live_of new.is_live)) (sym rows_is) joined);
-      lowest = subst (λ (A : ℕ → Bool). Names t A (length new.rows) (row_of new.rows) (live_of new.is_live) (is_lowest_at t) (named_of new.lowest)) sets
-          (subst (λ (rs : List Trap). Names t (with_edge (among m.added) e) (length rs) (row_of rs) (live_of new.is_live) (is_lowest_at t) (named_of new.lowest)) (sym rows_is)
-          ((names_law t (among m.added) e set is_new_one n (length rows) (row_of rows) (live_of m.is_live) (live_of new.is_live) longer old_map pieces old_rows new_rows (named_of m.lowest) (named_of new.lowest)).0
-          (old_names (is_lowest_at t) (named_of m.lowest) is_map.lowest) (subst (λ (rs : List Trap). Renames n (length rs) (row_of rs) (is_lowest_at t) (named_of m.lowest) (named_of new.lowest)) rows_is lowest)));
-      highest = subst (λ (A : ℕ → Bool). Names t A (length new.rows) (row_of new.rows) (live_of new.is_live) (is_highest_at t) (named_of new.highest)) sets
-          (subst (λ (rs : List Trap). Names t (with_edge (among m.added) e) (length rs) (row_of rs) (live_of new.is_live) (is_highest_at t) (named_of new.highest)) (sym rows_is)
-          ((names_law t (among m.added) e set is_new_one n (length rows) (row_of rows) (live_of m.is_live) (live_of new.is_live) longer old_map pieces old_rows new_rows (named_of m.highest) (named_of new.highest)).1
-          (old_names (is_highest_at t) (named_of m.highest) is_map.highest) (subst (λ (rs : List Trap). Renames n (length rs) (row_of rs) (is_highest_at t) (named_of m.highest) (named_of new.highest)) rows_is highest)));
+      lowest = named_by true m.lowest new.lowest is_map.lowest lowest;
+      highest = named_by false m.highest new.highest is_map.highest highest;
       few = few;
     }

@@ -1,16 +1,16 @@
 -- Rows that are live no longer, and lists that grow.
-use Rattle.std.proofs.Common.{◌≡◌, ◌≢◌, ℕ, zero, suc, ◌+◌, ◌-◌, ◌<◌, ◌≤◌, Bool, true, false, not, ◌&&◌, ◌||◌, cond, List, [], ◌∷◌, ◌++◌, length, set, take, replicate, get_or, get_or-set_other, get_or-set_same, refl, sym, ◌∙◌, ap, subst, ◌⊎◌, inl, inr, arith}
+use Rattle.std.proofs.Common.{◌≡◌, ◌≢◌, ℕ, zero, suc, ◌+◌, ◌-◌, ◌<◌, ◌≤◌, Bool, true, false, not, ◌&&◌, ◌||◌, cond, List, [], ◌∷◌, ◌++◌, length, set, take, drop, replicate, get_or, get_or-set_other, get_or-set_same, refl, sym, ◌∙◌, ap, subst, ◌⊎◌, inl, inr, arith}
 use Rattle.std.specs.Prelude.{Option, None, if◌then◌else◌, ◌==◌}
 use Rattle.std.proofs.lemmas.Bool.{cases_lt, cases_eq, eq-eqb, ne_eqb}
 use Rattle.std.proofs.lemmas.List.{take_more, take_all, get_or_past}
 use Rattle.std.proofs.lemmas.List.Sums.{sum_by-set}
 use Rattle.std.proofs.Math.ListN.{get_or-append}
-use Rattle.std.proofs.Math.Seq.{get_or-append_right}
+use Rattle.std.proofs.Math.Seq.{get_or-append_right, take-append_seam}
 use Rattle.std.proofs.lemmas.List.Folds.{list_any-append}
 use Rattle.loc_spec_plane.specs.declared.Trap.{Trap}
 use Rattle.loc_laws_traps.specs.Maps.{Renames}
 use Rattle.loc_traps.specs.declared.map.Split.{Split}
-use Rattle.loc_traps.specs.Meaning.{live_of, live_count, named_of}
+use Rattle.loc_traps.specs.Meaning.{live_of, live_count}
 use Rattle.loc_traps.specs.Splits.{split_of, is_cut_by}
 
 -- a row counts as one where it is live
@@ -72,20 +72,24 @@ not_before (s ∷ splits) (suc j) le i off = elim (cases_eq s.cut i) [
   | inr other ↦ rw (ne_eqb s.cut i other) (not_before splits j (omega arith) i (λ k less same. off (suc k) (omega arith) same))
 ]
 
--- a list without names has no name
-none_in : (m k : ℕ) → named_of (replicate m None) k ≡ None
+-- a list of nothing has nothing
+none_in : {A : Type 0} (m k : ℕ) → ◌≡◌ {A = Option A} (get_or (replicate m None) k None) None
 none_in zero k = refl
 none_in (suc m) zero = refl
 none_in (suc m) (suc k) = none_in m k
 
--- a list of names that has grown has the same names
-pub grown : (is_grown : Bool) (names : List (Option ℕ)) (n many : ℕ) → many ≡ length names → many ≤ n → (c : ℕ) → named_of (if is_grown then take n names ++ replicate (n - many) None else names) c ≡ named_of names c
-grown false names n many same le c = refl
-grown true names n many same le c = subst (λ xs. get_or (xs ++ replicate (n - many) None) c None ≡ get_or names c None) (sym (take_all n names (omega arith))) (at (cases_lt c (length names)))
+-- a list that has grown has the same members
+pub grown : {A : Type 0} (is_grown : Bool) (xs : List (Option A)) (n many : ℕ) → many ≡ length xs → many ≤ n → (c : ℕ) → get_or (if is_grown then take n xs ++ replicate (n - many) None else xs) c None ≡ get_or xs c None
+grown false xs n many same le c = refl
+grown true xs n many same le c = subst (λ ys. get_or (ys ++ replicate (n - many) None) c None ≡ get_or xs c None) (sym (take_all n xs (omega arith))) (at (cases_lt c (length xs)))
   where
-    at : (c < length names) ⊎ (length names ≤ c) → get_or (names ++ replicate (n - many) None) c None ≡ get_or names c None
-    at (inl less) = get_or-append names (replicate (n - many) None) None c less
-    at (inr past) = get_or-append_right names (replicate (n - many) None) c None past ∙ (none_in (n - many) (c - length names) ∙ sym (get_or_past names c None past))
+    at : (c < length xs) ⊎ (length xs ≤ c) → get_or (xs ++ replicate (n - many) None) c None ≡ get_or xs c None
+    at (inl less) = get_or-append xs (replicate (n - many) None) None c less
+    at (inr past) = get_or-append_right xs (replicate (n - many) None) c None past ∙ (none_in (n - many) (c - length xs) ∙ sym (get_or_past xs c None past))
+
+-- what is written back is the list itself
+pub written_back : {A : Type 0} (n : ℕ) (xs rest : List A) → length xs ≡ n → take n (xs ++ drop (length xs) rest) ≡ xs
+written_back n xs rest many = subst (λ k. take k (xs ++ drop (length xs) rest) ≡ xs) many (take-append_seam xs (drop (length xs) rest))
 
 -- names from the same names
 pub renames_from : (n m : ℕ) (row : ℕ → Trap) (kind : ℕ → Trap → Bool) (named same renamed : ℕ → Option ℕ) → ((c : ℕ) → same c ≡ named c) → Renames n m row kind same renamed → Renames n m row kind named renamed

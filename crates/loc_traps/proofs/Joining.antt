@@ -1,23 +1,25 @@
 -- The new rows of a walk are the pieces of the cut trapezoids, each once, and the splits tell them.
-use Rattle.std.proofs.Common.{◌≡◌, ℕ, ◌+◌, ◌-◌, ◌<◌, ◌≤◌, Bool, true, false, ◌&&◌, ◌||◌, List, length, refl, sym, ◌∙◌, ap, subst, ◌⊎◌, inl, inr, arith}
+use Rattle.std.proofs.Common.{◌≡◌, ℕ, ◌+◌, ◌-◌, ◌<◌, ◌≤◌, Bool, true, false, ◌||◌, List, length, refl, sym, ◌∙◌, ap, subst, inl, inr, arith}
 use Rattle.std.specs.Prelude.{Option, Some, None, IfSome, IsSomeAnd}
 use Rattle.std.specs.Bool.{then_some}
-use Rattle.std.proofs.lemmas.Bool.{and_parts, or_cases, ltb-true, leb-true, lt-ltb, both_ways, true≢false}
+use Rattle.std.proofs.lemmas.Bool.{and_parts, lt-ltb, both_ways}
 use Rattle.loc_spec_plane.specs.declared.Trap.{Trap}
 use Rattle.loc_spec_plane.specs.Points.{Point, before}
 use Rattle.loc_spec_plane.specs.Tables.{Table, lo_of, hi_of}
-use Rattle.loc_spec_plane.specs.Traps.{same_bound, in_order, is_trap}
-use Rattle.loc_laws_traps.specs.Sets.{IsCalmSet, with_edge, behind_left, before_right, up_to_bound, from_bound, is_cut, part_before, part_behind, spans, is_over_piece, is_under_piece, is_inside, is_lowest_at, is_highest_at}
+use Rattle.loc_spec_plane.specs.Traps.{is_trap}
+use Rattle.loc_laws_traps.specs.Sets.{IsCalmSet, with_edge, behind_left, before_right, up_to_bound, from_bound, is_cut, part_before, part_behind, spans, is_over_piece, is_under_piece, is_inside}
 use Rattle.loc_laws_traps.specs.Laws.{IsPieceOf}
 use Rattle.loc_laws_traps.specs.Maps.{AreFresh}
 use Rattle.loc_laws_traps.proofs.Facts.{Live}
 use Rattle.loc_laws_traps.proofs.Cells.{OfBound, end_real}
-use Rattle.loc_laws_traps.proofs.Runs.{Run, run_of}
+use Rattle.loc_laws_traps.proofs.Runs.{behind_is, Run, run_of}
+use Rattle.loc_laws_traps.proofs.Shapes.{piece_parts, left_spanned}
 use Rattle.loc_laws_traps.proofs.Adding.{is_new, e_up}
-use Rattle.loc_laws_traps.proofs.Add.{cut_law}
-use Rattle.loc_laws_traps.proofs.Corners.{one_at_law}
+use Rattle.loc_laws_traps.proofs.Add.{cuts_from, cut_law}
+use Rattle.loc_laws_traps.proofs.Corners.{is_first_by, one_first}
 use Rattle.loc_laws_traps.proofs.Sends.{send_law, real_law}
-use Rattle.loc_laws_traps.proofs.Fresh.{over_is_piece, under_is_piece, not_both, before_not_over, before_not_under, behind_not_over, behind_not_under}
+use Rattle.loc_laws_traps.proofs.Maps.{no_old_bound}
+use Rattle.loc_laws_traps.proofs.Fresh.{has_cut, not_both}
 use Rattle.loc_traps.specs.declared.map.Split.{Split}
 use Rattle.loc_traps.specs.declared.walk.Start.{Start}
 use Rattle.loc_traps.specs.declared.walk.Cut.{Cut}
@@ -43,21 +45,8 @@ bounds_real t A set (Some c) bottom top right run =
     let cell = run.cells c (omega arith) run.some_cell (end_real t A set c run.opens.is_end) in
     (bound_real t A set c bottom cell.low, bound_real t A set c top cell.high)
 
--- a left that comes before a corner
 left_before : (left : Option ℕ) (c k : ℕ) → left ≡ Some c → behind_left left k ≡ true → c < k
-left_before None c k at h = absurd (cc)
-left_before (Some d) c k at h = let less = ltb-true d k h in let same : d ≡ c = cc in omega arith
-
-left_up_to : (piece cut : Option ℕ) (c lo hi : ℕ) → piece ≡ Some c → lo < hi → (up_to_bound piece (Some lo) || up_to_bound piece cut) ≡ true → behind_left cut hi ≡ true → c < hi
-left_up_to None cut c lo hi at less h g = absurd (cc)
-left_up_to (Some d) None c lo hi at less h g = elim (or_cases (up_to_bound (Some d) (Some lo)) (up_to_bound (Some d) None) h) [
-  | inl early ↦ (let le = leb-true d lo early in let same : d ≡ c = cc in omega arith)
-  | inr none ↦ absurd (true≢false (sym none))
-]
-left_up_to (Some d) (Some b) c lo hi at less h g = elim (or_cases (up_to_bound (Some d) (Some lo)) (up_to_bound (Some d) (Some b)) h) [
-  | inl early ↦ (let le = leb-true d lo early in let same : d ≡ c = cc in omega arith)
-  | inr later ↦ (let le = leb-true d b later in let same : d ≡ c = cc in let lt = ltb-true b hi g in omega arith)
-]
+left_before left c k at h = subst (OfBound (λ d. d < k)) at (behind_is left k h)
 
 some_left : (left : Option ℕ) (n : ℕ) → ((c : ℕ) → left ≡ Some c → c < n) → IfSome left (λ c. c < n)
 some_left None n h = tt
@@ -99,8 +88,8 @@ module _ (t : Table) (m : MapMeaning) (is_map : IsMapOf t m) (e : ℕ) (set : Is
   new_sound i trap (inr (inr (inr behind))) = subst (λ (x : Trap). is_one x) (sym behind.2) ((cut_law t (among m.added) e set is_new_one last_trap last_is w.last_cut).behind behind.1)
 
   new_piece : (i : ℕ) (trap : Trap) → New i trap → (cut : Trap) × IsPieceOf t (among m.added) e cut trap
-  new_piece i trap (inl over) = over_is_piece t (among m.added) e set is_new_one trap (new_sound i trap (inl over)) (ap (λ (x : Trap). x.bottom) over.3)
-  new_piece i trap (inr (inl under)) = under_is_piece t (among m.added) e set is_new_one trap (new_sound i trap (inr (inl under))) (ap (λ (x : Trap). x.top) under.3)
+  new_piece i trap (inl over) = has_cut t (among m.added) e set is_new_one true trap (new_sound i trap (inl over)) (ap (λ (x : Trap). x.bottom) over.3)
+  new_piece i trap (inr (inl under)) = has_cut t (among m.added) e set is_new_one false trap (new_sound i trap (inr (inl under))) (ap (λ (x : Trap). x.top) under.3)
   new_piece i trap (inr (inr (inl before))) = (first_trap, record { was = first_is; is_cut = w.first_cut; kind = inl (before.1, before.2) })
   new_piece i trap (inr (inr (inr behind))) = (last_trap, record { was = last_is; is_cut = w.last_cut; kind = inr (inl (behind.1, behind.2)) })
 
@@ -121,16 +110,16 @@ module _ (t : Table) (m : MapMeaning) (is_map : IsMapOf t m) (e : ℕ) (set : Is
   over_under i j trap over under = not_both t (among m.added) e set is_new_one trap.left trap.bottom trap.top trap.right (run_of t (with_edge (among m.added) e) set trap (new_sound i trap (inl over))) (ap (λ (x : Trap). x.bottom) over.3) (ap (λ (x : Trap). x.top) under.3)
 
   over_before : (i j : ℕ) (trap : Trap) → Over i trap → Before j trap → ⊥
-  over_before i j trap over other = before_not_over t (among m.added) e set is_new_one first_trap trap first_is (sym other.2) (ap (λ (x : Trap). x.bottom) over.3)
+  over_before i j trap over other = no_old_bound t (among m.added) e set is_new_one true first_trap first_is (sym (ap (λ (x : Trap). x.bottom) other.2) ∙ ap (λ (x : Trap). x.bottom) over.3)
 
   over_behind : (i j : ℕ) (trap : Trap) → Over i trap → Behind j trap → ⊥
-  over_behind i j trap over other = behind_not_over t (among m.added) e set is_new_one last_trap trap last_is (sym other.2) (ap (λ (x : Trap). x.bottom) over.3)
+  over_behind i j trap over other = no_old_bound t (among m.added) e set is_new_one true last_trap last_is (sym (ap (λ (x : Trap). x.bottom) other.2) ∙ ap (λ (x : Trap). x.bottom) over.3)
 
   under_before : (i j : ℕ) (trap : Trap) → Under i trap → Before j trap → ⊥
-  under_before i j trap under other = before_not_under t (among m.added) e set is_new_one first_trap trap first_is (sym other.2) (ap (λ (x : Trap). x.top) under.3)
+  under_before i j trap under other = no_old_bound t (among m.added) e set is_new_one false first_trap first_is (sym (ap (λ (x : Trap). x.top) other.2) ∙ ap (λ (x : Trap). x.top) under.3)
 
   under_behind : (i j : ℕ) (trap : Trap) → Under i trap → Behind j trap → ⊥
-  under_behind i j trap under other = behind_not_under t (among m.added) e set is_new_one last_trap trap last_is (sym other.2) (ap (λ (x : Trap). x.top) under.3)
+  under_behind i j trap under other = no_old_bound t (among m.added) e set is_new_one false last_trap last_is (sym (ap (λ (x : Trap). x.top) other.2) ∙ ap (λ (x : Trap). x.top) under.3)
 
   before_behind : (i j : ℕ) (trap : Trap) → Before i trap → Behind j trap → ⊥
   before_behind i j trap one other =
@@ -209,17 +198,13 @@ module _ (t : Table) (m : MapMeaning) (is_map : IsMapOf t m) (e : ℕ) (set : Is
     | inl part ↦ (let less = left_before cut.left c (lo_of t e) (sym (ap (λ (x : Trap). x.left) part.1) ∙ at) part.0 in let u = up in omega arith)
     | inr rest ↦ elim rest [
       | inl part ↦ (let same : Some (hi_of t e) ≡ Some c = sym (ap (λ (x : Trap). x.left) part.1) ∙ at in let is : hi_of t e ≡ c = cc in omega arith)
-      | inr with_e ↦ (let ends : behind_left cut.left (hi_of t e) ≡ true = (and_parts (behind_left cut.left (hi_of t e)) (before_right cut.right (lo_of t e)) (and_parts (behind_left cut.left (hi_of t e) && before_right cut.right (lo_of t e)) (in_order t cut.bottom (Some e) && in_order t (Some e) cut.top) piece.is_cut).0).0 in
-          let less = left_up_to trap.left cut.left c (lo_of t e) (hi_of t e) at up (spans_of with_e) ends in omega arith)
+      | inr with_e ↦ (let less : c < hi_of t e = subst (OfBound (λ d. d < hi_of t e)) at (early (elim with_e [ inl over ↦ (piece_parts t true e cut trap over).2 | inr under ↦ (piece_parts t false e cut trap under).2 ])) in omega arith)
     ]
   ]
     where
-      from_spans : spans t e cut trap ≡ true → (up_to_bound trap.left (Some (lo_of t e)) || up_to_bound trap.left cut.left) ≡ true
-      from_spans h = (and_parts (up_to_bound trap.left (Some (lo_of t e)) || up_to_bound trap.left cut.left) (from_bound trap.right (Some (hi_of t e)) || from_bound trap.right cut.right) h).0
-
-      spans_of : (is_over_piece t e cut trap ≡ true) ⊎ (is_under_piece t e cut trap ≡ true) → (up_to_bound trap.left (Some (lo_of t e)) || up_to_bound trap.left cut.left) ≡ true
-      spans_of (inl over) = from_spans (and_parts (same_bound trap.bottom (Some e) && same_bound trap.top cut.top) (spans t e cut trap) over).1
-      spans_of (inr under) = from_spans (and_parts (same_bound trap.bottom cut.bottom && same_bound trap.top (Some e)) (spans t e cut trap) under).1
+      early : spans t e cut trap ≡ true → OfBound (λ d. d < hi_of t e) trap.left
+      early s = left_spanned (λ d. d < hi_of t e) (λ d k le h. omega arith) (lo_of t e) up trap.left cut.left (cuts_from t (among m.added) e set is_new_one cut piece.is_cut).ends_behind
+          (and_parts (up_to_bound trap.left (Some (lo_of t e)) || up_to_bound trap.left cut.left) (from_bound trap.right (Some (hi_of t e)) || from_bound trap.right cut.right) s).0
 
   pub are_namable : (i : ℕ) → n ≤ i → i < length rows → IsNamable t (hi_of t e + 1) (row_of rows i)
   are_namable i le less =
@@ -228,11 +213,8 @@ module _ (t : Table) (m : MapMeaning) (is_map : IsMapOf t m) (e : ℕ) (set : Is
       let real = bounds_real t (with_edge (among m.added) e) set trap.left trap.bottom trap.top trap.right (run_of t (with_edge (among m.added) e) set trap (are_fresh.sound i le less)) in
       record { left = some_left trap.left (hi_of t e + 1) (λ c at. left_within piece.0 trap c piece.1 at); bottom = real.0; top = real.1 }
 
-  pub one_lowest : IsOneOfAKind n (length rows) (row_of rows) (is_lowest_at t)
-  one_lowest c i j le_i less_i le_j less_j h g = are_fresh.single i j le_i le_j less_i less_j ((one_at_law t (with_edge (among m.added) e) set c (row_of rows i) (row_of rows j) (are_fresh.sound i le_i less_i) (are_fresh.sound j le_j less_j)).0 h g)
-
-  pub one_highest : IsOneOfAKind n (length rows) (row_of rows) (is_highest_at t)
-  one_highest c i j le_i less_i le_j less_j h g = are_fresh.single i j le_i le_j less_i less_j ((one_at_law t (with_edge (among m.added) e) set c (row_of rows i) (row_of rows j) (are_fresh.sound i le_i less_i) (are_fresh.sound j le_j less_j)).1 h g)
+  pub one_by : (up : Bool) → IsOneOfAKind n (length rows) (row_of rows) (is_first_by t up)
+  one_by up c i j le_i less_i le_j less_j h g = are_fresh.single i j le_i le_j less_i less_j (one_first t (with_edge (among m.added) e) set up c (row_of rows i) (row_of rows j) (are_fresh.sound i le_i less_i) (are_fresh.sound j le_j less_j) h g)
 
   pub old_stays : (i : ℕ) → i < n → row_of rows i ≡ row_of m.rows i
   old_stays = old_row m.rows e (lo_of t e) (hi_of t e) overs unders first_trap last_trap

@@ -1,9 +1,9 @@
 -- What an insertion and a removal do to the list, and that there is room for a new edge.
-use Rattle.std.proofs.Common.{◌≡◌, ℕ, ◌<◌, Bool, true, false, ◌||◌, List, [], ◌∷◌, length, map, get_or, refl, sym, ap, subst, inl, inr, arith, Some}
+use Rattle.std.proofs.Common.{◌≡◌, ℕ, ◌<◌, true, false, List, [], ◌∷◌, length, map, get_or, sym, ap, subst, inl, inr, arith, Some}
 use Rattle.std.proofs.Math.Dec.{eqb}
 use Rattle.std.specs.Prelude.{◌==◌}
 use Rattle.std.specs.List.{AllByRecursion, list_any, IsDistinct}
-use Rattle.std.proofs.lemmas.Bool.{both_ways, eq-eqb, eqb-true, ne_eqb, or_cases}
+use Rattle.std.proofs.lemmas.Bool.{both_ways, eq-eqb, eqb-true, ne_eqb, or_cases, or_parts}
 use Rattle.std.proofs.lemmas.List.Elements.{All-get_or}
 use Rattle.std.proofs.lemmas.Map.Keys.{IsDistinct-cons, IsDistinct-from_apart}
 use Rattle.std.proofs.lemmas.Map.Steps.{length-le_from_distinct_below}
@@ -23,10 +23,10 @@ use Rattle.loc_status.proofs.Standing.{chain_in_range}
 use Rattle.loc_status.specs.declared.status.Beside.{Beside}
 use Rattle.loc_status.specs.Lists.{IsBeside}
 use Rattle.loc_status.specs.Meaning as status
+use Rattle.loc_treeidx.proofs.Standing.{is_in_member}
 use Rattle.loc_treeidx.specs.Gaps.{IsPlaceFor, IsNode}
 use Rattle.loc_treeidx.specs.Meaning.{meaning_of}
 use Rattle.loc_treeidx.proofs.Beside.{beside_seam}
-use Rattle.loc_treeidx.proofs.Standing.{is_in_member}
 
 -- what stands beside the place of an edge stands beside it then
 pub stands_beside : (t : Table) (e : ℕ) (old new : VersionsMeaning) (path : List (Link × Turn)) (beside : Beside) → IsPlaceFor t e old path beside → Inserts path e old new → IsBeside e new.list beside
@@ -49,18 +49,13 @@ removes_edge e old new path at node removes = record {
 apart_from : (e : ℕ) (es : List ℕ) → is_in e es ≡ false → AllByRecursion (λ a. eqb e a ≡ false) es
 apart_from e [] out = tt
 apart_from e (a ∷ es) out =
-    let parts = neither (a == e) (is_in e es) out in
+    let parts = or_parts (a == e) (is_in e es) out in
     (ne_eqb e a (λ same. both_ways (a == e) parts.0 (eq-eqb a e (sym same))), apart_from e es parts.1)
-  where
-    neither : (a b : Bool) → (a || b) ≡ false → (a ≡ false) × (b ≡ false)
-    neither false b h = (refl, h)
-    neither true b h = absurd cc
 
 -- a chain in which an edge is missing has fewer edges than the table
 pub chain_has_room : (t : Table) (p : Point) (es : List ℕ) (e : ℕ) → is_chain p (map (edge t) es) ≡ true → is_in e es ≡ false → e < length t.ends → length es < length t.ends
 chain_has_room t p es e chain out fits =
-    let few = length-le_from_distinct_below (e ∷ es) (length t.ends) (IsDistinct-cons eqb e es (apart_from e es out) once) below in
-    omega (arith, few)
+    omega (arith, length-le_from_distinct_below (e ∷ es) (length t.ends) (IsDistinct-cons eqb e es (apart_from e es out) once) below)
   where
     once : IsDistinct eqb es
     once = IsDistinct-from_apart eqb es (λ i j d less inside. (let a = get_or es i d in

@@ -66,26 +66,33 @@ descent-start n content h = record {
   above = refl;
 }
 
+-- a walk goes one node further down
+walk-down : (n : Nodes) (content : List ℕ) (path longer : List (Link × Turn)) (turn : Turn) (at : Link) (next : Option Link) → Walk n path (Some at) content → ((y : Row) → n.rows at ≡ Some y → next ≡ child_of turn y) → longer ≡ path ++ (at, turn) ∷ [] → Walk n longer next content
+walk-down n content path longer turn at next w child entry =
+    let s = sided turn at w.tree w.here in
+    let fr = frame_of (at, turn) s.item s.colour s.far in
+    let fits = sided-fits n path w.frames w.tree turn at w.spot s in
+    let same_tree : plug (w.frames ++ fr ∷ []) s.near ≡ plug w.frames w.tree = plug-snoc w.frames fr s.near ∙ ap (plug w.frames) (sym s.is) in
+    record {
+      frames = w.frames ++ fr ∷ [];
+      tree = s.near;
+      spot = subst (λ (z : List (Link × Turn)). Spot n z (w.frames ++ fr ∷ []) s.near) (sym entry) (pushed n path (at, turn) w.frames s.near s.item s.colour s.far (subst (λ (t : Tree). Spot n path w.frames t) s.is w.spot));
+      here = sym (child-is n turn at s.near s.item s.colour s.far next fits child);
+      balanced = subst (λ (t : Tree). IsRedBlack t) (sym same_tree) w.balanced;
+      whole = ap items same_tree ∙ w.whole;
+    }
+
 -- one node further down, to the right of an item
 pub descent-right : (n : Nodes) (content : List ℕ) (path longer : List (Link × Turn)) (at : Link) (next : Option Link) (below above : Option ℕ) (item : ℕ) → IsDescent n content path (Some at) below above
     → ((y : Row) → n.rows at ≡ Some y → item ≡ y.item) → ((y : Row) → n.rows at ≡ Some y → next ≡ child_of Right y) → longer ≡ path ++ (at, Right) ∷ [] → IsDescent n content longer next (Some item) above
+unfolding walk-down
 descent-right n content path longer at next below above item d read child entry =
     let w = d.walk in
     let s = sided Right at w.tree w.here in
-    let fr = frame_of (at, Right) s.item s.colour s.far in
-    let fits = sided-fits n path w.frames w.tree Right at w.spot s in
-    let same : item ≡ s.item = item-is n at s.far s.item s.colour s.near item fits read in
-    let same_tree : plug (w.frames ++ fr ∷ []) s.near ≡ plug w.frames w.tree = plug-snoc w.frames fr s.near ∙ ap (plug w.frames) (sym s.is) in
-    let front : (before w.frames ++ items s.far) ++ s.item ∷ [] ≡ before (w.frames ++ fr ∷ []) = append_assoc (before w.frames) (items s.far) (s.item ∷ []) ∙ sym (before-right w.frames at s.item s.colour s.far) in
+    let same : item ≡ s.item = item-is n at s.far s.item s.colour s.near item (sided-fits n path w.frames w.tree Right at w.spot s) read in
+    let front : (before w.frames ++ items s.far) ++ s.item ∷ [] ≡ before (w.frames ++ frame_of (at, Right) s.item s.colour s.far ∷ []) = append_assoc (before w.frames) (items s.far) (s.item ∷ []) ∙ sym (before-right w.frames at s.item s.colour s.far) in
     record {
-      walk = record {
-        frames = w.frames ++ fr ∷ [];
-        tree = s.near;
-        spot = subst (λ (z : List (Link × Turn)). Spot n z (w.frames ++ fr ∷ []) s.near) (sym entry) (pushed n path (at, Right) w.frames s.near s.item s.colour s.far (subst (λ (t : Tree). Spot n path w.frames t) s.is w.spot));
-        here = sym (child-is n Right at s.near s.item s.colour s.far next fits child);
-        balanced = subst (λ (t : Tree). IsRedBlack t) (sym same_tree) w.balanced;
-        whole = ap items same_tree ∙ w.whole;
-      };
+      walk = walk-down n content path longer Right at next w child entry;
       below = subst (λ xs. IsLast xs (Some item)) front (subst (λ x. IsLast ((before w.frames ++ items s.far) ++ x ∷ []) (Some item)) same (last-snoc (before w.frames ++ items s.far) item));
       above = d.above ∙ ap (λ xs. slice_get xs 0) (sym (after-right w.frames at s.item s.colour s.far));
     }
@@ -93,22 +100,13 @@ descent-right n content path longer at next below above item d read child entry 
 -- one node further down, to the left of an item
 pub descent-left : (n : Nodes) (content : List ℕ) (path longer : List (Link × Turn)) (at : Link) (next : Option Link) (below above : Option ℕ) (item : ℕ) → IsDescent n content path (Some at) below above
     → ((y : Row) → n.rows at ≡ Some y → item ≡ y.item) → ((y : Row) → n.rows at ≡ Some y → next ≡ child_of Left y) → longer ≡ path ++ (at, Left) ∷ [] → IsDescent n content longer next below (Some item)
+unfolding walk-down
 descent-left n content path longer at next below above item d read child entry =
     let w = d.walk in
     let s = sided Left at w.tree w.here in
-    let fr = frame_of (at, Left) s.item s.colour s.far in
-    let fits = sided-fits n path w.frames w.tree Left at w.spot s in
-    let same : item ≡ s.item = item-is n at s.near s.item s.colour s.far item fits read in
-    let same_tree : plug (w.frames ++ fr ∷ []) s.near ≡ plug w.frames w.tree = plug-snoc w.frames fr s.near ∙ ap (plug w.frames) (sym s.is) in
+    let same : item ≡ s.item = item-is n at s.near s.item s.colour s.far item (sided-fits n path w.frames w.tree Left at w.spot s) read in
     record {
-      walk = record {
-        frames = w.frames ++ fr ∷ [];
-        tree = s.near;
-        spot = subst (λ (z : List (Link × Turn)). Spot n z (w.frames ++ fr ∷ []) s.near) (sym entry) (pushed n path (at, Left) w.frames s.near s.item s.colour s.far (subst (λ (t : Tree). Spot n path w.frames t) s.is w.spot));
-        here = sym (child-is n Left at s.near s.item s.colour s.far next fits child);
-        balanced = subst (λ (t : Tree). IsRedBlack t) (sym same_tree) w.balanced;
-        whole = ap items same_tree ∙ w.whole;
-      };
+      walk = walk-down n content path longer Left at next w child entry;
       below = subst (λ xs. IsLast xs below) (sym (before-left w.frames at s.item s.colour s.far)) d.below;
       above = ap Some same ∙ ap (λ xs. slice_get xs 0) (sym (after-left w.frames at s.item s.colour s.far));
     }
@@ -186,8 +184,7 @@ descent-end n content path lower upper d =
 pub last_there : (front back : List ℕ) (last : Option ℕ) → IsLast front last → 0 < length front → last ≡ slice_get (front ++ back) (length front - 1)
 last_there front back last is_last more =
     let less : length front - 1 < length front = omega (arith, more) in
-    let n = length-append front back in
-    let inside : length front - 1 < length (front ++ back) = omega (arith, n, less) in
+    let inside : length front - 1 < length (front ++ back) = omega (arith, length-append front back, less) in
     is_last.some more ∙ (slice_get-get_or front (length front - 1) 0 less ∙ (ap Some (sym (get_or_append_left front back 0 (length front - 1) less)) ∙ sym (slice_get-get_or (front ++ back) (length front - 1) 0 inside)))
 
 module _ (n : Nodes) (content : List ℕ) (path : List (Link × Turn)) (lower upper : Option ℕ) (e : IsEnd n content path lower upper) where

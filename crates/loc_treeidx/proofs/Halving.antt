@@ -3,7 +3,7 @@ use Rattle.std.proofs.Common.{◌≡◌, ℕ, zero, suc, ◌+◌, ◌-◌, ◌*�
 use Rattle.std.specs.Prelude.{nat_le, ◌≢◌}
 use Rattle.std.proofs.Math.Nat.{pow-suc}
 use Rattle.std.proofs.lemmas.Nat.{pow-add, mul-le}
-use Rattle.std.proofs.lemmas.Bool.{both_ways, cases_Bool, cases_eq, cond-true, cond-false}
+use Rattle.std.proofs.lemmas.Bool.{both_ways, cases_Bool, cases_eq, cond-true, cond-false, le-leb, leb-true}
 use Rattle.loc_spec_plane.specs.Tables.{Table}
 use Rattle.loc_treeidx.specs.Steps.{search_bound, greatest_power, most_steps}
 
@@ -14,14 +14,11 @@ greatest_up_to n zero k fits power = fits
 greatest_up_to n (suc b) k fits power = elim (cases_Bool (nat_le (2 ^ suc b) n)) [
   | inl below_n ↦ subst (λ z. k ≤ z) (sym (cond-true (nat_le (2 ^ suc b) n) (suc b) (greatest_power n b) below_n)) fits
   | inr above_n ↦ (let below : k ≤ b = elim (cases_eq k (suc b)) [
-    | inl same ↦ (let holds : nat_le (2 ^ suc b) n ≡ true = at-most (2 ^ suc b) n (subst (λ z. 2 ^ z ≤ n) same power) in absurd (both_ways (nat_le (2 ^ suc b) n) above_n holds))
+    | inl same ↦ (let holds : nat_le (2 ^ suc b) n ≡ true = le-leb (2 ^ suc b) n (subst (λ z. 2 ^ z ≤ n) same power) in absurd (both_ways (nat_le (2 ^ suc b) n) above_n holds))
     | inr other ↦ (let differ : k ≢ suc b = other in omega (arith, fits))
   ] in
       subst (λ z. k ≤ z) (sym (cond-false (nat_le (2 ^ suc b) n) (suc b) (greatest_power n b) above_n)) (greatest_up_to n b k below power))
 ]
-  where
-    at-most : (i j : ℕ) → i ≤ j → nat_le i j ≡ true
-    at-most i j h = grind arith
 
 -- a number is below its power of two
 below_power : (k : ℕ) → k < 2 ^ k
@@ -37,20 +34,16 @@ greatest_below : (n b : ℕ) → 1 ≤ n → 2 ^ greatest_power n b ≤ n
 unfolding greatest_power
 greatest_below n zero some = omega (arith, some)
 greatest_below n (suc b) some = elim (cases_Bool (nat_le (2 ^ suc b) n)) [
-  | inl below_n ↦ subst (λ z. 2 ^ z ≤ n) (sym (cond-true (nat_le (2 ^ suc b) n) (suc b) (greatest_power n b) below_n)) (holds (2 ^ suc b) n below_n)
+  | inl below_n ↦ subst (λ z. 2 ^ z ≤ n) (sym (cond-true (nat_le (2 ^ suc b) n) (suc b) (greatest_power n b) below_n)) (leb-true (2 ^ suc b) n below_n)
   | inr above_n ↦ subst (λ z. 2 ^ z ≤ n) (sym (cond-false (nat_le (2 ^ suc b) n) (suc b) (greatest_power n b) above_n)) (greatest_below n b some)
 ]
-  where
-    holds : (i j : ℕ) → nat_le i j ≡ true → i ≤ j
-    holds i j h = grind arith
 
 -- the most steps of a table are within the bound
 pub most_within : (t : Table) → 2 ^ most_steps t ≤ search_bound (length t.corners) (length t.ends)
 most_within t =
     let v = length t.corners in
     let e = length t.ends in
-    let some = mul-le 1 1 (2 * v + 1) ((e + 1) * (e + 1)) (omega arith) (mul-le 1 1 (e + 1) (e + 1) (omega arith) (omega arith)) in
-    greatest_below (search_bound v e) (search_bound v e) (omega (arith, some))
+    greatest_below (search_bound v e) (search_bound v e) (omega (arith, mul-le 1 1 (2 * v + 1) ((e + 1) * (e + 1)) (omega arith) (mul-le 1 1 (e + 1) (e + 1) (omega arith) (omega arith))))
 
 -- a search among the corners and then one down a version
 pub both_searches : (i j a b : ℕ) → 2 ^ i ≤ a → 2 ^ j ≤ b → 2 ^ (i + j) ≤ a * b
@@ -69,7 +62,5 @@ within_most t k started steps fewer counted few =
     let v = length t.corners in
     let e = length t.ends in
     let square = mul-le (k + 1) (k + 1) (e + 1) (e + 1) (omega (arith, fewer)) (omega (arith, fewer)) in
-    let rises = mul-le (2 * v + 1) ((k + 1) * (k + 1)) (2 * v + 1) ((e + 1) * (e + 1)) (omega arith) square in
-    let power : 2 ^ (steps - started) ≤ search_bound v e = omega (arith, few, rises) in
-    let least = greatest_is (search_bound v e) (steps - started) power in
-    omega (arith, least, counted)
+    let power : 2 ^ (steps - started) ≤ search_bound v e = omega (arith, few, mul-le (2 * v + 1) ((k + 1) * (k + 1)) (2 * v + 1) ((e + 1) * (e + 1)) (omega arith) square) in
+    omega (arith, greatest_is (search_bound v e) (steps - started) power, counted)

@@ -88,12 +88,8 @@ module _ (t : Table) (p : Point) (m : VersionsMeaning) (version : ℕ) (list : L
     -- no more steps than the tree is deep
     pub search-few : 2 ^ (steps - started) ≤ (length list + 1) * (length list + 1)
     search-few =
-        let took = s.took in
-        let counted = s.counted in
-        let fewer : steps - started ≤ s.total = omega (arith, took, counted) in
-        let power = pow_mono fewer in
-        let shallow = s.shallow in
-        omega (arith, power, shallow)
+        let fewer : steps - started ≤ s.total = omega (arith, s.took, s.counted) in
+        omega (arith, pow_mono fewer, s.shallow)
 
     -- where nothing is left, p lies over the edge before
     pub search-area : next ≡ None → IsListAt t p list → IsPlanar t → IsCornerless t p → IsPlace t p (Area floor)
@@ -112,10 +108,6 @@ module _ (t : Table) (p : Point) (m : VersionsMeaning) (version : ℕ) (list : L
       reached : NodeThere version m.rows s.tree at
       reached = node_there version m.rows s.tree at s.there (s.here ∙ is)
 
-      -- the node has a row
-      pub search-row : has m.rows at ≡ true
-      search-row = reached.has_row
-
       -- the tree has a node
       deeper : 1 ≤ depth s.tree
       deeper = let e = ap depth reached.is in omega (arith, e)
@@ -127,16 +119,8 @@ module _ (t : Table) (p : Point) (m : VersionsMeaning) (version : ℕ) (list : L
       -- so the bound holds after it
       pub search-more-few : (after : ℕ) → after ≡ steps + 1 → 2 ^ (after - started) ≤ (length list + 1) * (length list + 1)
       search-more-few after ticked =
-          let more = search-more in
-          let counted = s.counted in
-          let fewer : after - started ≤ s.total = omega (arith, more, counted, ticked) in
-          let power = pow_mono fewer in
-          let shallow = s.shallow in
-          omega (arith, power, shallow)
-
-      -- and the measure falls
-      pub search-smaller : (after : ℕ) → after ≡ steps + 1 → 42 - (after - started) < 42 - (steps - started)
-      search-smaller after ticked = let more = search-more in let counted = s.counted in let deep = s.deep in omega (arith, more, counted, deep, ticked)
+          let fewer : after - started ≤ s.total = omega (arith, search-more, s.counted, ticked) in
+          omega (arith, pow_mono fewer, s.shallow)
 
       module _ (item : ℕ) (read : item ≡ (row m.rows at).item) where
         same : item ≡ reached.item
@@ -165,9 +149,6 @@ module _ (t : Table) (p : Point) (m : VersionsMeaning) (version : ℕ) (list : L
         pub search-left : (after : ℕ) (child : Option Link) → after ≡ steps + 1 → child ≡ child_at version Left (row m.rows at) → is_below (edge t item) p ≡ true → IsSearch t p m version list started after child floor
         search-left after child ticked to below =
             let n = reached in
-            let e = ap depth n.is in
-            let took = s.took in
-            let counted = s.counted in
             record {
               front = s.front;
               tree = n.left;
@@ -181,17 +162,14 @@ module _ (t : Table) (p : Point) (m : VersionsMeaning) (version : ℕ) (list : L
               total = s.total;
               deep = s.deep;
               shallow = s.shallow;
-              counted = omega (arith, counted, ticked);
-              took = omega (arith, e, took, ticked);
+              counted = omega (arith, s.counted, ticked);
+              took = omega (arith, ap depth n.is, s.took, ticked);
             }
 
         -- to the right of an edge that p is above
         pub search-right : (after : ℕ) (child : Option Link) → after ≡ steps + 1 → child ≡ child_at version Right (row m.rows at) → is_above (edge t item) p ≡ true → IsSearch t p m version list started after child (Some item)
         search-right after child ticked to above =
             let n = reached in
-            let e = ap depth n.is in
-            let took = s.took in
-            let counted = s.counted in
             record {
               front = (s.front ++ items n.left) ++ item ∷ [];
               tree = n.right;
@@ -205,6 +183,6 @@ module _ (t : Table) (p : Point) (m : VersionsMeaning) (version : ℕ) (list : L
               total = s.total;
               deep = s.deep;
               shallow = s.shallow;
-              counted = omega (arith, counted, ticked);
-              took = omega (arith, e, took, ticked);
+              counted = omega (arith, s.counted, ticked);
+              took = omega (arith, ap depth n.is, s.took, ticked);
             }

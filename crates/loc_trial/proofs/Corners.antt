@@ -6,7 +6,7 @@ use Rattle.std.proofs.lemmas.Bool.{le-leb}
 use Rattle.std.proofs.lemmas.Fmt.{length-decimal-le}
 use Rattle.std.proofs.lemmas.Nat.{mod_below}
 use Rattle.loc_spec_plane.specs.Points.{point_at}
-use Rattle.loc_spec_text.specs.Geometry.{Piece, number, comma, open_mark, close_mark, word, pieces}
+use Rattle.loc_spec_text.specs.Geometry.{Symbol, number, comma, open_mark, close_mark, word, symbols}
 use Rattle.loc_spec_text.specs.Points.{is_grid_number, point_of, point_on_grid, point_texts}
 use Rattle.loc_spec_text.specs.Reading.{number_fault, reading, ring_fault}
 use Rattle.loc_laws_order.proofs.Sides.{same_point_refl}
@@ -29,7 +29,7 @@ corner_read x y small_x small_y =
     let first = decimal_read x small_x in
     let second = decimal_read y small_y in
     let on : (is_grid_number 0 (decimal x) && is_grid_number 0 (decimal y)) ≡ true = simp (first.on_the_grid, first.within, second.on_the_grid, second.within) in
-    rw (le-leb (length (corner_text x y)) 4096 short) (ap (λ ps. option_and_then (point_on_grid 0) (point_texts ps)) (ap pieces is ∙ cut) ∙ rw on (ap₂ (λ a b. Some (point_at a b)) first.value second.value))
+    rw (le-leb (length (corner_text x y)) 4096 short) (ap (λ ps. option_and_then (point_on_grid 0) (point_texts ps)) (ap symbols is ∙ cut) ∙ rw on (ap₂ (λ a b. Some (point_at a b)) first.value second.value))
 
 -- the line of a point reads as the point
 pub point_read : (n shift t : ℕ) → t < n → n ≤ 131072 → point_of 0 (point_line n shift t) ≡ Some (point_number n shift t)
@@ -56,8 +56,8 @@ pub record IsSmall (r : Rectangle) : Type 0 where
   pub right : r.right < 1048576
   pub high : r.high < 1048576
 
--- the pieces of a rectangle's corners
-pub corners_cut : (r : Rectangle) → IsSmall r → pieces (corners_text r) ≡
+-- the symbols of a rectangle's corners
+pub corners_cut : (r : Rectangle) → IsSmall r → symbols (corners_text r) ≡
     number (decimal r.left) ∷ number (decimal r.low) ∷ comma ∷ number (decimal r.right) ∷ number (decimal r.low) ∷ comma ∷ number (decimal r.right) ∷ number (decimal r.high) ∷ comma
     ∷ number (decimal r.left) ∷ number (decimal r.high) ∷ comma ∷ number (decimal r.left) ∷ number (decimal r.low) ∷ close_mark ∷ close_mark ∷ []
 corners_cut r small =
@@ -65,7 +65,7 @@ corners_cut r small =
     let low : r.low < 2 ^ 64 = omega (arith, small.low) in
     let right : r.right < 2 ^ 64 = omega (arith, small.right) in
     let high : r.high < 2 ^ 64 = omega (arith, small.high) in
-    let two = λ (x y : ℕ) (ps : List Piece). number (decimal x) ∷ number (decimal y) ∷ comma ∷ ps in
+    let two = λ (x y : ℕ) (ps : List Symbol). number (decimal x) ∷ number (decimal y) ∷ comma ∷ ps in
     let rest4 = decimal r.left ++ 32 ∷ (decimal r.low ++ 41 ∷ 41 ∷ []) in
     let rest3 = decimal r.left ++ 32 ∷ (decimal r.high ++ 44 ∷ 32 ∷ rest4) in
     let rest2 = decimal r.right ++ 32 ∷ (decimal r.high ++ 44 ∷ 32 ∷ rest3) in
@@ -76,7 +76,7 @@ corners_cut r small =
     ∙ ap (two r.right r.high) (pair_first r.left r.high (44 ∷ 32 ∷ rest4) left high refl
     ∙ ap (two r.left r.high) (pair_first r.left r.low (41 ∷ 41 ∷ []) left low refl))))
 
-pub body_cut : (r : Rectangle) → IsSmall r → pieces (body r) ≡ word (codes "POLYGON") ∷ open_mark ∷ open_mark ∷ pieces (corners_text r)
+pub body_cut : (r : Rectangle) → IsSmall r → symbols (body r) ≡ word (codes "POLYGON") ∷ open_mark ∷ open_mark ∷ symbols (corners_text r)
 body_cut r small = refl
 
 -- the tree of a rectangle's text

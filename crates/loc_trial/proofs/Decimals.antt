@@ -1,4 +1,4 @@
--- A number in decimal, as it is read: digits, which are one piece of a text, and the number itself.
+-- A number in decimal, as it is read: digits, which are one symbol of a text, and the number itself.
 use Rattle.std.proofs.Common.{◌≡◌, ℕ, ◌*◌, ◌^◌, ◌<◌, ◌≤◌, ◌||◌, ◌&&◌, Bool, true, false, not, List, [], ◌∷◌, ◌++◌, length, take_all, drop_of_length-le, append-nil, refl, ◌∙◌, ap, ap₂, arith, one-add, take_while, nat_le}
 use Rattle.std.specs.Prelude.{◌==◌, codes, pos, if◌then◌else◌}
 use Rattle.std.specs.Char.{is_ascii_digit, is_ascii_alphabetic}
@@ -10,24 +10,12 @@ use Rattle.std.proofs.lemmas.Bool.{and_parts, ne_eqb, leb-true, le-leb, lt-leb}
 use Rattle.std.proofs.lemmas.Fmt.{decimal_is_IsNumeral}
 use Rattle.std.proofs.lemmas.Str.Parse.{IsDigitsTest, numerals_by_value}
 use Rattle.loc_spec_text.specs.Bytes.{drop_while}
-use Rattle.loc_spec_text.specs.Geometry.{number, pieces, piece_of, ends_piece}
+use Rattle.loc_spec_text.specs.Geometry.{number, symbols, symbol_of, ends_symbol}
 use Rattle.loc_spec_text.specs.Number.{are_digits, exponent, fraction_digits, grid_value, has_exponent, is_exponent_mark, is_in_range as is_within, is_negative, is_number, is_on_grid, is_point, lowered, magnitude, raised, significand, unsigned, whole_digits}
 use Rattle.loc_spec_text.proofs.NumberLaws.{on_grid}
-use Rattle.loc_spec_text.proofs.PieceLaws.{drop_while-no, drop_while-yes, is_plain, pieces-longest}
-use Rattle.loc_wkt.proofs.PieceLemmas.{not_that}
-
-digit_bounds : (c : ℕ) → is_ascii_digit c ≡ true → IsInRange 48 57 c
-digit_bounds c h = let two = and_parts (nat_le 48 c) (nat_le c 57) h in (leb-true 48 c two.0, leb-true c 57 two.1)
-
-digit_within : (c : ℕ) → IsInRange 48 57 c → is_ascii_digit c ≡ true
-digit_within c h = let low = le-leb 48 c h.0 in let high = le-leb c 57 h.1 in simp (low, high)
-
-ascii_digits : IsDigitsTest (λ ds. list_all is_ascii_digit ds ≡ true)
-ascii_digits = record {
-  empty = refl;
-  parts = λ c cs h. let two = and_parts (is_ascii_digit c) (list_all is_ascii_digit cs) h in (digit_bounds c two.0, two.1);
-  more = λ c cs r h. let here = digit_within c r in simp (here, h);
-}
+use Rattle.loc_spec_text.proofs.SymbolLaws.{drop_while-no, drop_while-yes, is_plain, symbols-longest}
+use Rattle.loc_spec_text.proofs.DigitLaws.{ascii_digits, digit_range, range_digit}
+use Rattle.loc_wkt.proofs.SymbolLemmas.{not_that}
 
 -- the decimal of a number is digits, one at least
 pub decimal_digits : (n : ℕ) → n < 2 ^ 64 → list_all is_ascii_digit (decimal n) ≡ true
@@ -41,11 +29,11 @@ decimal_value n small = (decimal_is_IsNumeral n small).1
 
 -- what a digit is not
 not_byte : (c k : ℕ) → is_ascii_digit c ≡ true → (IsInRange 48 57 k → ⊥) → (c == k) ≡ false
-not_byte c k h other = ne_eqb c k (λ e. other (rw e at (digit_bounds c h)))
+not_byte c k h other = ne_eqb c k (λ e. other (rw e at (digit_range c h)))
 
 plain_digit : (c : ℕ) → is_ascii_digit c ≡ true → is_plain c ≡ true
 plain_digit c h =
-    let r = digit_bounds c h in
+    let r = digit_range c h in
     let a : (c == 32) ≡ false = ne_eqb c 32 (λ e. omega (arith, r.0, e)) in
     let b : (c == 9) ≡ false = ne_eqb c 9 (λ e. omega (arith, r.0, e)) in
     let d : (c == 13) ≡ false = ne_eqb c 13 (λ e. omega (arith, r.0, e)) in
@@ -56,7 +44,7 @@ plain_digit c h =
     simp (a, b, d, f, g, i, j)
 
 -- digits in front of a break are taken whole
-taken : (ds rest : List ℕ) → list_all is_ascii_digit ds ≡ true → ends_piece rest ≡ true → (take_while is_plain (ds ++ rest) ≡ ds) × (drop_while is_plain (ds ++ rest) ≡ rest)
+taken : (ds rest : List ℕ) → list_all is_ascii_digit ds ≡ true → ends_symbol rest ≡ true → (take_while is_plain (ds ++ rest) ≡ ds) × (drop_while is_plain (ds ++ rest) ≡ rest)
 taken [] [] digits ends = (refl, refl)
 taken [] (b ∷ rest) digits ends = let no : is_plain b ≡ false = simp ends in (simp no, drop_while-no is_plain b rest no)
 taken (c ∷ ds) rest digits ends =
@@ -149,8 +137,8 @@ decimal_read n few =
     }
 
 -- it is a number of a text
-decimal_piece : (n : ℕ) → n < 2 ^ 64 → piece_of (decimal n) ≡ number (decimal n)
-decimal_piece n small =
+decimal_symbol : (n : ℕ) → n < 2 ^ 64 → symbol_of (decimal n) ≡ number (decimal n)
+decimal_symbol n small =
     let digits = decimal_digits n small in
     let o = not_that (list_all is_ascii_digit) (decimal n) (codes "(") digits refl in
     let c = not_that (list_all is_ascii_digit) (decimal n) (codes ")") digits refl in
@@ -162,23 +150,23 @@ decimal_piece n small =
     no_letters : (ds : List ℕ) → 0 < length ds → list_all is_ascii_digit ds ≡ true → list_all is_ascii_alphabetic ds ≡ false
     no_letters [] some digits = absurd (omega (arith, some))
     no_letters (c ∷ cs) some digits =
-        let r = digit_bounds c (and_parts (is_ascii_digit c) (list_all is_ascii_digit cs) digits).0 in
+        let r = digit_range c (and_parts (is_ascii_digit c) (list_all is_ascii_digit cs) digits).0 in
         let low = lt-leb 65 c (omega (arith, r.1)) in
         let high = lt-leb 97 c (omega (arith, r.1)) in
         simp (low, high)
 
--- the first piece of a text that begins with a decimal
-pub decimal_first : (n : ℕ) (rest : List ℕ) → n < 2 ^ 64 → ends_piece rest ≡ true → pieces (decimal n ++ rest) ≡ number (decimal n) ∷ pieces rest
-decimal_first n rest small ends = by (decimal n) (decimal_some n small) (decimal_digits n small) (decimal_piece n small)
+-- the first symbol of a text that begins with a decimal
+pub decimal_first : (n : ℕ) (rest : List ℕ) → n < 2 ^ 64 → ends_symbol rest ≡ true → symbols (decimal n ++ rest) ≡ number (decimal n) ∷ symbols rest
+decimal_first n rest small ends = by (decimal n) (decimal_some n small) (decimal_digits n small) (decimal_symbol n small)
   where
-    by : (ds : List ℕ) → 0 < length ds → list_all is_ascii_digit ds ≡ true → piece_of ds ≡ number ds → pieces (ds ++ rest) ≡ number ds ∷ pieces rest
+    by : (ds : List ℕ) → 0 < length ds → list_all is_ascii_digit ds ≡ true → symbol_of ds ≡ number ds → symbols (ds ++ rest) ≡ number ds ∷ symbols rest
     by [] some digits is = absurd (omega (arith, some))
     by (c ∷ cs) some digits is =
         let two = and_parts (is_ascii_digit c) (list_all is_ascii_digit cs) digits in
         let all = taken cs rest two.1 ends in
-        pieces-longest c (cs ++ rest) (plain_digit c two.0) ∙ ap₂ (λ a b. piece_of (c ∷ a) ∷ pieces b) all.0 all.1 ∙ ap (λ p. p ∷ pieces rest) is
+        symbols-longest c (cs ++ rest) (plain_digit c two.0) ∙ ap₂ (λ a b. symbol_of (c ∷ a) ∷ symbols b) all.0 all.1 ∙ ap (λ p. p ∷ symbols rest) is
 
 -- two numbers with a space between them
-pub pair_first : (x y : ℕ) (rest : List ℕ) → x < 2 ^ 64 → y < 2 ^ 64 → ends_piece rest ≡ true
-    → pieces (decimal x ++ 32 ∷ (decimal y ++ rest)) ≡ number (decimal x) ∷ number (decimal y) ∷ pieces rest
+pub pair_first : (x y : ℕ) (rest : List ℕ) → x < 2 ^ 64 → y < 2 ^ 64 → ends_symbol rest ≡ true
+    → symbols (decimal x ++ 32 ∷ (decimal y ++ rest)) ≡ number (decimal x) ∷ number (decimal y) ∷ symbols rest
 pair_first x y rest small_x small_y ends = decimal_first x (32 ∷ (decimal y ++ rest)) small_x refl ∙ ap (λ ps. number (decimal x) ∷ ps) (decimal_first y rest small_y ends)

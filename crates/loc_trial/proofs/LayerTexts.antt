@@ -15,7 +15,7 @@ use Rattle.loc_spec_text.specs.Reading.{reading}
 use Rattle.loc_spec_text.specs.declared.Form.TheVariants.{Lines}
 use Rattle.loc_spec_text.proofs.LineLaws.{lines-cons}
 use Rattle.loc_rings.specs.Values.{Feature}
-use Rattle.loc_rings.specs.Layers.{point_count, points_of}
+use Rattle.loc_rings.specs.Layers.{point_count, layer_points}
 use Rattle.loc_csvform.specs.Layer.{Row, RowRead, features_from, is_row_line, layer_of, line_row, with_row}
 use Rattle.loc_gen.specs.declared.kinds.Kind.{Kind}
 use Rattle.loc_gen.specs.declared.kinds.Kind.TheVariants.{Grid, Nest, Strips}
@@ -120,7 +120,7 @@ rows_are k [] = refl
 rows_are k (r ∷ rs) = ap (λ rows. row_at (k, r) ∷ rows) (rows_are (k + 1) rs)
 
 -- the features of rows, behind those that were read
-features_are : (k : ℕ) (rs : List Rectangle) (done : List Feature) → AllByRecursion IsSmall rs → length done + length rs ≤ 2 ^ 18 → points_of done + length rs * 5 ≤ 2 ^ 20
+features_are : (k : ℕ) (rs : List Rectangle) (done : List Feature) → AllByRecursion IsSmall rs → length done + length rs ≤ 2 ^ 18 → layer_points done + length rs * 5 ≤ 2 ^ 20
     → features_from (reading 0) (map row_at (enumerate_from k rs)) done ≡ Ok (done ++ map feature_of (enumerate_from k rs))
 features_are k [] done small few points = ap Ok (sym (append-nil done))
 features_are k (r ∷ rs) done small few points =
@@ -129,8 +129,8 @@ features_are k (r ∷ rs) done small few points =
     let rows = map row_at (enumerate_from (k + 1) rs) in
     let room : nat_le (2 ^ 18) (length done) ≡ false = lt-leb (2 ^ 18) (length done) (omega (arith, few)) in
     let five : point_count here ≡ 5 = refl in
-    let within : nat_lt (2 ^ 20) (points_of done + point_count here) ≡ false = false_from_ne_true (nat_lt (2 ^ 20) (points_of done + point_count here)) (λ e. omega (arith, (Decides-ltb (2 ^ 20) (points_of done + point_count here)).0 e, points, five)) in
-    let next : points_of (done ++ here ∷ []) ≡ points_of done + 5 = sum_by_push point_count done here in
+    let within : nat_lt (2 ^ 20) (layer_points done + point_count here) ≡ false = false_from_ne_true (nat_lt (2 ^ 20) (layer_points done + point_count here)) (λ e. omega (arith, (Decides-ltb (2 ^ 20) (layer_points done + point_count here)).0 e, points, five)) in
+    let next : layer_points (done ++ here ∷ []) ≡ layer_points done + 5 = sum_by_push point_count done here in
     ap (λ q. result_and_then (with_row done row q) (features_from (reading 0) rows)) (body_read r small.0)
     ∙ rw (room, within) (features_are (k + 1) rs (done ++ here ∷ []) small.1 (omega (arith, few, length-append done (here ∷ []))) (omega (arith, points, next)))
     ∙ ap Ok (append_assoc done (here ∷ []) (map feature_of (enumerate_from (k + 1) rs)))

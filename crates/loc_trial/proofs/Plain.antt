@@ -3,12 +3,13 @@ use Rattle.std.proofs.Common.{◌≡◌, ℕ, ◌*◌, ◌<◌, ◌≤◌, Bool,
 use Rattle.std.specs.Prelude.{nat_lt}
 use Rattle.std.proofs.lemmas.Bool.{cond-true, cond_both}
 use Rattle.std.proofs.lemmas.Bool.Decides.{Decides-ltb}
+use Rattle.loc_spec_text.specs.Bytes.{Text}
 use Rattle.loc_io.specs.Meaning.{Told}
 use Rattle.loc_spec_asked.specs.declared.Index.{Index}
 use Rattle.loc_spec_text.specs.Points.{ended}
 use Rattle.loc_gen.specs.declared.kinds.Kind.{Kind}
 use Rattle.loc_gen.specs.Layers.{layer_text, limit_of}
-use Rattle.loc_course.specs.Courses.{Text, Course, refuses, writes}
+use Rattle.loc_course.specs.Courses.{Course, refuses, writes}
 use Rattle.loc_course.specs.Outcomes.{exactly, outcome, output, refusal}
 use Rattle.loc_course.specs.Sentences.{IsPlain, SearchesNothing, WithinSteps}
 use Rattle.loc_course.proofs.Plain.{plain_refuses, plain_searches, plain_writes}

@@ -5,6 +5,7 @@ use Rattle.std.specs.List.{range_with_len}
 use Rattle.std.proofs.Math.Path.{fun_ext}
 use Rattle.std.proofs.lemmas.Nat.{mul-le}
 use Rattle.std.proofs.lemmas.List.FromFn.{length-map-range_with_len}
+use Rattle.loc_spec_text.specs.Bytes.{Text}
 use Rattle.loc_spec_asked.specs.declared.Index.{Index}
 use Rattle.loc_spec_plane.specs.declared.Place.{Place}
 use Rattle.loc_spec_plane.specs.declared.Place.TheVariants.{Corner, Border, Area}
@@ -24,7 +25,7 @@ use Rattle.loc_batch.specs.Faces.{unnumbered}
 use Rattle.loc_batch.specs.Streams.{tally_of}
 use Rattle.loc_gen.specs.declared.kinds.Kind.{Kind}
 use Rattle.loc_gen.specs.Layers.{point_number}
-use Rattle.loc_course.specs.Courses.{Text, Stopped, searches, writes}
+use Rattle.loc_course.specs.Courses.{Stopped, searches, writes}
 use Rattle.loc_course.specs.Following.{Follows, Moment, lacks, searches_by, writes_by}
 use Rattle.loc_course.specs.Outcomes.{exactly}
 use Rattle.loc_course.proofs.Told.{it_exactly}

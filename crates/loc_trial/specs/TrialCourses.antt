@@ -2,6 +2,7 @@
 -- `tried_course`, `trial_course`.
 use Rattle.std.specs.Prelude.{ℕ, ◌*◌, List, ◌++◌, Option, codes, length, map, nat_lt, if◌then◌else◌}
 use Rattle.std.specs.Fmt.{decimal}
+use Rattle.loc_spec_text.specs.Bytes.{Text}
 use Rattle.loc_spec_asked.specs.declared.Index.{Index}
 use Rattle.loc_spec_plane.specs.Lists.{numbers}
 use Rattle.loc_spec_plane.specs.Tables.{Table}
@@ -12,7 +13,7 @@ use Rattle.loc_batch.specs.Batches.{Answering, no_tally}
 use Rattle.loc_batch.specs.Streams.{tally_of}
 use Rattle.loc_gen.specs.declared.kinds.Kind.{Kind}
 use Rattle.loc_gen.specs.Layers.{layer_text, limit_of}
-use Rattle.loc_course.specs.Courses.{Text, Course, refuses, searches, writes}
+use Rattle.loc_course.specs.Courses.{Course, refuses, searches, writes}
 use Rattle.loc_course.specs.Outcomes.{exactly}
 use Rattle.loc_maps.specs.Located.{table_in}
 use Rattle.loc_maps.specs.MapCourses.{accepted_course}

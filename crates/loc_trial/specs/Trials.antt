@@ -8,6 +8,7 @@
 use Rattle.std.specs.Prelude.{ℕ, ◌+◌, ◌*◌, Bool, true, false, List, [], ◌++◌, length, map, filter, codes, Option, Some, None}
 use Rattle.std.specs.Fmt.{decimal}
 use Rattle.std.specs.List.{list_any, range_with_len, sum_by}
+use Rattle.loc_spec_text.specs.Bytes.{Text}
 use Rattle.loc_spec_asked.specs.declared.Index.{Index}
 use Rattle.loc_spec_asked.specs.declared.Index.TheVariants.{Scan, Tree, Trap}
 use Rattle.loc_spec_plane.specs.Lists.{numbers}
@@ -17,7 +18,6 @@ use Rattle.loc_gen.specs.declared.kinds.Kind.{Kind}
 use Rattle.loc_gen.specs.declared.kinds.Kind.TheVariants.{Grid, Nest, Strips}
 use Rattle.loc_gen.specs.Layers.{point_number}
 use Rattle.loc_batch.specs.declared.tally.Tally.{Tally}
-use Rattle.loc_course.specs.Courses.{Text}
 use Rattle.loc_course.specs.Outcomes.{exactly}
 use Rattle.loc_maps.specs.Located.{table_in}
 use Rattle.loc_query.specs.Answered.{located}

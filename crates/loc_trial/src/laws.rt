@@ -1,6 +1,7 @@
 //! What generated layers read as, and what the courses of their commands are.
 
 ghost use Rattle.std.specs.Prelude.{◌≡◌, ◌*◌, ◌<◌, ◌≤◌, Ok, Some, ℕ};
+ghost use Rattle.loc_spec_text.specs.Bytes.{Text};
 ghost use Rattle.loc_io.specs.Meaning.{Told};
 ghost use Rattle.loc_spec_asked.specs.declared.Index.{Index as IndexOf};
 ghost use Rattle.loc_spec_text.specs.Points.{ended, point_of};
@@ -8,7 +9,6 @@ ghost use Rattle.loc_spec_text.specs.declared.Form.TheVariants.{Lines};
 ghost use Rattle.loc_csvform.specs.Layer.{layer_of};
 ghost use Rattle.loc_gen.specs.declared.kinds.Kind.{Kind};
 ghost use Rattle.loc_gen.specs.Layers.{layer_text, limit_of, point_number};
-ghost use Rattle.loc_course.specs.Courses.{Text};
 ghost use Rattle.loc_course.specs.Outcomes.{exactly, outcome, output, refusal};
 ghost use Rattle.loc_course.specs.Sentences.{IsPlain, SearchesNothing, WithinSteps};
 ghost use Rattle.loc_maps.specs.Located.{table_in};

@@ -1,34 +1,22 @@
 -- How far a node follows a list, from how far its children do.
-use Rattle.std.proofs.Common.{◌≡◌, ◌≢◌, ℕ, zero, suc, ◌+◌, ◌-◌, ◌≤◌, List, [], ◌∷◌, ◌++◌, length, drop, refl, sym, ◌∙◌, ap, subst, arith, length-append, append_assoc, Some}
+use Rattle.std.proofs.Common.{◌≡◌, ◌≢◌, ℕ, zero, suc, ◌+◌, ◌-◌, ◌≤◌, List, [], ◌∷◌, ◌++◌, length, drop, refl, sym, ◌∙◌, ap, subst, arith, length-append, append_assoc, add-one, Some}
 use Rattle.std.specs.Prelude.{slice_get}
+use Rattle.std.proofs.Math.Seq.{drop-cons}
+use Rattle.std.proofs.lemmas.Option.{get_or_from_slice_get, slice_get_within}
 use Rattle.loc_spec_index.specs.declared.NodeRow.{NodeRow}
 use Rattle.loc_spec_index.specs.Nodes.{Side, Left, Right, Reads, nothing, node, child_of, led_to, row_of}
-use Rattle.loc_laws_index.proofs.Reading.{reads-unique}
+use Rattle.loc_laws_index.proofs.Reading.{parts, reads-unique}
 use Rattle.loc_verify.specs.declared.reading.Followed.{Followed}
 use Rattle.loc_verify.specs.declared.reading.Followed.TheVariants.{Past, Differs, TooDeep}
 use Rattle.loc_verify.specs.Readings.{HasLongPath, IsFollowed, IsReadFrom, PartsFrom, StaysWithin}
 
 -- a list from a place on begins with what stands there
 drop_at : (xs : List ℕ) (i x : ℕ) → slice_get xs i ≡ Some x → drop i xs ≡ x ∷ drop (i + 1) xs
-drop_at [] i x h = absurd cc
-drop_at (y ∷ ys) zero x h = let same : y ≡ x = cc in ap (λ z. z ∷ ys) same
-drop_at (y ∷ ys) (suc i) x h = drop_at ys i x h ∙ (let next : suc (i + 1) ≡ suc i + 1 = omega arith in ap (λ k. x ∷ drop k (y ∷ ys)) next)
+drop_at xs i x h = drop-cons xs i 0 (slice_get_within xs i x h) ∙ (ap (λ z. z ∷ drop (suc i) xs) (get_or_from_slice_get xs i x 0 h) ∙ ap (λ k. x ∷ drop k xs) (sym (add-one i)))
 
 module _ (rows : List NodeRow) (version : ℕ) where
-  -- the parts of what a node reads
-  record Halves (n : ℕ) (items : List ℕ) : Type 0 where
-    before : List ℕ
-    after : List ℕ
-    left : Reads rows version (child_of rows version n Left) before
-    right : Reads rows version (child_of rows version n Right) after
-    whole : items ≡ before ++ ((row_of rows n).item ∷ after)
-
-  halves : {n : ℕ} {items : List ℕ} → Reads rows version n items → n ≢ 0 → Halves n items
-  halves nothing some = absurd (some refl)
-  halves (node {before = xs} {after = ys} nonzero within l r e) some = record { before = xs; after = ys; left = l; right = r; whole = e }
-
   -- no node
-  leads_nowhere : (n : ℕ) → n ≡ 0 → (sides : List Side) → led_to rows version n sides ≡ 0
+  pub leads_nowhere : (n : ℕ) → n ≡ 0 → (sides : List Side) → led_to rows version n sides ≡ 0
   leads_nowhere n none [] = none
   leads_nowhere zero none (side ∷ sides) = refl
   leads_nowhere (suc n) none (side ∷ sides) = absurd (omega (arith, none))
@@ -40,7 +28,7 @@ module _ (rows : List NodeRow) (version : ℕ) where
   )
 
   -- a path through a child has one turn more
-  led_by : (n : ℕ) → n ≢ 0 → (side : Side) (sides : List Side) → led_to rows version n (side ∷ sides) ≡ led_to rows version (child_of rows version n side) sides
+  pub led_by : (n : ℕ) → n ≢ 0 → (side : Side) (sides : List Side) → led_to rows version n (side ∷ sides) ≡ led_to rows version (child_of rows version n side) sides
   led_by zero some side sides = absurd (some refl)
   led_by (suc n) some side sides = refl
 
@@ -63,7 +51,7 @@ module _ (rows : List NodeRow) (version : ℕ) where
     stopped (Differs next) other left = (
       left.0,
       λ items reads.
-          (let h = halves reads some in
+          (let h = parts rows version reads some in
           let p = left.1 h.before h.left in
           record {
             before = p.before;
@@ -82,7 +70,7 @@ module _ (rows : List NodeRow) (version : ℕ) where
       differs_here other = (
         left.within,
         λ items reads.
-            (let h = halves reads some in
+            (let h = parts rows version reads some in
             record {
               before = left.items;
               item = item;
@@ -118,7 +106,7 @@ module _ (rows : List NodeRow) (version : ℕ) where
         goes_on (Differs to) short right = (
           right.0,
           λ items reads.
-              (let h = halves reads some in
+              (let h = parts rows version reads some in
               let p = right.1 h.after h.right in
               record {
                 before = left.items ++ (item ∷ p.before);

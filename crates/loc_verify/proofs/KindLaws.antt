@@ -16,9 +16,10 @@ use Rattle.loc_sweep.specs.Swept.{AreInConflict}
 use Rattle.loc_spec_index.specs.Content.{Content, cover_numbers, cover_of_edge, floor_of_corner, table_in}
 use Rattle.loc_spec_index.specs.IndexFile.{IsFileOf}
 use Rattle.loc_spec_index.specs.Flaws.{lone, bare, uneven, conflicting, wrong_floor, wrong_cover, spare_cover}
+use Rattle.loc_laws_index.proofs.FlawKinds as laws
 use Rattle.loc_verify.specs.Judged.{IsLeastOf}
 use Rattle.loc_verify.specs.Least.{IsLeastFailing, IsLeastUneven, is_odd_at}
-use Rattle.loc_verify.proofs.Ranked.{as_many, least_bare, least_conflict, least_cover, least_floor, least_list, least_lone, least_uneven}
+use Rattle.loc_verify.proofs.Ranked.{least_at, least_of}
 
 fails : (b : Bool) → (b ≡ true → ⊥) → not b ≡ true
 fails b never = not_from_false b (false_from_ne_true b never)
@@ -36,13 +37,13 @@ module _ (c : Content) where
   corners_are = refl
 
   pub lone_there : (n : ℕ) → IsLeastFailing (length (table_in c).corners) (λ n. IsTrue (list_any (ends_at (table_in c) n) (edge_numbers (table_in c)))) (Some n) → IsLeastOf c 0 (lone n)
-  lone_there n found = least_lone c n (subst (λ k. n < k) corners_are found.0, fails _ found.1) (λ m less h. passes _ h.1 (found.2 m less))
+  lone_there n found = least_at c 0 n refl refl refl (subst (λ k. n < k) corners_are found.0, fails _ found.1) (λ m less h. passes _ h.1 (found.2 m less))
 
   pub uneven_there : (n f : ℕ) → IsLeastUneven (table_in c) (Some (n, f)) → IsLeastOf c 2 (uneven n f)
-  uneven_there n f found = least_uneven c n f (subst (λ k. n < k) corners_are found.0, found.1) (λ m g before h. elim before [
+  uneven_there n f found = least_of c (uneven n f) refl (subst (λ k. n < k) corners_are found.0, found.1) (laws.least_uneven c n f (λ m g before h. elim before [
     | inl less ↦ passes (is_odd_at (table_in c) m g) (found.3 m less g) h.1
     | inr same ↦ both_ways (is_odd_at (table_in c) n g) (found.2 g same.1) (subst (λ k. is_odd_at (table_in c) k g ≡ true) same.0 h.1)
-  ])
+  ]))
 
   module _ (floors : FloorLists) (are : AreFloors (table_in c) floors) (stored : List (Option ℕ)) (stored_is : stored ≡ c.floors) where
     floor_at : (n : ℕ) → n < length c.corners → IsFloor (table_in c) (corner (table_in c) n) (get_or floors.of_corner n None)
@@ -58,7 +59,7 @@ module _ (c : Content) where
     floors_right all n fits = same_floor n fits (all n (subst (λ k. n < k) (sym (are.as_many_corners ∙ corners_are)) fits))
 
     pub floor_there : (n : ℕ) → IsLeastFailing (length floors.of_corner) (λ n. get_or stored n None ≡ get_or floors.of_corner n None) (Some n) → IsLeastOf c 4 (wrong_floor n)
-    floor_there n found = least_floor c n
+    floor_there n found = least_at c 4 n refl refl refl
         (within n found.0, λ is. found.1 (ap (λ fs. get_or fs n None) stored_is ∙ floor-unique (table_in c) (corner (table_in c) n) (floor_of_corner c n) (get_or floors.of_corner n None) is (floor_at n (within n found.0))))
         (λ m less h. h.1 (same_floor m h.0 (found.2 m less)))
 
@@ -67,7 +68,7 @@ module _ (c : Content) where
     list_at e = ap (λ ls. get_or ls (get_or above e 0) []) lists_are ∙ ap (λ ns. get_or c.covers (get_or ns e 0) []) above_is
 
     pub list_there : (n : ℕ) → IsLeastFailing (length lists) (λ n. IsTrue (is_in n above)) (Some n) → IsLeastOf c 6 (spare_cover n)
-    list_there n found = least_list c n (subst (λ ls. n < length ls) lists_are found.0, fails _ (λ named. found.1 (ap (is_in n) above_is ∙ named)))
+    list_there n found = least_at c 6 n refl refl refl (subst (λ ls. n < length ls) lists_are found.0, fails _ (λ named. found.1 (ap (is_in n) above_is ∙ named)))
         (λ m less h. passes _ h.1 (sym (ap (is_in m) above_is) ∙ found.2 m less))
 
     pub lists_right : IsLeastFailing (length lists) (λ n. IsTrue (is_in n above)) None → (n : ℕ) → n < length c.covers → IsTrue (is_in n (cover_numbers c))
@@ -75,17 +76,17 @@ module _ (c : Content) where
 
     module _ (bytes : List ℕ) (file : IsFileOf 1 c bytes) where
       pub covers_right : IsLeastFailing (length (table_in c).ends) (λ e. get_or lists (get_or above e 0) [] ≡ cover_above (table_in c) e) None → (e : ℕ) → e < length c.edges → cover_of_edge c e ≡ cover_above (table_in c) e
-      covers_right all e fits = sym (list_at e) ∙ all e (subst (λ k. e < k) (sym (as_many c bytes file)) fits)
+      covers_right all e fits = sym (list_at e) ∙ all e (subst (λ k. e < k) (sym (laws.as_many c)) fits)
 
       pub cover_there : (e : ℕ) → IsLeastFailing (length (table_in c).ends) (λ e. get_or lists (get_or above e 0) [] ≡ cover_above (table_in c) e) (Some e) → IsLeastOf c 5 (wrong_cover e)
-      cover_there e found = least_cover c e (subst (λ k. e < k) (as_many c bytes file) found.0, λ same. found.1 (list_at e ∙ same)) (λ m less h. h.1 (sym (list_at m) ∙ found.2 m less))
+      cover_there e found = least_at c 5 e refl refl refl (subst (λ k. e < k) (laws.as_many c) found.0, λ same. found.1 (list_at e ∙ same)) (λ m less h. h.1 (sym (list_at m) ∙ found.2 m less))
 
   module _ (bytes : List ℕ) (file : IsFileOf 1 c bytes) where
     pub marks_right : IsLeastFailing (length (table_in c).ends) (λ e. get_or (table_in c).marks e [] ≢ []) None → (e : ℕ) → e < length c.edges → get_or (table_in c).marks e [] ≢ []
-    marks_right all e fits = all e (subst (λ k. e < k) (sym (as_many c bytes file)) fits)
+    marks_right all e fits = all e (subst (λ k. e < k) (sym (laws.as_many c)) fits)
 
     pub bare_there : (e : ℕ) → IsLeastFailing (length (table_in c).ends) (λ e. get_or (table_in c).marks e [] ≢ []) (Some e) → IsLeastOf c 1 (bare e)
-    bare_there e found = least_bare c e (subst (λ k. e < k) (as_many c bytes file) found.0, no_marks _ found.1) (λ m less h. found.2 m less h.1)
+    bare_there e found = least_at c 1 e refl refl refl (subst (λ k. e < k) (laws.as_many c) found.0, no_marks _ found.1) (λ m less h. found.2 m less h.1)
 
     pub conflict_there : (a b : ℕ) (meeting : Meeting) → AreInConflict (table_in c) a b meeting → IsLeastOf c 3 (conflicting a b) × IsMeeting (edge (table_in c) a) (edge (table_in c) b) meeting
-    conflict_there a b meeting found = (least_conflict c a b (found.in_order, subst (λ k. b < k) (as_many c bytes file) found.in_range, found.conflict), found.meets)
+    conflict_there a b meeting found = (least_of c (conflicting a b) refl (found.in_order, subst (λ k. b < k) (laws.as_many c) found.in_range, found.conflict) (laws.least_conflict c), found.meets)

@@ -1,22 +1,13 @@
 -- The nodes of a version, level by level.
-use Rattle.std.proofs.Common.{◌≡◌, ◌≢◌, ℕ, zero, suc, ◌+◌, ◌<◌, ◌≤◌, Bool, true, false, List, [], ◌∷◌, ◌++◌, length, get_or, set, replicate, take, refl, sym, ◌∙◌, ap, inl, inr, arith, length-append}
+use Rattle.std.proofs.Common.{◌≡◌, ◌≢◌, ℕ, zero, suc, ◌+◌, ◌<◌, ◌≤◌, Bool, true, false, List, [], ◌∷◌, ◌++◌, length, get_or, set, take, refl, sym, ◌∙◌, ap, inl, inr, arith, length-append}
 use Rattle.std.specs.Prelude.{IsTrue, ◌⊎◌, ◌↔◌}
-use Rattle.std.proofs.Math.ListN.{get_or-eq_default}
-use Rattle.std.proofs.lemmas.Bool.{cases_eq, cases_lt, true≢false}
+use Rattle.std.proofs.lemmas.Bool.{cases_eq, true≢false}
 use Rattle.std.proofs.lemmas.Grind.{get_or-set_at}
-use Rattle.std.proofs.lemmas.List.{get_or-set_other, length-set, length-replicate}
+use Rattle.std.proofs.lemmas.List.{get_or-set_other, length-set}
 use Rattle.loc_spec_index.specs.declared.NodeRow.{NodeRow}
 use Rattle.loc_spec_index.specs.Nodes.{Side, Left, Right, child_of, led_to}
+use Rattle.loc_verify.proofs.Following.{leads_nowhere, led_by}
 use Rattle.loc_verify.specs.Readings.{AreReached, HasLongPath, HasNode, IsNextLevel}
-
--- no flag is set
-unset : (n m : ℕ) → get_or (replicate n false) m false ≡ false
-unset zero m = refl
-unset (suc n) zero = refl
-unset (suc n) (suc m) = unset n m
-
-flag_there : (flags : List Bool) (m : ℕ) → get_or flags m false ≡ true → m < length flags
-flag_there flags m h = elim (cases_lt m (length flags)) [ inl fits ↦ fits | inr past ↦ absurd (true≢false (sym h ∙ get_or-eq_default flags false past)) ]
 
 -- a flag is set
 set_flag : (flags : List Bool) (i m : ℕ) → i < length flags → get_or (set flags i true) m false ≡ true → (m ≡ i) ⊎ (get_or flags m false ≡ true)
@@ -35,12 +26,6 @@ module _ (rows : List NodeRow) (version : ℕ) where
     pub record AreChildrenTo (k : ℕ) (next : List Bool) : Type 0 where
       pub as_many : length next ≡ length rows + 1
       pub exact : (m : ℕ) → m ≢ 0 → IsTrue (get_or next m false) ↔ IsChildTo k m
-
-    pub no_children : (n : ℕ) → n ≡ length rows + 1 → AreChildrenTo 1 (replicate n false)
-    no_children n size = record {
-      as_many = length-replicate n false ∙ size;
-      exact = λ m some. (λ h. absurd (true≢false (sym h ∙ unset n m)), λ child. absurd (let none = child.2 in let under = child.3 in none (omega (arith, under))));
-    }
 
     -- the children of one node more
     pub children_more : (k l r : ℕ) (next : List Bool) → k ≢ 0 → get_or level k false ≡ true → l ≤ length rows → r ≤ length rows → l ≡ child_of rows version k Left → r ≡ child_of rows version k Right
@@ -94,39 +79,21 @@ module _ (rows : List NodeRow) (version : ℕ) where
       );
     }
 
-    pub all_children : (next : List Bool) → length level ≡ length rows + 1 → AreChildrenTo (length rows + 1) next → IsNextLevel rows version level next
-    all_children next size all = record {
-      as_many = all.as_many ∙ sym size;
-      exact = λ m there. (
-        λ h. (let c = (all.exact m there).0 h in (c.0, c.1, c.2, c.4, c.5)),
-        λ child. (all.exact m there).1 (child.0, child.1, child.2, (let fits = flag_there level child.0 child.3 in omega (arith, fits, size)), child.3, child.4),
-      );
-    }
-
   -- ---- paths
-  nowhere : (n : ℕ) → n ≡ 0 → (sides : List Side) → led_to rows version n sides ≡ 0
-  nowhere n none [] = none
-  nowhere zero none (side ∷ sides) = refl
-  nowhere (suc n) none (side ∷ sides) = absurd (omega (arith, none))
-
-  one_turn : (n : ℕ) (side : Side) → n ≢ 0 → led_to rows version n (side ∷ []) ≡ child_of rows version n side
-  one_turn zero side some = absurd (some refl)
-  one_turn (suc n) side some = refl
-
   -- a path with one turn more leads to a child of where it led
   led_more : (n : ℕ) (sides : List Side) (side : Side) → led_to rows version n sides ≢ 0 → led_to rows version n (sides ++ side ∷ []) ≡ child_of rows version (led_to rows version n sides) side
-  led_more n [] side some = one_turn n side some
+  led_more n [] side some = led_by rows version n some side []
   led_more zero (s ∷ sides) side some = absurd (some refl)
   led_more (suc n) (s ∷ sides) side some = led_more (child_of rows version (suc n) s) sides side some
 
   led_none : (n : ℕ) (sides : List Side) (side : Side) → led_to rows version n sides ≡ 0 → led_to rows version n (sides ++ side ∷ []) ≡ 0
-  led_none n [] side none = nowhere n none (side ∷ [])
+  led_none n [] side none = leads_nowhere rows version n none (side ∷ [])
   led_none zero (s ∷ sides) side none = refl
   led_none (suc n) (s ∷ sides) side none = led_none (child_of rows version (suc n) s) sides side none
 
   -- where a path leads to a node, so does each part of it from its start
   pub led_front : (k n : ℕ) (sides : List Side) → led_to rows version n sides ≢ 0 → led_to rows version n (take k sides) ≢ 0
-  led_front zero n sides some none = some (nowhere n none sides)
+  led_front zero n sides some none = some (leads_nowhere rows version n none sides)
   led_front (suc k) n [] some none = some none
   led_front (suc k) zero (s ∷ sides) some none = some refl
   led_front (suc k) (suc n) (s ∷ sides) some none = led_front k (child_of rows version (suc n) s) sides some none
@@ -144,23 +111,6 @@ module _ (rows : List NodeRow) (version : ℕ) where
   last_of (s ∷ r ∷ sides) (suc k) size = let l = last_of (r ∷ sides) k (omega (arith, size)) in record { front = s ∷ l.front; side = l.side; whole = ap (λ xs. s ∷ xs) l.whole; count = ap suc l.count }
 
   module _ (root : ℕ) where
-    -- the root alone
-    pub root_reached : root ≤ length rows → (n : ℕ) → n ≡ length rows + 1 → AreReached rows version root 0 (set (replicate n false) root true)
-    root_reached fits n size = record {
-      as_many = length-set (replicate n false) root true ∙ many;
-      exact = λ m there. (
-        λ h. elim (set_flag (replicate n false) root m (omega (arith, many, fits)) h) [ inl same ↦ ([], refl, sym same) | inr old ↦ absurd (true≢false (sym old ∙ unset n m)) ],
-        λ path. get_or-set_at (replicate n false) root m true false (at path.0 path.1 path.2) (omega (arith, many, fits)),
-      );
-    }
-      where
-        many : length (replicate n false) ≡ length rows + 1
-        many = length-replicate n false ∙ size
-
-        at : {m : ℕ} (sides : List Side) → length sides ≡ 0 → led_to rows version root sides ≡ m → m ≡ root
-        at [] none is = sym is
-        at (s ∷ sides) none is = absurd (omega (arith, none))
-
     -- one turn more
     pub reached_more : (turns : ℕ) (flags next : List Bool) → AreReached rows version root turns flags → IsNextLevel rows version flags next → AreReached rows version root (turns + 1) next
     reached_more turns flags next reached step = record {

@@ -9,7 +9,7 @@ use Rattle.std.proofs.lemmas.List.Sums.{sum_by-append}
 use Rattle.loc_spec_plane.specs.declared.Mark.{Mark}
 use Rattle.loc_spec_plane.specs.Lists.{exactly_one, is_rising, odd_many}
 use Rattle.loc_spec_plane.specs.Tables.{Table, IsTable, edge_numbers, ends_at, has_odd, hi_of, lo_of, mark_before}
-use Rattle.loc_laws_rays.proofs.Parity.{exactly_one-false, exactly_one_same, never, odd_many-append, odd_many-exactly_one, odd_many-take_more}
+use Rattle.loc_laws_rays.proofs.Parity.{and_true, exactly_one_assoc, exactly_one_comm, exactly_one-false, exactly_one_same, never, odd_many-append, odd_many-exactly_one, odd_many-take_more}
 use Rattle.loc_cover.specs.Exchanges.{is_marked_odd}
 use Rattle.loc_edges.specs.Ending.{IsBeginning}
 use Rattle.loc_verify.specs.Least.{IsLeastOdd, has_odd_from, is_odd_at, is_odd_in}
@@ -36,14 +36,7 @@ odd_marks f (m ∷ marks) up =
     by false is rest none = rest
 
 pub odd_step : (o p e : Bool) → exactly_one (exactly_one o p) (exactly_one e false) ≡ exactly_one o (exactly_one (e && true) p)
-odd_step true true true = refl
-odd_step true true false = refl
-odd_step true false true = refl
-odd_step true false false = refl
-odd_step false true true = refl
-odd_step false true false = refl
-odd_step false false true = refl
-odd_step false false false = refl
+odd_step o p e = exactly_one_assoc o p (exactly_one e false) ∙ ap (exactly_one o) (exactly_one_comm p (exactly_one e false) ∙ ap (λ x. exactly_one x p) (exactly_one-false e ∙ sym (and_true e)))
 
 pub even_step : (o p e : Bool) → exactly_one o p ≡ exactly_one o (exactly_one (e && false) p)
 even_step o p true = refl
@@ -67,18 +60,10 @@ abbrev pub GathersOdd : Table → List ℕ → List ℕ → List ℕ → Type 0
 GathersOdd t old row es = (f : ℕ) → is_odd_in f row ≡ exactly_one (is_odd_in f old) (odd_many (has_odd t f) es)
 
 parity_more : (o p e : Bool) → exactly_one (exactly_one o p) e ≡ exactly_one o (exactly_one p (exactly_one e false))
-parity_more true true true = refl
-parity_more true true false = refl
-parity_more true false true = refl
-parity_more true false false = refl
-parity_more false true true = refl
-parity_more false true false = refl
-parity_more false false true = refl
-parity_more false false false = refl
+parity_more o p e = exactly_one_assoc o p e ∙ ap (λ x. exactly_one o (exactly_one p x)) (sym (exactly_one-false e))
 
 pub parity_none : (o : Bool) → o ≡ exactly_one o false
-parity_none true = refl
-parity_none false = refl
+parity_none o = sym (exactly_one-false o)
 
 pub gathers_odd : (t : Table) (old row next es : List ℕ) (e : ℕ) → GathersOdd t old row es → ((f : ℕ) → is_odd_in f next ≡ exactly_one (is_odd_in f row) (has_odd t f e)) → GathersOdd t old next (es ++ e ∷ [])
 gathers_odd t old row next es e before adds f =

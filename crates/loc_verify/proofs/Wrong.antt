@@ -1,9 +1,8 @@
 -- The least of the edges that begin at a corner whose list is wrong, as the list of the corner is gone through from below.
-use Rattle.std.proofs.Common.{◌≡◌, ◌≢◌, ℕ, zero, suc, ◌+◌, ◌-◌, ◌<◌, ◌≤◌, Bool, true, false, not, ◌&&◌, ◌||◌, ◌⊎◌, List, [], ◌∷◌, ◌++◌, length, get_or, take, drop, refl, sym, ◌∙◌, ap, subst, inl, inr, arith}
+use Rattle.std.proofs.Common.{◌≡◌, ◌≢◌, ℕ, ◌+◌, ◌-◌, ◌<◌, ◌≤◌, Bool, true, false, not, ◌&&◌, ◌||◌, ◌⊎◌, List, [], ◌∷◌, ◌++◌, length, get_or, refl, sym, ◌∙◌, ap, subst, inl, inr, arith}
 use Rattle.std.specs.Prelude.{Option, Some, None, IfSome, nat_lt, ◌==◌}
-use Rattle.std.proofs.Math.Seq.{drop-cons}
 use Rattle.std.proofs.lemmas.Bool.{and_parts, eq-eqb, eqb-true, ltb-true, or_cases, true≢false}
-use Rattle.std.proofs.lemmas.List.{take-append-drop}
+use Rattle.std.proofs.lemmas.Option.{slice_get-get_or}
 use Rattle.std.proofs.lemmas.List.Folds.{list_any-append, list_any_at}
 use Rattle.loc_spec_plane.specs.Lists.{is_in}
 use Rattle.loc_spec_plane.specs.Tables.{Table, IsTable, NoConflict, corner, edge, hi_of, lo_of, pair_before}
@@ -11,6 +10,7 @@ use Rattle.loc_spec_plane.specs.Places.{IsJustBelow, IsVersion, alive_at, is_edg
 use Rattle.loc_spec_plane.specs.Covers.{cover_above}
 use Rattle.loc_laws_order.proofs.TableOrder.{rises}
 use Rattle.loc_status.specs.Lists.{IsNextBelow}
+use Rattle.loc_status.proofs.Ends as ends
 use Rattle.loc_status.proofs.AtCorner.{alive_at_corner}
 use Rattle.loc_sweep.proofs.JustBelow.{just_below}
 use Rattle.loc_cover.proofs.JustBelow.{alive_at_begin}
@@ -22,27 +22,23 @@ pub record IsBefore (list : List ℕ) (k : ℕ) (below : Option ℕ) : Type 0 wh
   pub first : k ≡ 0 → below ≡ None
   pub later : 0 < k → below ≡ Some (get_or list (k - 1) 0)
 
-from_place : (xs : List ℕ) (k : ℕ) → k < length xs → drop k xs ≡ get_or xs k 0 ∷ drop (suc k) xs
-from_place xs k fits = drop-cons xs k 0 fits
-
 pub next_below : (list : List ℕ) (k : ℕ) (below : Option ℕ) → k < length list → IsBefore list k below → IsNextBelow (get_or list k 0) list below
-next_below list zero below fits before = subst (IsNextBelow (get_or list 0 0) list) (sym (before.first refl)) (drop 1 list, from_place list 0 fits)
-next_below list (suc k) below fits before = subst (IsNextBelow (get_or list (suc k) 0) list) (sym (before.later (omega arith) ∙ ap (λ j. Some (get_or list j 0)) down))
-    (take k list, drop (suc (suc k)) list, sym (take-append-drop k list) ∙ ap (λ xs. take k list ++ xs) (from_place list k (omega (arith, fits)) ∙ ap (λ xs. get_or list k 0 ∷ xs) (from_place list (suc k) fits)))
-  where
-    down : suc k - 1 ≡ k
-    down = omega arith
+next_below list k below fits before = ends.next_below list k (get_or list k 0) below (slice_get-get_or list k 0 fits) before.first (λ some. before.later some ∙ sym (slice_get-get_or list (k - 1) 0 (omega (arith, some, fits))))
 
 pub before_more : (list : List ℕ) (k : ℕ) (below : Option ℕ) → below ≡ Some (get_or list k 0) → IsBefore list (k + 1) below
 before_more list k below is = record { first = λ none. absurd (omega (arith, none)); later = λ some. is ∙ (let down : k ≡ (k + 1) - 1 = omega arith in ap (λ j. Some (get_or list j 0)) down) }
 
+-- an edge alive at a corner is there, and begins no later
+alive_begun : (t : Table) → IsTable t → (c e : ℕ) → c < length t.corners → alive_at t (corner t c) e ≡ true → (e < length t.ends) × (lo_of t e ≤ c)
+alive_begun t ok c e fits live =
+    let parts = and_parts (is_edge t e) (nat_lt (lo_of t e) (c + 1) && not (nat_lt (hi_of t e) (c + 1))) (sym (alive_at_corner t ok c fits e) ∙ live) in
+    let begun : lo_of t e < c + 1 = ltb-true _ _ (and_parts (nat_lt (lo_of t e) (c + 1)) (not (nat_lt (hi_of t e) (c + 1))) parts.1).0 in
+    (ltb-true _ _ parts.0, omega (arith, begun))
+
 module _ (t : Table) (ok : IsTable t) (c : ℕ) (fits : c < length t.corners) (list : List ℕ) (version : IsVersion t c list) where
   -- a member is an edge that begins no later
   pub member : (e : ℕ) → is_in e list ≡ true → (e < length t.ends) × (lo_of t e ≤ c)
-  member e here =
-      let parts = and_parts (is_edge t e) (nat_lt (lo_of t e) (c + 1) && not (nat_lt (hi_of t e) (c + 1))) (sym (alive_at_corner t ok c fits e) ∙ (sym (version.exact e) ∙ here)) in
-      let begun : lo_of t e < c + 1 = ltb-true _ _ (and_parts (nat_lt (lo_of t e) (c + 1)) (not (nat_lt (hi_of t e) (c + 1))) parts.1).0 in
-      (ltb-true _ _ parts.0, omega (arith, begun))
+  member e here = alive_begun t ok c e fits (sym (version.exact e) ∙ here)
 
   pub member_at : (k : ℕ) → k < length list → (get_or list k 0 < length t.ends) × (lo_of t (get_or list k 0) ≤ c)
   member_at k within = member (get_or list k 0) (list_any_at (λ m. m == get_or list k 0) list k 0 within (eq-eqb _ _ refl))
@@ -55,10 +51,7 @@ pub below_begins : (t : Table) → IsTable t → (e : ℕ) → e < length t.ends
 below_begins t ok e fits None below = (tt, tt)
 below_begins t ok e fits (Some d) below =
     let up = ok.goes_up e fits in
-    let live = (and_parts (alive_at t (edge t e).lo d) (lower_of t d e) below.0).0 in
-    let parts = and_parts (is_edge t d) (nat_lt (lo_of t d) (lo_of t e + 1) && not (nat_lt (hi_of t d) (lo_of t e + 1))) (sym (alive_at_corner t ok (lo_of t e) (omega (arith, up.0, up.1)) d) ∙ live) in
-    let begun : lo_of t d < lo_of t e + 1 = ltb-true _ _ (and_parts (nat_lt (lo_of t d) (lo_of t e + 1)) (not (nat_lt (hi_of t d) (lo_of t e + 1))) parts.1).0 in
-    (ltb-true _ _ parts.0, omega (arith, begun))
+    alive_begun t ok (lo_of t e) d (omega (arith, up.0, up.1)) (and_parts (alive_at t (edge t e).lo d) (lower_of t d e) below.0).0
 
 -- the list above an edge that begins at the corner is at hand
 pub there_at : (t : Table) (c e : ℕ) (covers : List ℕ) (below : Option ℕ) → lo_of t e ≡ c → ((d : ℕ) → below ≡ Some d → lo_of t d ≡ c → covers ≡ cover_above t d) → IfSome below (λ d. lo_of t d ≡ lo_of t e → covers ≡ cover_above t d)
@@ -71,9 +64,6 @@ module _ (t : Table) (c : ℕ) (Holds : ℕ → Type 0) where
   abbrev pub IsLeastAmong : List ℕ → Option ℕ → Type 0
   IsLeastAmong seen None = (e : ℕ) → is_in e seen ≡ true → lo_of t e ≡ c → Holds e
   IsLeastAmong seen (Some n) = (is_in n seen ≡ true) × (lo_of t n ≡ c) × (Holds n → ⊥) × ((e : ℕ) → is_in e seen ≡ true → lo_of t e ≡ c → e < n → Holds e)
-
-  pub among_none : IsLeastAmong [] None
-  among_none e here begins = absurd (true≢false (sym here))
 
   split : (seen : List ℕ) (e d : ℕ) → is_in d (seen ++ e ∷ []) ≡ true → (is_in d seen ≡ true) ⊎ (e ≡ d)
   split seen e d here = elim (or_cases (is_in d seen) (is_in d (e ∷ [])) (sym (list_any-append (λ m. m == d) seen (e ∷ [])) ∙ here)) [
@@ -152,15 +142,13 @@ module _ (t : Table) (c : ℕ) (Holds : ℕ → Type 0) where
   ]
 
   -- at the end of the list all that begin there are seen
-  pub among_all : IsTable t → NoConflict t → c < length t.corners → (list : List ℕ) → IsVersion t c list → (least : Option ℕ) → IsLeastAmong list least → IsLeastFrom t c Holds least
-  among_all ok apart fits list version None seen = λ e within begins. seen e (listed e within begins) begins
-    where
-      listed : (e : ℕ) → e < length t.ends → lo_of t e ≡ c → is_in e list ≡ true
-      listed e within begins = version.exact e ∙ subst (λ b. alive_at t (corner t b) e ≡ true) begins (alive_at_begin t ok apart e within)
-  among_all ok apart fits list version (Some n) seen = ((member t ok c fits list version n seen.0).0, seen.1, seen.2, λ e less begins. seen.3 e (listed e (let m = (member t ok c fits list version n seen.0).0 in omega (arith, m, less)) begins) begins less)
-    where
-      listed : (e : ℕ) → e < length t.ends → lo_of t e ≡ c → is_in e list ≡ true
-      listed e within begins = version.exact e ∙ subst (λ b. alive_at t (corner t b) e ≡ true) begins (alive_at_begin t ok apart e within)
+  module _ (ok : IsTable t) (apart : NoConflict t) (fits : c < length t.corners) (list : List ℕ) (version : IsVersion t c list) where
+    listed : (e : ℕ) → e < length t.ends → lo_of t e ≡ c → is_in e list ≡ true
+    listed e within begins = version.exact e ∙ subst (λ b. alive_at t (corner t b) e ≡ true) begins (alive_at_begin t ok apart e within)
+
+    pub among_all : (least : Option ℕ) → IsLeastAmong list least → IsLeastFrom t c Holds least
+    among_all None seen = λ e within begins. seen e (listed e within begins) begins
+    among_all (Some n) seen = let m = (member t ok c fits list version n seen.0).0 in (m, seen.1, seen.2, λ e less begins. seen.3 e (listed e (omega (arith, m, less)) begins) begins less)
 
 -- ---- corner after corner
 -- an edge with a lesser number begins no later

@@ -11,7 +11,7 @@ use Rattle.loc_spec_text.proofs.NumberLaws.{off_grid, on_grid, out_of_range, zer
 use Rattle.loc_wkt.specs.declared.grid_numbers.Decimal.{Decimal}
 use Rattle.loc_wkt.specs.GridNumbers.{IsDecimal}
 use Rattle.loc_wkt.proofs.DigitLemmas.{last_digit, no_digits, not_none}
-use Rattle.loc_wkt.proofs.FirstPiece.{nothing_after}
+use Rattle.loc_wkt.proofs.FirstSymbol.{nothing_after}
 
 -- the digits of a number text
 exponent_digits : (text : List ℕ) (b : Bool) → list_any is_exponent_mark text ≡ b → (not b || are_digits (unsigned (after_first is_exponent_mark text))) ≡ true

@@ -1,5 +1,5 @@
 pub mod LineLemmas
-pub mod PieceLemmas
+pub mod SymbolLemmas
 pub mod NumberLemmas
 pub mod MemberLemmas
 pub mod WordLemmas
@@ -14,7 +14,7 @@ pub mod TokenSteps
 pub mod TokenLongest
 pub mod TokenFront
 pub mod TokenTurns
-pub mod FirstPiece
+pub mod FirstSymbol
 pub mod DigitLemmas
 pub mod GridLemmas
 pub mod GridTexts

@@ -3,19 +3,19 @@ use Rattle.std.proofs.Common.{◌≡◌, ℕ, ◌≤◌, List, [], ◌∷◌, �
 use Rattle.std.specs.List.{fold}
 use Rattle.std.proofs.lemmas.List.{map-append}
 use Rattle.loc_spec_plane.specs.Points.{Point}
-use Rattle.loc_spec_text.specs.Geometry.{WidePoint, pieces}
+use Rattle.loc_spec_text.specs.Geometry.{WidePoint, symbols}
 use Rattle.loc_spec_text.specs.Reader.{Reader, wide_point_at}
 use Rattle.loc_wkt.specs.declared.values.Values.{Values}
 use Rattle.loc_wkt.specs.Fronts.{goes_on_at}
 use Rattle.loc_wkt.specs.Lists.{IsRead, listed_at}
 use Rattle.loc_wkt.specs.Passes.{HasRoom, after_point, point_or_zero}
 use Rattle.loc_wkt.proofs.MemberLemmas.{IsSoFar}
-use Rattle.loc_wkt.proofs.ListLemmas.{TakesPieces, begin, ends, goes_on, kept_more, no_end, no_member, point_takes}
+use Rattle.loc_wkt.proofs.ListLemmas.{TakesSymbols, begin, ends, goes_on, kept_more, no_end, no_member, point_takes}
 
 -- Members of the list that starts there have been read, and their values are kept.
 pub record IsListSoFar {X : Type 0} (read : Reader X) (step : Values → X → Values) (before now : Values) (start rest : List ℕ) : Type 0 where
   pub members : List X
-  pub so_far : IsSoFar read (pieces start) members (pieces rest)
+  pub so_far : IsSoFar read (symbols start) members (symbols rest)
   pub kept : now ≡ fold step before members
   pub room : HasRoom now rest
   pub shorter : length rest ≤ length start
@@ -23,33 +23,33 @@ pub record IsListSoFar {X : Type 0} (read : Reader X) (step : Values → X → V
 module _ {X : Type 0} (read : Reader X) (step : Values → X → Values) (before now : Values) (start rest : List ℕ) where
   -- nothing has been read
   pub list_begins : HasRoom before start → IsListSoFar read step before before start start
-  list_begins room = record { members = []; so_far = begin read (pieces start); kept = refl; room = room; shorter = omega arith }
+  list_begins room = record { members = []; so_far = begin read (symbols start); kept = refl; room = room; shorter = omega arith }
 
   module _ (h : IsListSoFar read step before now start rest) where
     -- no member follows
-    pub list_stops : read (pieces rest) ≡ None → listed_at read (pieces start) ≡ None
-    list_stops e = no_member read (pieces start) h.members (pieces rest) h.so_far e
+    pub list_stops : read (symbols rest) ≡ None → listed_at read (symbols start) ≡ None
+    list_stops e = no_member read (symbols start) h.members (symbols rest) h.so_far e
 
     module _ (after : Values) (more : List ℕ) (r : IsRead read rest more (λ x. after ≡ step now x)) where
       -- neither a comma nor a close mark follows
-      pub list_breaks : goes_on_at (pieces more) ≡ None → listed_at read (pieces start) ≡ None
-      list_breaks f = no_end read (pieces start) h.members (pieces rest) h.so_far r.member (pieces more) r.gives f
+      pub list_breaks : goes_on_at (symbols more) ≡ None → listed_at read (symbols start) ≡ None
+      list_breaks f = no_end read (symbols start) h.members (symbols rest) h.so_far r.member (symbols more) r.gives f
 
       -- a comma follows
-      pub list_goes_on : TakesPieces read → (behind : List ℕ) → goes_on_at (pieces more) ≡ Some (true, pieces behind) → HasRoom after behind → length behind ≤ length rest → IsListSoFar read step before after start behind
+      pub list_goes_on : TakesSymbols read → (behind : List ℕ) → goes_on_at (symbols more) ≡ Some (true, symbols behind) → HasRoom after behind → length behind ≤ length rest → IsListSoFar read step before after start behind
       list_goes_on takes behind f room shorter = record {
         members = h.members ++ r.member ∷ [];
-        so_far = goes_on read (pieces start) h.members (pieces rest) h.so_far r.member (pieces more) r.gives takes (pieces behind) f;
+        so_far = goes_on read (symbols start) h.members (symbols rest) h.so_far r.member (symbols more) r.gives takes (symbols behind) f;
         kept = kept_more step before now after h.members r.member h.kept r.meaning;
         room = room;
         shorter = omega (arith, h.shorter);
       }
 
       -- a close mark follows
-      pub list_ends : TakesPieces read → (behind : List ℕ) → goes_on_at (pieces more) ≡ Some (false, pieces behind) → IsRead (listed_at read) start behind (λ xs. after ≡ fold step before xs)
+      pub list_ends : TakesSymbols read → (behind : List ℕ) → goes_on_at (symbols more) ≡ Some (false, symbols behind) → IsRead (listed_at read) start behind (λ xs. after ≡ fold step before xs)
       list_ends takes behind f = record {
         member = h.members ++ r.member ∷ [];
-        gives = ends read (pieces start) h.members (pieces rest) h.so_far r.member (pieces more) r.gives takes (pieces behind) f;
+        gives = ends read (symbols start) h.members (symbols rest) h.so_far r.member (symbols more) r.gives takes (symbols behind) f;
         meaning = kept_more step before now after h.members r.member h.kept r.meaning;
       }
 
@@ -77,11 +77,11 @@ module _ (before now after : Values) (start rest more : List ℕ) (points : List
   more_points = ap₂ (λ ps p. ps ++ p ∷ []) h.points (r.meaning.0 ∙ ap (λ scale. point_or_zero scale r.member) h.scale) ∙ sym (map-append (point_or_zero before.scale) h.list.members (r.member ∷ []))
 
   -- neither a comma nor a close mark follows
-  pub points_break : goes_on_at (pieces more) ≡ None → listed_at wide_point_at (pieces start) ≡ None
+  pub points_break : goes_on_at (symbols more) ≡ None → listed_at wide_point_at (symbols start) ≡ None
   points_break f = list_breaks wide_point_at after_point before now start rest h.list after more read_point f
 
   -- a comma follows
-  pub points_go_on : (behind : List ℕ) → goes_on_at (pieces more) ≡ Some (true, pieces behind) → HasRoom after behind → length behind ≤ length rest → ArePointsSoFar before after start behind (points ++ x ∷ [])
+  pub points_go_on : (behind : List ℕ) → goes_on_at (symbols more) ≡ Some (true, symbols behind) → HasRoom after behind → length behind ≤ length rest → ArePointsSoFar before after start behind (points ++ x ∷ [])
   unfolding list_goes_on read_point
   points_go_on behind f room shorter = record {
     list = list_goes_on wide_point_at after_point before now start rest h.list after more read_point point_takes behind f room shorter;
@@ -90,7 +90,7 @@ module _ (before now after : Values) (start rest more : List ℕ) (points : List
   }
 
   -- a close mark follows
-  pub points_end : (behind : List ℕ) → goes_on_at (pieces more) ≡ Some (false, pieces behind)
+  pub points_end : (behind : List ℕ) → goes_on_at (symbols more) ≡ Some (false, symbols behind)
       → IsRead (listed_at wide_point_at) start behind (λ ps. (points ++ x ∷ [] ≡ map (point_or_zero before.scale) ps) × (after ≡ fold after_point before ps))
   unfolding list_ends read_point
   points_end behind f = record {

@@ -10,7 +10,7 @@ use Rattle.loc_spec_plane.specs.Points.{Point, point_at, same_point}
 use Rattle.loc_spec_text.specs.declared.TextFault.{TextFault}
 use Rattle.loc_spec_text.specs.declared.TextFault.TheVariants.{RingOpen, RingShort}
 use Rattle.loc_spec_text.specs.Bytes.{or_else}
-use Rattle.loc_spec_text.specs.Geometry.{Piece, number, Polygon, Ring, WidePoint, two, three, four}
+use Rattle.loc_spec_text.specs.Geometry.{Symbol, number, Polygon, Ring, WidePoint, two, three, four}
 use Rattle.loc_spec_text.specs.Reader.{wide_more, wide_point_at}
 use Rattle.loc_spec_text.specs.Reading.{Polygons, all_rings, ring_fault}
 use Rattle.loc_rings.specs.Values.{with_ring}
@@ -21,28 +21,28 @@ use Rattle.loc_wkt.specs.declared.values.Counter.{Counter}
 use Rattle.loc_wkt.specs.declared.values.Values.{Values}
 
 -- a number is at the front
-pub number_front : (ps rest : List Piece) (z : List ℕ) → number_at ps ≡ Some (z, rest) → ps ≡ number z ∷ rest
+pub number_front : (ps rest : List Symbol) (z : List ℕ) → number_at ps ≡ Some (z, rest) → ps ≡ number z ∷ rest
 unfolding number_at
 number_front (number w ∷ ps) rest z e = let p = some_pair_parts w z ps rest e in ap₂ (λ a b. number a ∷ b) p.0 p.1
 number_front _ rest z e = absurd (cc)
 
 -- no number stands behind the first two of a point
-pub none_further : (ps : List Piece) → number_at ps ≡ None → (x y : List ℕ) → wide_more x y ps ≡ Some (two x y, ps)
+pub none_further : (ps : List Symbol) → number_at ps ≡ None → (x y : List ℕ) → wide_more x y ps ≡ Some (two x y, ps)
 unfolding number_at
 none_further (number w ∷ ps) e x y = absurd (cc)
 none_further _ e x y = refl
 
-third_last : (x y z : List ℕ) (qs : List Piece) → number_at qs ≡ None → wide_more x y (number z ∷ qs) ≡ Some (three x y z, qs)
+third_last : (x y z : List ℕ) (qs : List Symbol) → number_at qs ≡ None → wide_more x y (number z ∷ qs) ≡ Some (three x y z, qs)
 unfolding number_at
 third_last x y z (number w ∷ qs) h = absurd (cc)
 third_last x y z _ h = refl
 
 -- one stands there
-pub one_further : (ps rest : List Piece) (z : List ℕ) → number_at ps ≡ Some (z, rest) → number_at rest ≡ None → (x y : List ℕ) → IsFurther x y ps rest
+pub one_further : (ps rest : List Symbol) (z : List ℕ) → number_at ps ≡ Some (z, rest) → number_at rest ≡ None → (x y : List ℕ) → IsFurther x y ps rest
 one_further ps rest z e f x y = record { member = three x y z; gives = ap (wide_more x y) (number_front ps rest z e) ∙ third_last x y z rest f; front = refl; further = refl }
 
 -- two stand there
-pub two_further : (ps rest behind : List Piece) (z m : List ℕ) → number_at ps ≡ Some (z, rest) → number_at rest ≡ Some (m, behind) → (x y : List ℕ) → IsFurther x y ps behind
+pub two_further : (ps rest behind : List Symbol) (z m : List ℕ) → number_at ps ≡ Some (z, rest) → number_at rest ≡ Some (m, behind) → (x y : List ℕ) → IsFurther x y ps behind
 two_further ps rest behind z m e f x y = record {
   member = four x y z m;
   gives = ap (wide_more x y) (number_front ps rest z e ∙ ap (λ qs. number z ∷ qs) (number_front rest behind m f));
@@ -51,22 +51,22 @@ two_further ps rest behind z m e f x y = record {
 }
 
 -- a point has a first number
-pub no_first : (ps : List Piece) → number_at ps ≡ None → wide_point_at ps ≡ None
+pub no_first : (ps : List Symbol) → number_at ps ≡ None → wide_point_at ps ≡ None
 unfolding number_at
 no_first (number w ∷ ps) e = absurd (cc)
 no_first _ e = refl
 
-first_last : (x : List ℕ) (qs : List Piece) → number_at qs ≡ None → wide_point_at (number x ∷ qs) ≡ None
+first_last : (x : List ℕ) (qs : List Symbol) → number_at qs ≡ None → wide_point_at (number x ∷ qs) ≡ None
 unfolding number_at
 first_last x (number w ∷ qs) h = absurd (cc)
 first_last x _ h = refl
 
 -- and a second
-pub no_second : (ps rest : List Piece) (x : List ℕ) → number_at ps ≡ Some (x, rest) → number_at rest ≡ None → wide_point_at ps ≡ None
+pub no_second : (ps rest : List Symbol) (x : List ℕ) → number_at ps ≡ Some (x, rest) → number_at rest ≡ None → wide_point_at ps ≡ None
 no_second ps rest x e f = ap wide_point_at (number_front ps rest x e) ∙ first_last x rest f
 
 -- with both, what follows them decides
-pub both_numbers : (ps rest behind : List Piece) (x y : List ℕ) → number_at ps ≡ Some (x, rest) → number_at rest ≡ Some (y, behind) → wide_point_at ps ≡ wide_more x y behind
+pub both_numbers : (ps rest behind : List Symbol) (x y : List ℕ) → number_at ps ≡ Some (x, rest) → number_at rest ≡ Some (y, behind) → wide_point_at ps ≡ wide_more x y behind
 both_numbers ps rest behind x y e f = ap wide_point_at (number_front ps rest x e ∙ ap (λ qs. number x ∷ qs) (number_front rest behind y f))
 
 none_mapped : {X Y : Type 0} (f : X → Y) (o : Option X) → None ≡ option_map f o → o ≡ None

@@ -1,4 +1,4 @@
--- The word at the front of a text, as its first piece and by its letters.
+-- The word at the front of a text, as its first symbol and by its letters.
 use Rattle.std.proofs.Common.{◌≡◌, ℕ, List, [], ◌∷◌, Bool, true, false, ◌&&◌, map, refl, sym, ◌∙◌, ap, ap₂, arith, codes}
 use Rattle.std.specs.Char.{is_ascii_alphabetic, to_ascii_lowercase, to_ascii_uppercase}
 use Rattle.std.specs.List.{list_all}
@@ -6,12 +6,12 @@ use Rattle.std.specs.Str.{bytes_eq}
 use Rattle.std.proofs.lemmas.Bool.Decides.{same_from_decides, nat_tests}
 use Rattle.std.proofs.lemmas.Slice.Eq.{bytes_eq-Decides}
 use Rattle.loc_spec_text.specs.Bytes.{capitals}
-use Rattle.loc_spec_text.specs.Geometry.{Piece, word, piece_of}
+use Rattle.loc_spec_text.specs.Geometry.{Symbol, word, symbol_of}
 use Rattle.loc_spec_text.specs.Number.{is_number}
 use Rattle.loc_wkt.specs.Fronts.{is_word}
-use Rattle.loc_wkt.proofs.PieceLemmas.{kind_of, letters}
+use Rattle.loc_wkt.proofs.SymbolLemmas.{kind_of, letters}
 
--- a piece that is a word has letters alone
+-- a symbol that is a word has letters alone
 word_kind : (o c m a n : Bool) (run v : List ℕ) → kind_of o c m a n run ≡ word v → (a ≡ true) × (capitals run ≡ v)
 word_kind true c m a n run v e = absurd (cc)
 word_kind false true m a n run v e = absurd (cc)
@@ -20,7 +20,7 @@ word_kind false false false true n run v e = (refl, cc)
 word_kind false false false false true run v e = absurd (cc)
 word_kind false false false false false run v e = absurd (cc)
 
-word_letters : (run v : List ℕ) → piece_of run ≡ word v → (list_all is_ascii_alphabetic run ≡ true) × (capitals run ≡ v)
+word_letters : (run v : List ℕ) → symbol_of run ≡ word v → (list_all is_ascii_alphabetic run ≡ true) × (capitals run ≡ v)
 word_letters run v e = word_kind (bytes_eq run (codes "(")) (bytes_eq run (codes ")")) (bytes_eq run (codes ",")) (list_all is_ascii_alphabetic run) (is_number run) run v e
 
 -- the two cases of a letter
@@ -48,7 +48,7 @@ letters_lower : (xs : List ℕ) → list_all is_ascii_alphabetic (map to_ascii_l
 letters_lower [] = refl
 letters_lower (x ∷ xs) = ap₂ (λ a b. a && b) (lower_letter x) (letters_lower xs)
 
-named : (name : List ℕ) (p : Piece) → is_word name p ≡ true → (w : List ℕ) × (p ≡ word w) × (w ≡ name)
+named : (name : List ℕ) (p : Symbol) → is_word name p ≡ true → (w : List ℕ) × (p ≡ word w) × (w ≡ name)
 named name (word w) h = (w, refl, (bytes_eq-Decides w name).0 h)
 named name _ h = absurd (cc)
 
@@ -65,14 +65,14 @@ module _ (name run : List ℕ) (name_letters : list_all is_ascii_alphabetic name
       other_way : map to_ascii_lowercase run ≡ map to_ascii_lowercase name → bytes_eq (capitals run) name ≡ true
       other_way h = (bytes_eq-Decides (capitals run) name).1 (capitals_same run name h ∙ name_capitals)
 
-  -- as a piece
-  pub same_piece : b ≡ is_word name (piece_of run)
-  same_piece = same_from_decides b (is_word name (piece_of run)) (f, g) (one_way, other_way)
+  -- as a symbol
+  pub same_symbol : b ≡ is_word name (symbol_of run)
+  same_symbol = same_from_decides b (is_word name (symbol_of run)) (f, g) (one_way, other_way)
     where
-      one_way : is_word name (piece_of run) ≡ true → map to_ascii_lowercase run ≡ map to_ascii_lowercase name
-      one_way h = let n = named name (piece_of run) h in let l = word_letters run n.0 n.1 in
+      one_way : is_word name (symbol_of run) ≡ true → map to_ascii_lowercase run ≡ map to_ascii_lowercase name
+      one_way h = let n = named name (symbol_of run) h in let l = word_letters run n.0 n.1 in
           sym (lower_capitals run) ∙ ap (map to_ascii_lowercase) (l.1 ∙ n.2)
 
-      other_way : map to_ascii_lowercase run ≡ map to_ascii_lowercase name → is_word name (piece_of run) ≡ true
+      other_way : map to_ascii_lowercase run ≡ map to_ascii_lowercase name → is_word name (symbol_of run) ≡ true
       other_way h = ap (is_word name) (letters run (sym (letters_lower run) ∙ ap (list_all is_ascii_alphabetic) h ∙ letters_lower name ∙ name_letters) ∙ ap word (capitals_same run name h ∙ name_capitals))
           ∙ (bytes_eq-Decides name name).1 refl

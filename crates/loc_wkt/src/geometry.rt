@@ -2,14 +2,14 @@
 
 ghost use Rattle.std.specs.Prelude.{◌≡◌, ◌≢◌, ◌≤◌, ◌<◌, ◌^◌, length, option_and_then, Ok, Err, IfOk, IfErr};
 ghost use Rattle.loc_spec_text.specs.Bytes.{after_word, capitals, first_word as first_word_of};
-ghost use Rattle.loc_spec_text.specs.Geometry.{pieces};
+ghost use Rattle.loc_spec_text.specs.Geometry.{symbols};
 ghost use Rattle.loc_spec_text.specs.Reader.{all_of, list_at, one_of, wide_geometry_of};
 ghost use Rattle.loc_spec_text.specs.Reading.{reading, word_fault as word_fault_of};
 ghost use Rattle.loc_wkt.specs.Lists.{IsUnread, wide_polygon_at};
 ghost use Rattle.loc_wkt.specs.Passes.{HasRoom, IsTreeRead, nothing_read, outcome as outcome_of};
 
 use crate::marks::{is_this_word, skip_white};
-use crate::tokens::{next_piece, word_length};
+use crate::tokens::{next_symbol, word_length};
 use crate::values::Values;
 use loc_rings::Rings;
 use loc_spec_text::TextFault;
@@ -49,11 +49,11 @@ impl Values {
     /// Reads one polygon with nothing behind it.
     fn read_polygon(&mut self, alloc: Global, text: &[u8]) -> Result<(), TextFault>
         requires room { HasRoom self.old text.now }
-        ensures ok { IfOk result (λ u. IsTreeRead (option_and_then one_of (wide_polygon_at (pieces text.now))) self.old self.new) }
-        ensures err { IfErr result (λ fault. IsUnread fault (option_and_then one_of (wide_polygon_at (pieces text.now)))) }
+        ensures ok { IfOk result (λ u. IsTreeRead (option_and_then one_of (wide_polygon_at (symbols text.now))) self.old self.new) }
+        ensures err { IfErr result (λ fault. IsUnread fault (option_and_then one_of (wide_polygon_at (symbols text.now)))) }
     {
         let rest = self.behind_polygon(alloc, text)?;
-        match next_piece(rest) {
+        match next_symbol(rest) {
             None => Ok(()),
             Some(_) => Err(TextFault::Syntax),
         }
@@ -62,11 +62,11 @@ impl Values {
     /// Reads EMPTY or a list of polygons with nothing behind it.
     fn read_polygons(&mut self, alloc: Global, text: &[u8]) -> Result<(), TextFault>
         requires room { HasRoom self.old text.now }
-        ensures ok { IfOk result (λ u. IsTreeRead (option_and_then all_of (list_at wide_polygon_at (pieces text.now))) self.old self.new) }
-        ensures err { IfErr result (λ fault. IsUnread fault (option_and_then all_of (list_at wide_polygon_at (pieces text.now)))) }
+        ensures ok { IfOk result (λ u. IsTreeRead (option_and_then all_of (list_at wide_polygon_at (symbols text.now))) self.old self.new) }
+        ensures err { IfErr result (λ fault. IsUnread fault (option_and_then all_of (list_at wide_polygon_at (symbols text.now)))) }
     {
         let rest = self.behind_polygon_list(alloc, text)?;
-        match next_piece(rest) {
+        match next_symbol(rest) {
             None => Ok(()),
             Some(_) => Err(TextFault::Syntax),
         }
@@ -93,7 +93,7 @@ fn read_values(alloc: Global, text: &[u8], scale: u8) -> Result<Values, TextFaul
     ensures ok { IfOk result (λ values. IsTreeRead (wide_geometry_of text.now) (nothing_read scale) values) }
     ensures err { IfErr result (λ fault. IsUnread fault (wide_geometry_of text.now)) }
 {
-    let Some((tag, rest)) = next_piece(text) else {
+    let Some((tag, rest)) = next_symbol(text) else {
         return Err(TextFault::Syntax);
     };
     let mut values = Values::new(alloc, scale);

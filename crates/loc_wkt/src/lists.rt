@@ -2,7 +2,7 @@
 
 ghost use Rattle.std.specs.Prelude.{◌≡◌, ◌++◌, ◌<◌, [], ◌∷◌, map, length, IfOk, IfErr};
 ghost use Rattle.std.specs.List.{fold};
-ghost use Rattle.loc_spec_text.specs.Geometry.{pieces};
+ghost use Rattle.loc_spec_text.specs.Geometry.{symbols};
 ghost use Rattle.loc_spec_text.specs.Reader.{list_at, wide_point_at};
 ghost use Rattle.loc_wkt.specs.Lists.{IsRead, IsUnread, listed_at, wide_polygon_at, wide_ring_at};
 ghost use Rattle.loc_wkt.specs.Passes.{HasRoom, after_point, after_polygon, after_ring, point_or_zero};
@@ -31,7 +31,7 @@ impl Values {
         requires room { HasRoom self.old text.now }
         ensures ok { IfOk result (λ r. IsRead (listed_at wide_point_at) text.now r.1.now (λ points.
             (r.0.items ≡ map (point_or_zero self.old.scale) points) × (self.new ≡ fold after_point self.old points))) }
-        ensures err { IfErr result (λ fault. IsUnread fault (listed_at wide_point_at (pieces text.now))) }
+        ensures err { IfErr result (λ fault. IsUnread fault (listed_at wide_point_at (symbols text.now))) }
         ensures room { IfOk result (λ r. HasRoom self.new r.1.now) }
         ensures shorter { IfOk result (λ r. length r.1.now < length text.now) }
     {
@@ -61,7 +61,7 @@ impl Values {
         requires room { HasRoom self.old text.now }
         requires started { 0 < length self.old.built }
         ensures ok { IfOk result (λ rest. IsRead wide_ring_at text.now rest.now (λ ring. self.new ≡ after_ring self.old ring)) }
-        ensures err { IfErr result (λ fault. IsUnread fault (wide_ring_at (pieces text.now))) }
+        ensures err { IfErr result (λ fault. IsUnread fault (wide_ring_at (symbols text.now))) }
         ensures room { IfOk result (λ rest. HasRoom self.new rest.now) }
         ensures started { IfOk result (λ rest. 0 < length self.new.built) }
         ensures shorter { IfOk result (λ rest. length rest.now < length text.now) }
@@ -81,7 +81,7 @@ impl Values {
         requires room { HasRoom self.old text.now }
         requires started { 0 < length self.old.built }
         ensures ok { IfOk result (λ rest. IsRead (listed_at wide_ring_at) text.now rest.now (λ rings. self.new ≡ fold after_ring self.old rings)) }
-        ensures err { IfErr result (λ fault. IsUnread fault (listed_at wide_ring_at (pieces text.now))) }
+        ensures err { IfErr result (λ fault. IsUnread fault (listed_at wide_ring_at (symbols text.now))) }
         ensures room { IfOk result (λ rest. HasRoom self.new rest.now) }
         ensures shorter { IfOk result (λ rest. length rest.now < length text.now) }
     {
@@ -106,7 +106,7 @@ impl Values {
     ) -> Result<&'a [u8], TextFault>
         requires room { HasRoom self.old text.now }
         ensures ok { IfOk result (λ rest. IsRead wide_polygon_at text.now rest.now (λ polygon. self.new ≡ after_polygon self.old polygon)) }
-        ensures err { IfErr result (λ fault. IsUnread fault (wide_polygon_at (pieces text.now))) }
+        ensures err { IfErr result (λ fault. IsUnread fault (wide_polygon_at (symbols text.now))) }
         ensures room { IfOk result (λ rest. HasRoom self.new rest.now) }
         ensures shorter { IfOk result (λ rest. length rest.now < length text.now) }
     {
@@ -126,7 +126,7 @@ impl Values {
     fn behind_polygons<'a>(&mut self, alloc: Global, text: &'a [u8]) -> Result<&'a [u8], TextFault>
         requires room { HasRoom self.old text.now }
         ensures ok { IfOk result (λ rest. IsRead (listed_at wide_polygon_at) text.now rest.now (λ polygons. self.new ≡ fold after_polygon self.old polygons)) }
-        ensures err { IfErr result (λ fault. IsUnread fault (listed_at wide_polygon_at (pieces text.now))) }
+        ensures err { IfErr result (λ fault. IsUnread fault (listed_at wide_polygon_at (symbols text.now))) }
     {
         let mut rest = text;
         loop {
@@ -149,7 +149,7 @@ impl Values {
     ) -> Result<&'a [u8], TextFault>
         requires room { HasRoom self.old text.now }
         ensures ok { IfOk result (λ rest. IsRead (list_at wide_polygon_at) text.now rest.now (λ polygons. self.new ≡ fold after_polygon self.old polygons)) }
-        ensures err { IfErr result (λ fault. IsUnread fault (list_at wide_polygon_at (pieces text.now))) }
+        ensures err { IfErr result (λ fault. IsUnread fault (list_at wide_polygon_at (symbols text.now))) }
     {
         if let Some(inside) = behind_open(text) {
             return self.behind_polygons(alloc, inside);

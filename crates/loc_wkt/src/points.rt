@@ -2,7 +2,7 @@
 
 ghost use Rattle.std.specs.Prelude.{◌≡◌, ◌≤◌, ◌<◌, ◌^◌, length, true, if◌then◌else◌, IfSome, MatchOption, Some, None};
 ghost use Rattle.loc_spec_plane.specs.Points.{OnGrid};
-ghost use Rattle.loc_spec_text.specs.Geometry.{pieces};
+ghost use Rattle.loc_spec_text.specs.Geometry.{symbols};
 ghost use Rattle.loc_spec_text.specs.Number.{grid_value as grid_value_of};
 ghost use Rattle.loc_spec_text.specs.Points.{is_grid_number, point_of, point_texts};
 ghost use Rattle.loc_spec_text.specs.Reader.{point_at};
@@ -10,7 +10,7 @@ ghost use Rattle.loc_wkt.specs.Fronts.{is_end, point_mark_at};
 
 use crate::grid_numbers::{GridNumber, NumberText, on_grid};
 use crate::marks::{behind_open, is_this_word, next_mark, next_number};
-use crate::tokens::next_piece;
+use crate::tokens::next_symbol;
 use loc_geom::Point;
 
 /// The longest line that is read as a point.
@@ -18,7 +18,7 @@ const MOST_BYTES: usize = 4096;
 
 /// Two numbers at the front of a text, and what follows them.
 fn next_pair(text: &[u8]) -> Option<(NumberText<'_>, NumberText<'_>, &[u8])>
-    ensures found { MatchOption result (point_at (pieces text.now) ≡ None) (λ r. point_at (pieces text.now) ≡ Some ((r.0.text.now, r.1.text.now), pieces r.2.now)) }
+    ensures found { MatchOption result (point_at (symbols text.now) ≡ None) (λ r. point_at (symbols text.now) ≡ Some ((r.0.text.now, r.1.text.now), symbols r.2.now)) }
     ensures first { IfSome result (λ r. length r.0.text.now ≤ length text.now) }
     ensures second { IfSome result (λ r. length r.1.text.now ≤ length text.now) }
 {
@@ -29,10 +29,10 @@ fn next_pair(text: &[u8]) -> Option<(NumberText<'_>, NumberText<'_>, &[u8])>
 
 /// What follows the word POINT and an open mark at the front of a text.
 fn behind_point_mark(text: &[u8]) -> Option<&[u8]>
-    ensures found { MatchOption result (point_mark_at (pieces text.now) ≡ None) (λ rest. point_mark_at (pieces text.now) ≡ Some (pieces rest.now)) }
+    ensures found { MatchOption result (point_mark_at (symbols text.now) ≡ None) (λ rest. point_mark_at (symbols text.now) ≡ Some (symbols rest.now)) }
     ensures shorter { IfSome result (λ rest. length rest.now < length text.now) }
 {
-    let (word, rest) = next_piece(text)?;
+    let (word, rest) = next_symbol(text)?;
     if is_this_word(word, b"POINT") {
         behind_open(rest)
     } else {
@@ -42,17 +42,17 @@ fn behind_point_mark(text: &[u8]) -> Option<&[u8]>
 
 /// Whether a text is a close mark, but for white space.
 fn is_close_mark(text: &[u8]) -> bool
-    ensures { result ≡ is_end (pieces text.now) }
+    ensures { result ≡ is_end (symbols text.now) }
 {
     match next_mark(text) {
-        Some((mark, rest)) => mark == b')' && next_piece(rest).is_none(),
+        Some((mark, rest)) => mark == b')' && next_symbol(rest).is_none(),
         None => false,
     }
 }
 
 /// The numbers of a point line: two alone, or two behind the word POINT in parentheses.
 fn point_numbers(text: &[u8]) -> Option<(NumberText<'_>, NumberText<'_>)>
-    ensures found { MatchOption result (point_texts (pieces text.now) ≡ None) (λ r. point_texts (pieces text.now) ≡ Some (r.0.text.now, r.1.text.now)) }
+    ensures found { MatchOption result (point_texts (symbols text.now) ≡ None) (λ r. point_texts (symbols text.now) ≡ Some (r.0.text.now, r.1.text.now)) }
     ensures first { IfSome result (λ r. length r.0.text.now ≤ length text.now) }
     ensures second { IfSome result (λ r. length r.1.text.now ≤ length text.now) }
 {
@@ -67,7 +67,7 @@ fn point_numbers(text: &[u8]) -> Option<(NumberText<'_>, NumberText<'_>)>
         }
         None => {
             let (x, y, rest) = next_pair(text)?;
-            if next_piece(rest).is_none() {
+            if next_symbol(rest).is_none() {
                 Some((x, y))
             } else {
                 None

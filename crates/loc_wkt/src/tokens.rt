@@ -4,10 +4,10 @@ ghost use Rattle.std.specs.Prelude.{◌<◌, ◌+◌, ◌^◌, length};
 
 mod iterator;
 mod lengths;
-mod pieces;
+mod symbols;
 
 pub use lengths::{is_white, white_length, word_length};
-pub use pieces::{is_mark, next_piece};
+pub use symbols::{is_mark, next_symbol};
 
 /// A token and the place at which it begins.
 #[derive(Clone, Copy, Debug)]

@@ -4,7 +4,7 @@ ghost use Rattle.std.specs.Prelude.{◌≡◌, ◌+◌, ◌<◌, ◌≤◌, ◌^
 ghost use Rattle.loc_rings.specs.Values.{IsRing};
 ghost use Rattle.loc_spec_plane.specs.Points.{OnGrid};
 ghost use Rattle.loc_spec_text.specs.Bytes.{or_else};
-ghost use Rattle.loc_spec_text.specs.Geometry.{pieces, two};
+ghost use Rattle.loc_spec_text.specs.Geometry.{symbols, two};
 ghost use Rattle.loc_spec_text.specs.Reader.{wide_more, wide_point_at};
 ghost use Rattle.loc_spec_text.specs.Reading.{all_rings, number_fault as number_fault_of, ring_fault as fault_of};
 ghost use Rattle.loc_wkt.specs.GridNumbers.{IsBounded, IsGridNumber};
@@ -101,7 +101,7 @@ fn ring_fault(points: &[Point], ring: u32) -> Option<TextFault>
 
 /// What follows one or two numbers that stand behind the first two of a point.
 fn behind_further(text: &[u8]) -> Option<&[u8]>
-    ensures read { (x y : List ℕ) → MatchOption result (wide_more x y (pieces text.now) ≡ Some (two x y, pieces text.now)) (λ rest. IsFurther x y (pieces text.now) (pieces rest.now)) }
+    ensures read { (x y : List ℕ) → MatchOption result (wide_more x y (symbols text.now) ≡ Some (two x y, symbols text.now)) (λ rest. IsFurther x y (symbols text.now) (symbols rest.now)) }
     ensures shorter { IfSome result (λ rest. length rest.now < length text.now) }
 {
     let (_, rest) = next_number(text)?;
@@ -144,7 +144,7 @@ impl Values {
     /// The point of two, three or four numbers at the front of a text, and what follows it.
     pub(crate) fn next_point<'a>(&mut self, text: &'a [u8]) -> Option<(Point, &'a [u8])>
         requires room { HasRoom self.old text.now }
-        ensures read { MatchOption result (wide_point_at (pieces text.now) ≡ None) (λ r.
+        ensures read { MatchOption result (wide_point_at (symbols text.now) ≡ None) (λ r.
             IsRead wide_point_at text.now r.1.now (λ p. (r.0 ≡ point_or_zero self.old.scale p) × (self.new ≡ after_point self.old p))) }
         ensures room { IfSome result (λ r. HasRoom self.new r.1.now) }
         ensures shorter { IfSome result (λ r. length r.1.now < length text.now) }

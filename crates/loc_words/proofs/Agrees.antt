@@ -6,7 +6,8 @@ use Rattle.clap.specs.Walk.{Row, Walk, has_row, settled_rows, walked}
 use Rattle.clap.specs.Faults.{repeat_fault, settle_fault, turn_fault, walk_fault}
 use Rattle.clap.specs.Kinds.{Kinds, or_else}
 use Rattle.clap.specs.Simple.{Shape}
-use Rattle.loc_words.specs.Rows.{Text, Entry, are_different}
+use Rattle.loc_spec_text.specs.Bytes.{Text}
+use Rattle.loc_words.specs.Rows.{Entry, are_different}
 use Rattle.loc_words.proofs.Distinct.{ids, absent, one_more}
 use Rattle.loc_words.proofs.Walking.{row, used_once, added, walk_step, no_fault}
 

@@ -4,7 +4,8 @@ use Rattle.std.specs.List.{before_first, after_first, prefix_len, list_any, posi
 use Rattle.std.proofs.lemmas.Bool.{cases_Bool}
 use Rattle.std.proofs.lemmas.Bool.Decides.{Decides-eqb}
 use native.Mathlib.Numerals.{unary_clauses}
-use Rattle.loc_words.specs.Rows.{Text, is_equals}
+use Rattle.loc_spec_text.specs.Bytes.{Text}
+use Rattle.loc_words.specs.Rows.{is_equals}
 
 -- what stands before the first "=" goes on over a byte that is none
 pub before-cons : (x : ℕ) (xs : Text) → is_equals x ≡ false → before_first is_equals (x ∷ xs) ≡ x ∷ before_first is_equals xs

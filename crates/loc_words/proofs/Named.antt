@@ -1,7 +1,7 @@
 -- The first word names the command.
 use Rattle.std.proofs.Common.{◌≡◌, ◌∙◌, List, [], ◌∷◌, map, length, Option, Some, None, String, string_bytes, option_map, ok_or, Result, Ok, Err, IfErr, refl, sym, ap, arith}
+use Rattle.loc_spec_text.specs.Bytes.{Text}
 use Rattle.loc_words.specs.Words.{Asked, asked_by, command_named, command_of}
-use Rattle.loc_words.specs.Rows.{Text}
 use Rattle.loc_words.specs.declared.command.Command.{Command}
 use Rattle.loc_words.specs.declared.fault.WordsFault.{WordsFault}
 use Rattle.loc_words.specs.declared.fault.WordsFault.TheVariants.{Refused}

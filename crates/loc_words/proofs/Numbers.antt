@@ -7,21 +7,9 @@ use Rattle.std.specs.Result.{OkIff, result_ok}
 use Rattle.std.specs.Str.Parse.{IsNumeral, ParsesUnsigned, digits_value, without_leading_plus}
 use Rattle.std.proofs.lemmas.Bool.{and_parts, cases_Bool, ne_eqb, leb-true, le-leb, lt-ltb, ltb-true}
 use Rattle.std.proofs.lemmas.Str.Parse.{IsDigitsTest, numerals_by_value}
-use Rattle.loc_words.specs.Rows.{Text}
+use Rattle.loc_spec_text.specs.Bytes.{Text}
+use Rattle.loc_spec_text.proofs.DigitLaws.{ascii_digits, digit_range}
 use Rattle.loc_words.specs.Words.{number_word}
-
-digit_range : (c : ℕ) → is_ascii_digit c ≡ true → IsInRange 48 57 c
-digit_range c h = let two = and_parts (nat_le 48 c) (nat_le c 57) h in (leb-true 48 c two.0, leb-true c 57 two.1)
-
-range_digit : (c : ℕ) → IsInRange 48 57 c → is_ascii_digit c ≡ true
-range_digit c h = let low = le-leb 48 c h.0 in let high = le-leb c 57 h.1 in simp (low, high)
-
-ascii_digits : IsDigitsTest (λ ds. list_all is_ascii_digit ds ≡ true)
-ascii_digits = record {
-  empty = refl;
-  parts = λ c cs h. let two = and_parts (is_ascii_digit c) (list_all is_ascii_digit cs) h in (digit_range c two.0, two.1);
-  more = λ c cs r h. let here = range_digit c r in simp (here, h);
-}
 
 no_plus : (ds : Text) → list_all is_ascii_digit ds ≡ true → without_leading_plus ds ≡ ds
 no_plus [] h = refl

@@ -9,7 +9,8 @@ use Rattle.clap.specs.Faults.{settle_fault, turn_fault}
 use Rattle.clap.specs.Kinds.{Kinds, or_else}
 use Rattle.clap.specs.Simple.{Shape}
 use Rattle.clap.proofs.OnLiterals.{clap_on_literals}
-use Rattle.loc_words.specs.Rows.{Text, OptionRow, Entry, are_different, is_equals, is_of, is_value, named, option_in, settings, settings_of, takes}
+use Rattle.loc_spec_text.specs.Bytes.{Text}
+use Rattle.loc_words.specs.Rows.{OptionRow, Entry, are_different, is_equals, is_of, is_value, named, option_in, settings, settings_of, takes}
 use Rattle.loc_words.specs.Tested.{is_long, has_value, is_tested}
 use Rattle.loc_words.proofs.Agrees.{Agrees, agrees_as, behind, faulty, one_use, or_else-nil, refused, repeated, walk_end, walk_on, walk_total}
 use Rattle.loc_words.proofs.Cuts.{after-dashes, before-cons, before-dashes, before-whole}

@@ -6,7 +6,8 @@ use Rattle.clap.specs.Lexer.{usize_max}
 use Rattle.clap.specs.Walk.{Row, Rule, settled_rows}
 use Rattle.clap.specs.Faults.{settle_fault}
 use Rattle.clap.specs.Simple.{Shape}
-use Rattle.loc_words.specs.Rows.{Text, OptionRow, entries_of, is_value}
+use Rattle.loc_spec_text.specs.Bytes.{Text}
+use Rattle.loc_words.specs.Rows.{OptionRow, entries_of, is_value}
 use Rattle.loc_words.specs.Tested.{is_tested}
 use Rattle.loc_words.proofs.Agrees.{Agrees, agrees_as, one_use, walk_end, walk_on, walk_total}
 use Rattle.loc_words.proofs.Options.{HasOptions, on_settings, plain_word}

@@ -11,8 +11,9 @@ use Rattle.std.proofs.lemmas.Slice.Eq.{bytes_eq-Decides}
 use Rattle.clap.specs.Lexer.{usize_max}
 use Rattle.clap.specs.Walk.{Rule, arg_by_id, arg_by_index, arg_by_long}
 use Rattle.clap.specs.Simple.{filled, filled_from, with_index}
+use Rattle.loc_spec_text.specs.Bytes.{Text}
 use Rattle.loc_words.specs.Apps.{option_rule, place_rule}
-use Rattle.loc_words.specs.Rows.{Text, OptionRow, are_different, is_of, takes}
+use Rattle.loc_words.specs.Rows.{OptionRow, are_different, is_of, takes}
 use Rattle.loc_words.specs.declared.row.OptionKind.{OptionKind}
 use Rattle.loc_words.specs.declared.row.OptionKind.TheVariants.{Required, Optional, Flag}
 use Rattle.loc_words.proofs.Options.{Stands, nothing, option, flag}

@@ -4,7 +4,8 @@ use Rattle.std.specs.List.{before_first, after_first, list_any, list_all}
 use Rattle.std.specs.Str.{bytes_eq}
 use Rattle.std.proofs.lemmas.Bool.{and_parts, cases_Bool, le-leb, leb-true, or_parts}
 use Rattle.std.proofs.lemmas.Slice.Eq.{bytes_eq-Decides}
-use Rattle.loc_words.specs.Rows.{Text, OptionRow, Entry, entries_of, is_equals, is_of, is_value, settings, takes}
+use Rattle.loc_spec_text.specs.Bytes.{Text}
+use Rattle.loc_words.specs.Rows.{OptionRow, Entry, entries_of, is_equals, is_of, is_value, settings, takes}
 use Rattle.loc_words.specs.Tested.{are_tested, is_tested}
 use Rattle.loc_words.specs.declared.row.OptionKind.{OptionKind}
 use Rattle.loc_words.specs.declared.row.OptionKind.TheVariants.{Required, Optional, Flag}

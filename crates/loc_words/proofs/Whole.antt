@@ -15,8 +15,9 @@ use Rattle.clap.specs.Faults.{check_fault, default_fault, defaults_fault, entere
 use Rattle.clap.specs.Kinds.{Kinds, or_else}
 use Rattle.clap.specs.Simple.{Shape, built, entered, filled, matches_of, with_index}
 use Rattle.clap.proofs.OnLiterals.{clap_on_literals}
+use Rattle.loc_spec_text.specs.Bytes.{Text}
 use Rattle.loc_words.specs.Apps.{Parses, app_of_row, entry_of, given_by, option_rule, place_rule}
-use Rattle.loc_words.specs.Rows.{Text, CommandRow, OptionRow, Entry, are_different, entries_of, given_of, is_required, is_row, is_value, is_whole, names_of, stands, value_in}
+use Rattle.loc_words.specs.Rows.{CommandRow, OptionRow, Entry, are_different, entries_of, given_of, is_required, is_row, is_value, is_whole, names_of, stands, value_in}
 use Rattle.loc_words.specs.Tested.{are_tested}
 use Rattle.std.specs.declared.alloc.AllocError.{AllocError}
 use Rattle.loc_words.specs.declared.parser.Given.{Given}

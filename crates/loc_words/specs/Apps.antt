@@ -4,7 +4,8 @@ use Rattle.clap.specs.Words.{App, Row, Rule, fault_of, found_of, matches_of, new
 use Rattle.clap.specs.Simple.{on_top}
 use Rattle.clap.specs.declared.builder.action.ArgAction.TheVariants.{Set}
 use Rattle.std.specs.declared.alloc.AllocError.{AllocError}
-use Rattle.loc_words.specs.Rows.{Text, CommandRow, OptionRow, Entry, is_required, is_row, given_of}
+use Rattle.loc_spec_text.specs.Bytes.{Text}
+use Rattle.loc_words.specs.Rows.{CommandRow, OptionRow, Entry, is_required, is_row, given_of}
 use Rattle.loc_words.specs.declared.parser.Given.{Given}
 use Rattle.loc_words.specs.declared.row.OptionKind.{OptionKind}
 use Rattle.loc_words.specs.declared.row.OptionKind.TheVariants.{Flag}

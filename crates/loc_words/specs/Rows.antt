@@ -4,12 +4,9 @@ use Rattle.std.specs.Prelude.{ℕ, ◌==◌, Bool, true, false, not, ◌&&◌, �
 use Rattle.std.specs.List.{list_all, list_any, before_first, after_first}
 use Rattle.std.specs.Option.{option_map_or}
 use Rattle.std.specs.Str.{bytes_eq, byte}
+use Rattle.loc_spec_text.specs.Bytes.{Text}
 use Rattle.loc_words.specs.declared.row.OptionKind.{OptionKind}
 use Rattle.loc_words.specs.declared.row.OptionKind.TheVariants.{Required, Flag}
-
--- a word
-abbrev pub Text : Type 0
-Text = List ℕ
 
 -- an option by its name, and what it takes
 pub record OptionRow : Type 0 where

@@ -2,7 +2,8 @@
 use Rattle.std.specs.Prelude.{ℕ, ◌==◌, Bool, false, not, ◌&&◌, ◌||◌, List, [], ◌∷◌, length, nat_le, take, drop}
 use Rattle.std.specs.List.{list_all, list_any, after_first}
 use Rattle.std.specs.Str.{byte}
-use Rattle.loc_words.specs.Rows.{Text, is_equals, is_value}
+use Rattle.loc_spec_text.specs.Bytes.{Text}
+use Rattle.loc_words.specs.Rows.{is_equals, is_value}
 
 -- two hyphens and a byte at least
 abbrev pub is_long : Text → Bool

@@ -5,13 +5,14 @@ use Rattle.std.specs.Char.{is_ascii_digit}
 use Rattle.std.specs.List.{list_all}
 use Rattle.std.specs.Str.{bytes_eq}
 use Rattle.std.specs.Str.Parse.{digits_value}
+use Rattle.loc_spec_text.specs.Bytes.{Text}
 use Rattle.loc_spec_asked.specs.declared.Index.{Index}
 use Rattle.loc_spec_asked.specs.declared.Index.TheVariants.{Scan, Tree, Trap}
 use Rattle.loc_spec_text.specs.declared.Form.{Form}
 use Rattle.loc_spec_text.specs.declared.Form.TheVariants.{Lines, Csv}
 use Rattle.loc_gen.specs.declared.kinds.Kind.{Kind}
 use Rattle.loc_gen.specs.declared.kinds.Kind.TheVariants.{Grid, Nest, Strips}
-use Rattle.loc_words.specs.Rows.{Text, CommandRow, OptionRow, Entry, given_of, stands, value_in}
+use Rattle.loc_words.specs.Rows.{CommandRow, OptionRow, Entry, given_of, stands, value_in}
 use Rattle.loc_words.specs.declared.row.OptionKind.TheVariants.{Required, Optional, Flag}
 use Rattle.loc_words.specs.declared.row.CommandRow.{CommandRow as Row}
 use Rattle.loc_words.specs.declared.row.OptionRow.{OptionRow as Declared}

@@ -1,18 +1,19 @@
 -- The bytes of a content of a table, a legend and versions are its file: every field is right.
 use Rattle.std.proofs.Common.{◌≡◌, ℕ, ◌+◌, ◌*◌, ◌^◌, ◌<◌, ◌≤◌, true, false, List, [], ◌∷◌, length, map, get_or, refl, sym, ◌∙◌, subst, arith}
-use Rattle.std.specs.Prelude.{None, All, sum_by, codes, ◌==◌}
+use Rattle.std.specs.Prelude.{None, All, sum_by, ◌==◌}
 use Rattle.std.specs.List.{flat_map, list_all}
 use Rattle.std.specs.Int.{w32}
 use Rattle.std.proofs.lemmas.Bool.{and_from, eq-eqb}
 use Rattle.std.proofs.lemmas.List.{get_or_default}
 use Rattle.loc_spec_plane.specs.Lists.{is_rising}
 use Rattle.loc_spec_plane.specs.Points.{before, IsGridPoint}
-use Rattle.loc_spec_plane.specs.Covers.{feature_count}
+use Rattle.loc_spec_plane.specs.Covers.{feature_count, list_before}
 use Rattle.loc_spec_plane.specs.Tables.{Table, IsTable, mark_before}
 use Rattle.loc_spec_index.specs.declared.NodeRow.{NodeRow}
 use Rattle.loc_spec_index.specs.Content.{Content, EdgeRow}
-use Rattle.loc_spec_index.specs.IndexFile.{Field, magic, version, number, none_or_next, are_right, rows_from, parts, fields, bytes_of, header_fields, id_fields, corner_fields, edge_fields, edge_row_before, mark_fields, mark_row_before, cover_fields, node_fields, is_own_source, IsFileOf}
-use Rattle.loc_laws_index.proofs.Progress.{are_right-append}
+use Rattle.loc_spec_index.specs.IndexFile.{number, none_or_next, are_right, rows_from, parts, fields, bytes_of, header_fields, id_fields, corner_fields, edge_fields, edge_row_before, mark_fields, mark_row_before, cover_fields, node_fields, is_own_source, IsFileOf}
+use Rattle.loc_laws_index.proofs.RightFields.{all-right, parts-right}
+use Rattle.loc_laws_index.proofs.RightRows.{IsMarkIn, rising-chain}
 use Rattle.loc_cover.specs.Legends.{LegendRows, FitsTable, IsSound}
 use Rattle.loc_edges.specs.Small.{IsSmallTable}
 use Rattle.loc_persist.specs.Meaning.{VersionsMeaning}
@@ -21,7 +22,8 @@ use Rattle.loc_write.specs.Written.{edge_rows, content_of}
 use Rattle.loc_write.proofs.Lists.{edge-at, length-edges}
 use Rattle.loc_write.proofs.Ranges.{floor-within}
 use Rattle.loc_write.proofs.Spelling.{length-marks}
-use Rattle.loc_write.proofs.Right.{Each, each-at, chain-rising, cons-right, number-right, rows-right, flat-right, map-right, id-right, corner-right, IsEdgeWithin, edge-right, chain-edges, IsMarkWithin, mark-right, marks-each, features-each, chain-marks, IsListWithin, covers-right, node-right}
+use Rattle.loc_write.proofs.Right.{each-at, rows-right, flat-right, map-right, id-right, corner-right, IsEdgeWithin, edge-right, chain-edges, mark-right, marks-each, features-each, chain-marks, IsListWithin, covers-right, node-right}
+use Rattle.loc_rings.specs.Values.{most_id_bytes}
 
 -- what is asked of a table, a legend and versions
 pub record AreFit (scale : ℕ) (t : Table) (l : LegendRows) (m : VersionsMeaning) : Type 0 where
@@ -31,7 +33,7 @@ pub record AreFit (scale : ℕ) (t : Table) (l : LegendRows) (m : VersionsMeanin
   pub on_grid : All IsGridPoint t.corners
   pub sound : IsSound l
   pub fits : FitsTable t l
-  pub short : All (λ (id : List ℕ). length id ≤ 200) l.ids
+  pub short : All (λ (id : List ℕ). length id ≤ most_id_bytes) l.ids
   pub features : feature_count t ≤ length l.ids
   pub few_edges : length t.ends ≤ 2 ^ 20
   pub few_marks : sum_by length t.marks ≤ 2 ^ 20
@@ -45,10 +47,6 @@ own-sources [] above = refl
 own-sources (p ∷ ends) [] = refl
 own-sources (p ∷ ends) (n ∷ above) =
     and_from _ (list_all is_own_source (edge_rows ends above)) (and_from (p.0 == p.0) (p.1 == p.1) (eq-eqb p.0 p.0 refl) (eq-eqb p.1 p.1 refl)) (own-sources ends above)
-
-parts-right : (ps : List (List Field)) → Each (λ part. are_right part ≡ true) ps → are_right (flat_map (λ part. part) ps) ≡ true
-parts-right [] e = refl
-parts-right (p ∷ ps) e = are_right-append p (flat_map (λ part. part) ps) e.0 (parts-right ps e.1)
 
 module _ (scale : ℕ) (t : Table) (l : LegendRows) (m : VersionsMeaning) (fit : AreFit scale t l m) (roots : List ℕ) (nodes : List NodeRow)
     (as_many_roots : length roots ≡ length m.roots) (as_many_nodes : length nodes ≡ length m.rows)
@@ -80,62 +78,48 @@ module _ (scale : ℕ) (t : Table) (l : LegendRows) (m : VersionsMeaning) (fit :
       let edges = fit.fits.as_many_edges in
       let few_nodes = fit.few_nodes in
       let scale_fits = fit.scale_fits in
-      let h8 = number w32 (24 * length c.edges + 1) (length nodes) ∷ [] in
-      let h7 = number w32 (length c.edges + 1) (length l.lists) ∷ h8 in
-      let h6 = number w32 (2 ^ 20 + 1) (length c.marks) ∷ h7 in
-      let h5 = number w32 (2 ^ 20 + 1) (length c.edges) ∷ h6 in
-      let h4 = number w32 (2 ^ 20 + 1) (length t.corners) ∷ h5 in
-      let h3 = number w32 (2 ^ 18 + 1) (length l.ids) ∷ h4 in
-      let h2 = number w32 16 scale ∷ h3 in
-      cons-right (magic (codes "LOCINDEX")) (version 1 ∷ h2) refl
-      (cons-right (version 1) h2 refl
-      (cons-right (number w32 16 scale) h3 (number-right w32 16 scale (omega (arith, scale_fits)))
-      (cons-right (number w32 (2 ^ 18 + 1) (length l.ids)) h4 (number-right w32 _ (length l.ids) (omega (arith, few_ids)))
-      (cons-right (number w32 (2 ^ 20 + 1) (length t.corners)) h5 (number-right w32 _ (length t.corners) (omega (arith, few_corners)))
-      (cons-right (number w32 (2 ^ 20 + 1) (length c.edges)) h6 (number-right w32 _ (length c.edges) (omega (arith, few_edges, edges_many)))
-      (cons-right (number w32 (2 ^ 20 + 1) (length c.marks)) h7 (number-right w32 _ (length c.marks) (omega (arith, few_marks, marks)))
-      (cons-right (number w32 (length c.edges + 1) (length l.lists)) h8 (number-right w32 _ (length l.lists) (omega (arith, few_lists, edges, edges_many)))
-      (cons-right (number w32 (24 * length c.edges + 1) (length nodes)) [] (number-right w32 _ (length nodes) (omega (arith, few_nodes, as_many_nodes, edges_many))) refl))))))))
+      all-right (header_fields 1 c)
+      (refl, (refl, (omega (arith, scale_fits), (omega (arith, few_ids), (omega (arith, few_corners), (omega (arith, few_edges, edges_many), (omega (arith, few_marks, marks), (omega (arith, few_lists, edges, edges_many), (omega (arith, few_nodes, as_many_nodes, edges_many), tt)))))))))
 
   ids-right : are_right (flat_map id_fields l.ids) ≡ true
-  ids-right = flat-right id_fields (λ id. length id ≤ 200) id-right l.ids (each-at (λ (id : List ℕ). length id ≤ 200) l.ids fit.short)
+  ids-right = flat-right id_fields (λ id. length id ≤ most_id_bytes) id-right l.ids (each-at (λ (id : List ℕ). length id ≤ most_id_bytes) l.ids fit.short)
 
   corners-right : are_right (rows_from corner_fields [] t.corners) ≡ true
-  corners-right = rows-right corner_fields before IsGridPoint corner-right [] t.corners (each-at IsGridPoint t.corners fit.on_grid) (chain-rising before t.corners fit.in_order.corners_rise)
+  corners-right = rows-right corner_fields before IsGridPoint corner-right [] t.corners (each-at IsGridPoint t.corners fit.on_grid) (rising-chain before t.corners fit.in_order.corners_rise)
 
   edges-right : are_right (rows_from (edge_fields 1 (length t.corners) (length l.lists)) [] c.edges) ≡ true
   edges-right = rows-right (edge_fields 1 (length t.corners) (length l.lists)) edge_row_before (IsEdgeWithin (length t.corners) (length l.lists)) (edge-right (length t.corners) (length l.lists)) [] c.edges
       (each-at (IsEdgeWithin (length t.corners) (length l.lists)) c.edges edge-within) (chain-edges t.ends l.above fit.in_order.edges_rise)
 
   marks-right : are_right (rows_from (mark_fields (length c.edges) (length l.ids)) [] c.marks) ≡ true
-  marks-right = rows-right (mark_fields (length c.edges) (length l.ids)) mark_row_before (IsMarkWithin (length c.edges) (length l.ids)) (mark-right (length c.edges) (length l.ids)) [] c.marks
+  marks-right = rows-right (mark_fields (length c.edges) (length l.ids)) mark_row_before (IsMarkIn (length c.edges) (length l.ids)) (mark-right (length c.edges) (length l.ids)) [] c.marks
       (marks-each (length c.edges) (length l.ids) 0 t.marks (let many = fit.in_order.marks_fit in omega (arith, many, edges_many)) (features-each (length l.ids) t.marks fit.features))
       (chain-marks 0 t.marks (each-at (λ row. is_rising mark_before row ≡ true) t.marks (λ i d lt. (let e : is_rising mark_before (get_or t.marks i []) ≡ true = fit.in_order.marks_rise i in subst (λ row. is_rising mark_before row ≡ true) (get_or_default t.marks i [] d lt) e))) None tt)
 
   lists-right : are_right (rows_from (cover_fields (length l.ids)) [] l.lists) ≡ true
   lists-right = covers-right (length l.ids) [] l.lists (let few = fit.sound.lists.few_members in omega (arith, few))
       (each-at (IsListWithin (length l.ids)) l.lists (λ i d lt. subst (IsListWithin (length l.ids)) (get_or_default l.lists i [] d lt) (fit.sound.lists.each_rises i, each-at (λ f. f < length l.ids) (get_or l.lists i []) (fit.sound.lists_named i))))
-      (chain-rising _ l.lists fit.sound.lists.rise)
+      (rising-chain list_before l.lists fit.sound.lists.rise)
 
   floors-right : are_right (map (λ floor. number w32 (length c.edges + 1) (none_or_next floor)) l.floors) ≡ true
-  floors-right = map-right (λ floor. number w32 (length c.edges + 1) (none_or_next floor)) (λ floor. none_or_next floor ≤ length c.edges) (λ floor le. number-right w32 (length c.edges + 1) (none_or_next floor) (omega (arith, le))) l.floors
+  floors-right = map-right (λ floor. number w32 (length c.edges + 1) (none_or_next floor)) (λ floor. none_or_next floor ≤ length c.edges) (λ floor le. omega (arith, le)) l.floors
       (each-at (λ floor. none_or_next floor ≤ length c.edges) l.floors (λ i d lt. (let le = floor-within l fit.sound i d lt in let edges = fit.fits.as_many_edges in omega (arith, le, edges, edges_many))))
 
   roots-right : are_right (map (number w32 (length nodes + 1)) roots) ≡ true
-  roots-right = map-right (number w32 (length nodes + 1)) (λ n. n ≤ length m.rows) (λ n le. number-right w32 (length nodes + 1) n (omega (arith, le, as_many_nodes))) roots (each-at (λ n. n ≤ length m.rows) roots roots_within)
+  roots-right = map-right (number w32 (length nodes + 1)) (λ n. n ≤ length m.rows) (λ n le. omega (arith, le, as_many_nodes)) roots (each-at (λ n. n ≤ length m.rows) roots roots_within)
 
   nodes-right : are_right (flat_map (node_fields (length c.edges) (length t.corners) (length nodes)) nodes) ≡ true
   nodes-right = flat-right (node_fields (length c.edges) (length t.corners) (length nodes)) (IsWithin m.past_greatest (length t.corners) (length nodes) m.is_changed)
       (λ row w. node-right (length c.edges) (length t.corners) (length nodes) m.past_greatest m.is_changed row (let items = fit.items in omega (arith, items, edges_many)) fit.settled w) nodes
       (each-at (IsWithin m.past_greatest (length t.corners) (length nodes) m.is_changed) nodes (λ i d lt. subst (λ k. IsWithin m.past_greatest k (length nodes) m.is_changed (get_or nodes i d)) fit.as_many (subst (λ k. IsWithin m.past_greatest (length m.roots) k m.is_changed (get_or nodes i d)) (sym as_many_nodes) (nodes_within i d lt))))
 
-  all-right : are_right (fields 1 c) ≡ true
+  fields-right : are_right (fields 1 c) ≡ true
   unfolding fields
-  all-right = parts-right (parts 1 c) (header-right, (ids-right, (corners-right, (edges-right, (marks-right, (lists-right, (floors-right, (roots-right, (nodes-right, tt)))))))))
+  fields-right = parts-right (parts 1 c) (header-right, (ids-right, (corners-right, (edges-right, (marks-right, (lists-right, (floors-right, (roots-right, (nodes-right, tt)))))))))
 
   pub filed : IsFileOf 1 c (bytes_of 1 c)
   filed = record {
     shaped = record { floors = fit.sound.as_many_floors ∙ fit.fits.as_many_corners; roots = as_many_roots ∙ fit.as_many; sources = own-sources t.ends l.above };
-    right = all-right;
+    right = fields-right;
     spelled = refl;
   }

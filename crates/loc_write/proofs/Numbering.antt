@@ -51,16 +51,21 @@ row-is rows numbered n node names are lt (link, at, is) =
 
 -- ---- rows that were seen, one behind the other
 
-length-one-more : {X : Type 0} (xs : List X) (x : X) → length (xs ++ x ∷ []) ≡ length xs + 1
-length-one-more xs x = length-append xs (x ∷ [])
+-- what holds of each of so many things
+pub record Seen {X : Type 0} (P : ℕ → X → Type 0) (d : X) (n : ℕ) : Type 0 where
+  pub seen : List X
+  pub as_many : length seen ≡ n
+  pub each : (i : ℕ) → i < n → P i (get_or seen i d)
 
--- what holds of the rows so far and of one more
-more : {X : Type 0} (P : ℕ → X → Type 0) (xs : List X) (x d : X) (n : ℕ) → length xs ≡ n → ((i : ℕ) → i < n → P i (get_or xs i d)) → P n x → (i : ℕ) → i < n + 1 → P i (get_or (xs ++ x ∷ []) i d)
-more P xs x d n e each this i lt = by (nat_lt i n) refl
+-- what holds of so many holds with one more
+pub one-seen : {X : Type 0} (P : ℕ → X → Type 0) (d : X) (n : ℕ) (x : X) → Seen P d n → P n x → Seen P d (n + 1)
+one-seen P d n x s this = record { seen = s.seen ++ x ∷ []; as_many = length-append s.seen (x ∷ []) ∙ ap (λ k. k + 1) s.as_many; each = λ i lt. by i lt (nat_lt i n) refl }
   where
-    by : (b : Bool) → nat_lt i n ≡ b → P i (get_or (xs ++ x ∷ []) i d)
-    by true is = let less = ltb-true i n is in subst (P i) (sym (get_or_append_left xs (x ∷ []) d i (omega (arith, less, e)))) (each i less)
-    by false is = let same : n ≡ i = (let least = ltb-false i n is in omega (arith, least, lt)) in subst (λ j. P j (get_or (xs ++ x ∷ []) j d)) same (subst (P n) (sym (subst (λ k. get_or (xs ++ x ∷ []) k d ≡ x) e (get_or-append_seam xs x [] d))) this)
+    by : (i : ℕ) → i < n + 1 → (b : Bool) → nat_lt i n ≡ b → P i (get_or (s.seen ++ x ∷ []) i d)
+    by i lt true is = let less = ltb-true i n is in let e = s.as_many in subst (P i) (sym (get_or_append_left s.seen (x ∷ []) d i (omega (arith, less, e)))) (s.each i less)
+    by i lt false is =
+        let same : n ≡ i = (let least = ltb-false i n is in omega (arith, least, lt)) in
+        subst (λ j. P j (get_or (s.seen ++ x ∷ []) j d)) same (subst (P n) (sym (subst (λ k. get_or (s.seen ++ x ∷ []) k d ≡ x) s.as_many (get_or-append_seam s.seen x [] d))) this)
 
 -- a row is that of the node behind so many others, and its numbers are within their bounds
 pub record IsRowAt (m : VersionsMeaning) (n : ℕ) (node : NodeRow) : Type 0 where
@@ -68,20 +73,8 @@ pub record IsRowAt (m : VersionsMeaning) (n : ℕ) (node : NodeRow) : Type 0 whe
   pub within : IsWithin m.past_greatest (length m.roots) (length m.rows) m.is_changed node
 
 -- the rows of so many nodes
-pub record NodesSeen (m : VersionsMeaning) (n : ℕ) : Type 0 where
-  pub seen : List NodeRow
-  pub as_many : length seen ≡ n
-  pub each : (i : ℕ) → i < n → IsRowAt m i (get_or seen i no_row)
-
-pub no-nodes : (m : VersionsMeaning) → NodesSeen m 0
-no-nodes m = record { seen = []; as_many = refl; each = λ i lt. absurd (omega (arith, lt)) }
-
-pub node-seen : (m : VersionsMeaning) (n : ℕ) (node : NodeRow) → NodesSeen m n → IsRowAt m n node → NodesSeen m (n + 1)
-node-seen m n node s this = record {
-  seen = s.seen ++ node ∷ [];
-  as_many = length-one-more s.seen node ∙ ap (λ k. k + 1) s.as_many;
-  each = more (IsRowAt m) s.seen node no_row n s.as_many s.each this;
-}
+abbrev pub NodesSeen : VersionsMeaning → ℕ → Type 0
+NodesSeen m n = Seen (IsRowAt m) no_row n
 
 pub all-nodes : (m : VersionsMeaning) (n : ℕ) → n ≡ length m.rows → NodesSeen m n → (rows : List NodeRow) × AreRowsByNumber m.rows rows × All (IsWithin m.past_greatest (length m.roots) (length m.rows) m.is_changed) rows
 all-nodes m n all s = (
@@ -102,20 +95,8 @@ pub record IsRootAt (m : VersionsMeaning) (version number : ℕ) : Type 0 where
   pub within : number ≤ length m.rows
 
 -- the numbers of so many roots
-pub record RootsSeen (m : VersionsMeaning) (n : ℕ) : Type 0 where
-  pub seen : List ℕ
-  pub as_many : length seen ≡ n
-  pub each : (i : ℕ) → i < n → IsRootAt m i (get_or seen i 0)
-
-pub no-roots : (m : VersionsMeaning) → RootsSeen m 0
-no-roots m = record { seen = []; as_many = refl; each = λ i lt. absurd (omega (arith, lt)) }
-
-pub root-seen : (m : VersionsMeaning) (n number : ℕ) → RootsSeen m n → IsRootAt m n number → RootsSeen m (n + 1)
-root-seen m n number s this = record {
-  seen = s.seen ++ number ∷ [];
-  as_many = length-one-more s.seen number ∙ ap (λ k. k + 1) s.as_many;
-  each = more (IsRootAt m) s.seen number 0 n s.as_many s.each this;
-}
+abbrev pub RootsSeen : VersionsMeaning → ℕ → Type 0
+RootsSeen m n = Seen (IsRootAt m) 0 n
 
 pub all-roots : (m : VersionsMeaning) (n : ℕ) → n ≡ length m.roots → RootsSeen m n → (roots : List ℕ) × AreRootsByNumber m.rows m.roots roots × (length roots ≡ length m.roots) × All (λ k. k ≤ length m.rows) roots
 all-roots m n all s = (

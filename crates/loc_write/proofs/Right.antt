@@ -1,8 +1,8 @@
 -- When the fields of rows are right: each number is below its bound, and each row comes behind the one before it.
 use Rattle.std.proofs.Common.{◌≡◌, ℕ, zero, suc, ◌+◌, ◌-◌, ◌^◌, ◌<◌, ◌≤◌, Bool, true, false, ◌&&◌, List, [], ◌∷◌, ◌++◌, length, map, get_or, refl, sym, subst, arith, ℤ, pos, negsuc}
-use Rattle.std.specs.Prelude.{Option, Some, None, is_none, nat_lt, ◌==◌, min, sum_by, fold, max, if◌then◌else◌, unsigned_abs}
+use Rattle.std.specs.Prelude.{Option, Some, None, nat_lt, ◌==◌, min, sum_by, fold, max, if◌then◌else◌, unsigned_abs}
 use Rattle.std.specs.List.{flat_map, last_or, list_all}
-use Rattle.std.specs.Int.{Width, w8, w32}
+use Rattle.std.specs.Int.{w32}
 use Rattle.std.proofs.lemmas.Bool.{and_parts, and_from, or_left, or_right, lt-ltb, ltb-true, eqb-true, eq-eqb}
 use Rattle.std.proofs.lemmas.Int.{ints}
 use Rattle.std.proofs.lemmas.List.Sums.{sum_by-append}
@@ -11,38 +11,16 @@ use Rattle.loc_spec_plane.specs.Points.{Point, before, OnGrid, IsGridPoint}
 use Rattle.loc_spec_plane.specs.Covers.{list_before}
 use Rattle.loc_spec_plane.specs.declared.Mark.{Mark}
 use Rattle.loc_spec_plane.specs.Tables.{pair_before, mark_before}
-use Rattle.loc_spec_index.specs.declared.IndexFault.{IndexFault}
 use Rattle.loc_spec_index.specs.declared.NodeRow.{NodeRow}
-use Rattle.loc_spec_index.specs.declared.Part.{Part}
-use Rattle.loc_spec_index.specs.declared.Part.TheVariants.{Corners, Edges, Marks, Covers}
+use Rattle.loc_spec_index.specs.declared.Part.TheVariants.{Covers}
 use Rattle.loc_spec_index.specs.Content.{EdgeRow}
-use Rattle.loc_spec_index.specs.IndexFile.{Field, number, coordinate, text, order, bit, follows, unless, is_right, are_right, rows_from, is_rising_pair, id_fields, corner_fields, edge_fields, edge_row_before, mark_fields, mark_row_before, cover_fields, node_fields}
+use Rattle.loc_spec_index.specs.IndexFile.{Field, number, order, bit, follows, is_right, are_right, rows_from, is_rising_pair, id_fields, corner_fields, edge_fields, edge_row_before, mark_fields, mark_row_before, cover_fields, node_fields}
 use Rattle.loc_laws_index.proofs.Progress.{are_right-append}
+use Rattle.loc_laws_index.proofs.RightFields.{Holds, holds-right, all-right}
+use Rattle.loc_laws_index.proofs.RightRows.{Chain, IsMarkIn, last-is}
 use Rattle.loc_persist.specs.Numbered.{IsWithin}
 use Rattle.loc_write.specs.Written.{edge_rows, marks_from}
-
--- ---- fields
-
-holds-right : (b : Bool) (f : IndexFault) → b ≡ true → is_none (unless b f) ≡ true
-holds-right true f e = refl
-holds-right false f e = cc
-
-pub cons-right : (f : Field) (fs : List Field) → is_right f ≡ true → are_right fs ≡ true → are_right (f ∷ fs) ≡ true
-cons-right f fs p q = and_from (is_right f) (are_right fs) p q
-
-pub number-right : (w : Width) (bound value : ℕ) → value < bound → is_right (number w bound value) ≡ true
-number-right w bound value lt = holds-right (nat_lt value bound) _ (lt-ltb value bound lt)
-
--- the order of a row, behind its last field
-order-right : (part : Part) (row : ℕ) (holds : Bool) → holds ≡ true → are_right (order part row holds ∷ []) ≡ true
-order-right part row holds h = cons-right (order part row holds) [] (holds-right holds _ h) refl
-
-coordinate-right : (x : ℤ) → OnGrid x → is_right (coordinate x) ≡ true
-coordinate-right x on = holds-right (nat_lt (unsigned_abs x) (10 ^ 18 + 1)) _ (lt-ltb (unsigned_abs x) (10 ^ 18 + 1) (small x on))
-  where
-    small : (x : ℤ) → OnGrid x → unsigned_abs x < 10 ^ 18 + 1
-    small (pos n) on = let hi = on.1 in omega (arith, ints, hi)
-    small (negsuc n) on = let lo = on.0 in omega (arith, ints, lo)
+use Rattle.loc_rings.specs.Values.{most_id_bytes}
 
 -- ---- what holds of each of some rows
 
@@ -66,23 +44,6 @@ each-parts : {X : Type 0} (P : X → Type 0) (xs ys : List X) → Each P (xs ++ 
 each-parts P [] ys e = (tt, e)
 each-parts P (x ∷ xs) ys e = let r = each-parts P xs ys e.1 in ((e.0, r.0), r.1)
 
--- each comes behind the one before it
-abbrev pub Chain : {X : Type 0} → (X → X → Bool) → Option X → List X → Type 0
-Chain lt last [] = Unit {0}
-Chain lt last (x ∷ xs) = (follows lt last x ≡ true) × Chain lt (Some x) xs
-
-chain-behind : {X : Type 0} (lt : X → X → Bool) (x : X) (xs : List X) → is_rising lt (x ∷ xs) ≡ true → Chain lt (Some x) xs
-chain-behind lt x [] h = tt
-chain-behind lt x (y ∷ ys) h = let p = and_parts (list_all (lt x) (y ∷ ys)) (is_rising lt (y ∷ ys)) h in ((and_parts (lt x y) (list_all (lt x) ys) p.0).0, chain-behind lt y ys p.1)
-
-pub chain-rising : {X : Type 0} (lt : X → X → Bool) (xs : List X) → is_rising lt xs ≡ true → Chain lt None xs
-chain-rising lt [] h = tt
-chain-rising lt (x ∷ xs) h = (refl, chain-behind lt x xs h)
-
-last-is : {X : Type 0} (o : Option X) (earlier : List X) (x : X) → last_or o (earlier ++ x ∷ []) ≡ Some x
-last-is o [] x = refl
-last-is o (y ∷ earlier) x = last-is (Some y) earlier x
-
 pub rows-right : {X : Type 0} (row : List X → X → List Field) (lt : X → X → Bool) (P : X → Type 0) → ((earlier : List X) (x : X) → P x → follows lt (last_or None earlier) x ≡ true → are_right (row earlier x) ≡ true)
     → (earlier xs : List X) → Each P xs → Chain lt (last_or None earlier) xs → are_right (rows_from row earlier xs) ≡ true
 rows-right row lt P one earlier [] e c = refl
@@ -93,19 +54,21 @@ pub flat-right : {X : Type 0} (row : X → List Field) (P : X → Type 0) → ((
 flat-right row P one [] e = refl
 flat-right row P one (x ∷ xs) e = are_right-append (row x) (flat_map row xs) (one x e.0) (flat-right row P one xs e.1)
 
-pub map-right : {X : Type 0} (field : X → Field) (P : X → Type 0) → ((x : X) → P x → is_right (field x) ≡ true) → (xs : List X) → Each P xs → are_right (map field xs) ≡ true
+pub map-right : {X : Type 0} (field : X → Field) (P : X → Type 0) → ((x : X) → P x → Holds (field x)) → (xs : List X) → Each P xs → are_right (map field xs) ≡ true
 map-right field P one [] e = refl
-map-right field P one (x ∷ xs) e = cons-right (field x) (map field xs) (one x e.0) (map-right field P one xs e.1)
+map-right field P one (x ∷ xs) e = and_from (is_right (field x)) (are_right (map field xs)) (holds-right (field x) (one x e.0)) (map-right field P one xs e.1)
 
 -- ---- ids and corners
 
-pub id-right : (id : List ℕ) → length id ≤ 200 → are_right (id_fields id) ≡ true
-id-right id few = cons-right (number w8 201 (length id)) (text id ∷ []) (number-right w8 201 (length id) (omega (arith, few))) refl
+pub id-right : (id : List ℕ) → length id ≤ most_id_bytes → are_right (id_fields id) ≡ true
+id-right id few = all-right (id_fields id) (omega (arith, few), (tt, tt))
 
 pub corner-right : (earlier : List Point) (p : Point) → IsGridPoint p → follows before (last_or None earlier) p ≡ true → are_right (corner_fields earlier p) ≡ true
-corner-right earlier p on h =
-    let last = order Corners (length earlier) (follows before (last_or None earlier) p) ∷ [] in
-    cons-right (coordinate p.x) (coordinate p.y ∷ last) (coordinate-right p.x on.0) (cons-right (coordinate p.y) last (coordinate-right p.y on.1) (order-right Corners (length earlier) _ h))
+corner-right earlier p on h = all-right (corner_fields earlier p) (small p.x on.0, (small p.y on.1, (h, tt)))
+  where
+    small : (x : ℤ) → OnGrid x → unsigned_abs x < 10 ^ 18 + 1
+    small (pos n) on = let hi = on.1 in omega (arith, ints, hi)
+    small (negsuc n) on = let lo = on.0 in omega (arith, ints, lo)
 
 -- ---- edges
 
@@ -118,14 +81,10 @@ pub record IsEdgeWithin (nv nc : ℕ) (e : EdgeRow) : Type 0 where
 
 pub edge-right : (nv nc : ℕ) (earlier : List EdgeRow) (e : EdgeRow) → IsEdgeWithin nv nc e → follows edge_row_before (last_or None earlier) e ≡ true → are_right (edge_fields 1 nv nc earlier e) ≡ true
 edge-right nv nc earlier e w h =
-    let test = (is_rising_pair e.ends && is_rising_pair e.source) && follows edge_row_before (last_or None earlier) e in
-    let last = order Edges (length earlier) test ∷ [] in
     let up = w.goes_up in
     let most = w.upper in
-    let rises = and_from (is_rising_pair e.ends && is_rising_pair e.source) _ (and_from (is_rising_pair e.ends) (is_rising_pair e.source) (lt-ltb e.ends.0 e.ends.1 w.goes_up) (lt-ltb e.source.0 e.source.1 w.source)) h in
-    cons-right (number w32 nv e.ends.0) (number w32 nv e.ends.1 ∷ number w32 nc e.cover ∷ last) (number-right w32 nv e.ends.0 (omega (arith, up, most)))
-    (cons-right (number w32 nv e.ends.1) (number w32 nc e.cover ∷ last) (number-right w32 nv e.ends.1 most)
-    (cons-right (number w32 nc e.cover) last (number-right w32 nc e.cover w.cover) (order-right Edges (length earlier) test rises)))
+    let rises = and_from (is_rising_pair e.ends) (is_rising_pair e.source) (lt-ltb e.ends.0 e.ends.1 w.goes_up) (lt-ltb e.source.0 e.source.1 w.source) in
+    all-right (edge_fields 1 nv nc earlier e) (omega (arith, up, most), (most, (w.cover, (and_from (is_rising_pair e.ends && is_rising_pair e.source) _ rises h, tt))))
 
 pub chain-edges : (ends : List (ℕ × ℕ)) (above : List ℕ) → is_rising pair_before ends ≡ true → Chain edge_row_before None (edge_rows ends above)
 chain-edges [] above h = tt
@@ -139,30 +98,22 @@ chain-edges (p ∷ ends) (n ∷ above) h = (refl, behind p n ends above h)
 
 -- ---- marks
 
--- its edge and its feature are there
-abbrev pub IsMarkWithin : ℕ → ℕ → ℕ × Mark → Type 0
-IsMarkWithin ne nf m = (m.0 < ne) × (m.1.feature < nf)
-
 bit-small : (b : Bool) → bit b < 2
 bit-small true = omega arith
 bit-small false = omega arith
 
-pub mark-right : (ne nf : ℕ) (earlier : List (ℕ × Mark)) (m : ℕ × Mark) → IsMarkWithin ne nf m → follows mark_row_before (last_or None earlier) m ≡ true → are_right (mark_fields ne nf earlier m) ≡ true
-mark-right ne nf earlier m w h =
-    let last = order Marks (length earlier) (follows mark_row_before (last_or None earlier) m) ∷ [] in
-    cons-right (number w32 ne m.0) (number w32 nf m.1.feature ∷ number w8 2 (bit m.1.odd) ∷ last) (number-right w32 ne m.0 w.0)
-    (cons-right (number w32 nf m.1.feature) (number w8 2 (bit m.1.odd) ∷ last) (number-right w32 nf m.1.feature w.1)
-    (cons-right (number w8 2 (bit m.1.odd)) last (number-right w8 2 (bit m.1.odd) (bit-small m.1.odd)) (order-right Marks (length earlier) _ h)))
+pub mark-right : (ne nf : ℕ) (earlier : List (ℕ × Mark)) (m : ℕ × Mark) → IsMarkIn ne nf m → follows mark_row_before (last_or None earlier) m ≡ true → are_right (mark_fields ne nf earlier m) ≡ true
+mark-right ne nf earlier m w h = all-right (mark_fields ne nf earlier m) (w.0, (w.1, (bit-small m.1.odd, (h, tt))))
 
-keyed-each : (ne nf e : ℕ) → e < ne → (row : List Mark) → Each (λ (m : Mark). m.feature < nf) row → Each (IsMarkWithin ne nf) (map (λ (m : Mark). (e, m)) row)
+keyed-each : (ne nf e : ℕ) → e < ne → (row : List Mark) → Each (λ (m : Mark). m.feature < nf) row → Each (IsMarkIn ne nf) (map (λ (m : Mark). (e, m)) row)
 keyed-each ne nf e lt [] h = tt
 keyed-each ne nf e lt (m ∷ row) h = ((lt, h.0), keyed-each ne nf e lt row h.1)
 
-pub marks-each : (ne nf e : ℕ) (rows : List (List Mark)) → e + length rows ≤ ne → Each (λ (m : Mark). m.feature < nf) (flat_map (λ ms. ms) rows) → Each (IsMarkWithin ne nf) (marks_from e rows)
+pub marks-each : (ne nf e : ℕ) (rows : List (List Mark)) → e + length rows ≤ ne → Each (λ (m : Mark). m.feature < nf) (flat_map (λ ms. ms) rows) → Each (IsMarkIn ne nf) (marks_from e rows)
 marks-each ne nf e [] few h = tt
 marks-each ne nf e (row ∷ rows) few h =
     let p = each-parts (λ (m : Mark). m.feature < nf) row (flat_map (λ ms. ms) rows) h in
-    each-append (IsMarkWithin ne nf) (map (λ (m : Mark). (e, m)) row) (marks_from (e + 1) rows) (keyed-each ne nf e (omega (arith, few)) row p.0) (marks-each ne nf (e + 1) rows (omega (arith, few)) p.1)
+    each-append (IsMarkIn ne nf) (map (λ (m : Mark). (e, m)) row) (marks_from (e + 1) rows) (keyed-each ne nf e (omega (arith, few)) row p.0) (marks-each ne nf (e + 1) rows (omega (arith, few)) p.1)
 
 max-each : (k n : ℕ) (ms : List Mark) → fold (λ n (m : Mark). max n (suc m.feature)) n ms ≤ k → (n ≤ k) × Each (λ (m : Mark). m.feature < k) ms
 max-each k n [] h = (h, tt)
@@ -222,13 +173,11 @@ few nf (x ∷ xs) w = let r = few-from nf x xs w.0 w.1 in omega (arith, r)
 
 cover-right : (nf : ℕ) (earlier : List (List ℕ)) (list : List ℕ) → IsListWithin nf list → sum_by length earlier + length list ≤ 2 ^ 24 → follows list_before (last_or None earlier) list ≡ true → are_right (cover_fields nf earlier list) ≡ true
 cover-right nf earlier list w room h =
-    let bound = min nf (2 ^ 24 - sum_by length earlier) + 1 in
-    let test = is_rising nat_lt list && follows list_before (last_or None earlier) list in
-    let last = order Covers (length earlier) test ∷ [] in
+    let front = number w32 (min nf (2 ^ 24 - sum_by length earlier) + 1) (length list) ∷ [] in
+    let last = order Covers (length earlier) (is_rising nat_lt list && follows list_before (last_or None earlier) list) ∷ [] in
     let short = few nf list w in
-    cons-right (number w32 bound (length list)) (map (number w32 nf) list ++ last) (number-right w32 bound (length list) (omega (arith, short, room)))
-    (are_right-append (map (number w32 nf) list) last (map-right (number w32 nf) (λ f. f < nf) (λ f lt. number-right w32 nf f lt) list w.1)
-    (order-right Covers (length earlier) test (and_from (is_rising nat_lt list) _ w.0 h)))
+    are_right-append front (map (number w32 nf) list ++ last) (all-right front (omega (arith, short, room), tt))
+    (are_right-append (map (number w32 nf) list) last (map-right (number w32 nf) (λ f. f < nf) (λ f lt. lt) list w.1) (all-right last (and_from (is_rising nat_lt list) _ w.0 h, tt)))
 
 pub covers-right : (nf : ℕ) (earlier lists : List (List ℕ)) → sum_by length earlier + sum_by length lists ≤ 2 ^ 24 → Each (IsListWithin nf) lists → Chain list_before (last_or None earlier) lists → are_right (rows_from (cover_fields nf) earlier lists) ≡ true
 covers-right nf earlier [] room e c = refl
@@ -246,22 +195,12 @@ zero-not zero h = absurd (let f : true ≡ false = h in cc)
 zero-not (suc n) h = omega arith
 
 pub node-right : (ne nv nn past : ℕ) (changed : Bool) (row : NodeRow) → past ≤ ne → changed ≡ false → IsWithin past nv nn changed row → are_right (node_fields ne nv nn row) ≡ true
-node-right ne nv nn past changed row few settled w =
-    let f6 = number w32 (if row.side == 0 then 1 else nn + 1) row.extra ∷ [] in
-    let f5 = number w32 (if row.side == 0 then 1 else nv) row.stamp ∷ f6 in
-    let f4 = number w8 3 row.side ∷ f5 in
-    let f3 = number w32 (nn + 1) row.right ∷ f4 in
-    let f2 = number w32 (nn + 1) row.left ∷ f3 in
+node-right ne nv nn past changed row some settled w =
     let item = w.item in
     let left = w.left in
     let right = w.right in
     let side = w.side in
-    cons-right (number w32 ne row.item) f2 (number-right w32 ne row.item (omega (arith, item, few)))
-    (cons-right (number w32 (nn + 1) row.left) f3 (number-right w32 (nn + 1) row.left (omega (arith, left)))
-    (cons-right (number w32 (nn + 1) row.right) f4 (number-right w32 (nn + 1) row.right (omega (arith, right)))
-    (cons-right (number w8 3 row.side) f5 (number-right w8 3 row.side (omega (arith, side)))
-    (cons-right (number w32 (if row.side == 0 then 1 else nv) row.stamp) f6 (number-right w32 _ row.stamp (stamp (row.side == 0) refl))
-    (cons-right (number w32 (if row.side == 0 then 1 else nn + 1) row.extra) [] (number-right w32 _ row.extra (extra (row.side == 0) refl)) refl)))))
+    all-right (node_fields ne nv nn row) (omega (arith, item, some), (omega (arith, left), (omega (arith, right), (omega (arith, side), (stamp (row.side == 0) refl, (extra (row.side == 0) refl, tt))))))
   where
     stamp : (b : Bool) → (row.side == 0) ≡ b → row.stamp < (if b then 1 else nv)
     stamp true is = let none = w.no_stamp (eqb-true row.side 0 is) in omega (arith, none)

@@ -9,12 +9,13 @@ use Rattle.loc_spec_plane.specs.declared.Mark.{Mark}
 use Rattle.loc_spec_plane.specs.Tables.{Table}
 use Rattle.loc_spec_index.specs.declared.NodeRow.{NodeRow}
 use Rattle.loc_spec_index.specs.Content.{Content}
-use Rattle.loc_spec_index.specs.IndexFile.{Field, number, none_or_next, spelled, spelled_all, rows_from, parts, fields, bytes_of, id_fields, corner_fields, edge_fields, mark_fields, cover_fields, node_fields}
-use Rattle.loc_laws_index.proofs.Progress.{spelled_all-append}
+use Rattle.loc_spec_index.specs.IndexFile.{Field, number, none_or_next, spelled_all, rows_from, parts, fields, bytes_of, id_fields, corner_fields, edge_fields, mark_fields, cover_fields, node_fields}
+use Rattle.loc_laws_index.proofs.Progress.{flat-rows, map-rows, spelled_all-append}
 use Rattle.loc_cover.specs.Legends.{LegendRows}
 use Rattle.loc_write.specs.Bytes.{header_bytes, id_bytes, corner_bytes, edge_bytes, mark_bytes, cover_bytes, number_bytes, node_bytes}
 use Rattle.loc_write.specs.Texts.{front_text, back_text}
-use Rattle.loc_write.specs.Written.{edge_rows, marks_from, content_of}
+use Rattle.loc_write.specs.Written.{marks_from, content_of}
+use Rattle.loc_write.proofs.Lists.{length-edges}
 use Rattle.loc_write.proofs.Covers.{members}
 
 both : (a a' b b' : List ℕ) → a ≡ a' → b ≡ b' → a ++ b ≡ a' ++ b'
@@ -22,20 +23,15 @@ both a a' b b' e f = cc
 
 -- ---- rows
 
-flat : {X : Type 0} (row : X → List Field) (text : X → List ℕ) → ((x : X) → spelled_all (row x) ≡ text x) → (xs : List X) → spelled_all (flat_map row xs) ≡ flat_map text xs
-flat row text same [] = refl
-flat row text same (x ∷ xs) = spelled_all-append (row x) (flat_map row xs) ∙ both _ _ _ _ (same x) (flat row text same xs)
-
 rows : {X : Type 0} (row : List X → X → List Field) (text : X → List ℕ) → ((earlier : List X) (x : X) → spelled_all (row earlier x) ≡ text x) → (earlier xs : List X) → spelled_all (rows_from row earlier xs) ≡ flat_map text xs
 rows row text same earlier [] = refl
 rows row text same earlier (x ∷ xs) = spelled_all-append (row earlier x) (rows_from row (earlier ++ x ∷ []) xs) ∙ both _ _ _ _ (same earlier x) (rows row text same (earlier ++ x ∷ []) xs)
 
-each : {X : Type 0} (field : X → Field) (text : X → List ℕ) → ((x : X) → spelled (field x) ≡ text x) → (xs : List X) → spelled_all (map field xs) ≡ flat_map text xs
-each field text same [] = refl
-each field text same (x ∷ xs) = both _ _ _ _ (same x) (each field text same xs)
+flat : {X : Type 0} (row : X → List Field) (text : X → List ℕ) → ((x : X) → spelled_all (row x) ≡ text x) → (xs : List X) → spelled_all (flat_map row xs) ≡ flat_map text xs
+flat row text same xs = ap spelled_all (sym (flat-rows row [] xs)) ∙ rows (λ _. row) text (λ _. same) [] xs
 
-a-number : (bound n : ℕ) → spelled (number w32 bound n) ≡ number_bytes n
-a-number bound n = sym (append-nil (to_be_bytes w32 n))
+each : {X : Type 0} (field : X → Field) (text : X → List ℕ) → ((x : X) → spelled_all (field x ∷ []) ≡ text x) → (xs : List X) → spelled_all (map field xs) ≡ flat_map text xs
+each field text same xs = ap spelled_all (sym (map-rows field [] xs)) ∙ rows (λ _ x. field x ∷ []) text (λ _. same) [] xs
 
 a-cover : (nf : ℕ) (earlier : List (List ℕ)) (list : List ℕ) → spelled_all (cover_fields nf earlier list) ≡ cover_bytes list
 a-cover nf earlier list = ap (λ l. to_be_bytes w32 (length list) ++ l) (members nf list (length earlier) _ ∙ sym (members 0 list 0 _))
@@ -69,8 +65,8 @@ by-parts c =
     (rows (edge_fields 1 (length c.corners) (length c.covers)) edge_bytes (λ earlier x. refl) [] c.edges)
     (rows (mark_fields (length c.edges) (length c.ids)) mark_bytes (λ earlier x. refl) [] c.marks)
     (rows (cover_fields (length c.ids)) cover_bytes (a-cover (length c.ids)) [] c.covers)
-    (each (λ floor. number w32 (length c.edges + 1) (none_or_next floor)) (λ floor. number_bytes (none_or_next floor)) (λ floor. a-number (length c.edges + 1) (none_or_next floor)) c.floors)
-    (each (number w32 (length c.nodes + 1)) number_bytes (a-number (length c.nodes + 1)) c.roots)
+    (each (λ floor. number w32 (length c.edges + 1) (none_or_next floor)) (λ floor. number_bytes (none_or_next floor)) (λ floor. refl) c.floors)
+    (each (number w32 (length c.nodes + 1)) number_bytes (λ n. refl) c.roots)
     (flat (node_fields (length c.edges) (length c.corners) (length c.nodes)) node_bytes (λ x. refl) c.nodes)
     ∙ in-two head (flat_map id_bytes c.ids) (flat_map corner_bytes c.corners) (flat_map edge_bytes c.edges) (flat_map mark_bytes c.marks) (flat_map cover_bytes c.covers) (flat_map (λ floor. number_bytes (none_or_next floor)) c.floors) (flat_map number_bytes c.roots) (flat_map node_bytes c.nodes))
 
@@ -91,17 +87,9 @@ length-marks e (row ∷ marks) =
 counts : (scale nf nf' nv nv' ne ne' nm nm' nc nc' nn nn' : ℕ) (rest : List ℕ) → nf ≡ nf' → nv ≡ nv' → ne ≡ ne' → nm ≡ nm' → nc ≡ nc' → nn ≡ nn' → header_bytes scale nf nv ne nm nc nn ++ rest ≡ header_bytes scale nf' nv' ne' nm' nc' nn' ++ rest
 counts scale nf nf' nv nv' ne ne' nm nm' nc nc' nn nn' rest p q r s t u = cc
 
--- how many rows each part has
-pub record AreCounts (t : Table) (l : LegendRows) (rows : List NodeRow) (nf nv ne nm nc nn : ℕ) : Type 0 where
-  pub features : length l.ids ≡ nf
-  pub corners : length t.corners ≡ nv
-  pub edges : length (edge_rows t.ends l.above) ≡ ne
-  pub marks : sum_by length t.marks ≡ nm
-  pub covers : length l.lists ≡ nc
-  pub nodes : length rows ≡ nn
-
-pub file-text : (scale : ℕ) (t : Table) (l : LegendRows) (roots : List ℕ) (nodes : List NodeRow) (nf nv ne nm nc nn : ℕ) (c : Content) → c ≡ content_of scale t l roots nodes → AreCounts t l nodes nf nv ne nm nc nn
+pub file-text : (scale : ℕ) (t : Table) (l : LegendRows) (roots : List ℕ) (nodes : List NodeRow) {nf nv ne nm nc nn : ℕ} (c : Content) → c ≡ content_of scale t l roots nodes → length l.above ≡ length t.ends
+    → nf ≡ length l.ids → nv ≡ length t.corners → ne ≡ length t.ends → nm ≡ sum_by length t.marks → nc ≡ length l.lists → nn ≡ length nodes
     → header_bytes scale nf nv ne nm nc nn ++ (front_text t l ++ back_text l roots nodes) ≡ bytes_of 1 c
-file-text scale t l roots nodes nf nv ne nm nc nn c is k =
+file-text scale t l roots nodes c is many features corners edges marks covers rows =
     sym (ap (bytes_of 1) is ∙ (by-parts (content_of scale t l roots nodes)
-    ∙ counts scale _ nf _ nv _ ne _ nm _ nc _ nn _ k.features k.corners k.edges (length-marks 0 t.marks ∙ k.marks) k.covers k.nodes))
+    ∙ counts scale _ _ _ _ _ _ _ _ _ _ _ _ _ (sym features) (sym corners) (length-edges t.ends l.above many ∙ sym edges) (length-marks 0 t.marks ∙ sym marks) (sym covers) (sym rows)))

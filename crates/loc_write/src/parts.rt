@@ -10,6 +10,7 @@ ghost use Rattle.loc_persist.specs.ByNumber.{AreRowsByNumber, AreRootsByNumber};
 ghost use Rattle.loc_making.specs.Making.{PutsBytes};
 ghost use Rattle.loc_write.specs.Bytes.{id_bytes, corner_bytes, edge_bytes, mark_bytes, cover_bytes, number_bytes, node_bytes};
 ghost use Rattle.loc_write.specs.Written.{edge_rows, marks_from};
+ghost use Rattle.loc_rings.specs.Values.{most_id_bytes};
 
 use crate::rows::{corner_row, edge_row, floor_number, id_row, mark_row, node_row, number_row};
 use loc_cover::Legend;
@@ -25,7 +26,7 @@ pub(crate) fn put_ids<F: Shelf>(
     legend: &Legend,
 ) -> Result<(), WriteFault>
     requires making { (F.meaning shelf.old).is_making ≡ true }
-    requires short { All (λ (id : List ℕ). length id ≤ 200) legend.now.ids }
+    requires short { All (λ (id : List ℕ). length id ≤ most_id_bytes) legend.now.ids }
     ensures put { PutsBytes (flat_map id_bytes legend.now.ids) (F.meaning shelf.old) (F.meaning shelf.new) page.old page.new result }
     ensures making { OnOk result ((F.meaning shelf.new).is_making ≡ true) }
 {

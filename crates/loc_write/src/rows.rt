@@ -4,6 +4,7 @@ ghost use Rattle.std.specs.Prelude.{◌≡◌, ◌≤◌, ◌+◌, ◌++◌, ◌
 ghost use Rattle.std.specs.Int.{w8, w32, w64, to_be_bytes, cast_unsigned};
 ghost use Rattle.loc_spec_index.specs.IndexFile.{none_or_next};
 ghost use Rattle.loc_write.specs.Bytes.{header_bytes, id_bytes, corner_bytes, edge_bytes, mark_bytes, number_bytes, node_bytes};
+ghost use Rattle.loc_rings.specs.Values.{most_id_bytes};
 
 use arrayvec::ArrayVec;
 use loc_edges::Mark;
@@ -74,7 +75,7 @@ pub(crate) fn floor_number(floor: Option<u32>) -> u32
 
 // An id behind its length.
 pub(crate) fn id_row(id: &[u8]) -> RowBytes
-    requires { length id.now ≤ 200 }
+    requires { length id.now ≤ most_id_bytes }
     ensures { result.items ≡ id_bytes id.now }
 {
     let mut row = RowBytes::new();

@@ -10,6 +10,7 @@ ghost use Rattle.loc_making.specs.Making.{PutsBytes};
 ghost use Rattle.loc_making.specs.Writing.{WritesFile};
 ghost use Rattle.loc_write.specs.Texts.{front_text, back_text};
 ghost use Rattle.loc_write.specs.Written.{IsContentOf};
+ghost use Rattle.loc_rings.specs.Values.{most_id_bytes};
 
 use crate::facts::{corners_on_grid, nodes_numbered, roots_numbered};
 use crate::parts::{
@@ -31,7 +32,7 @@ fn put_front<F: Shelf>(
     legend: &Legend,
 ) -> Result<(), WriteFault>
     requires making { (F.meaning shelf.old).is_making ≡ true }
-    requires short { All (λ (id : List ℕ). length id ≤ 200) legend.now.ids }
+    requires short { All (λ (id : List ℕ). length id ≤ most_id_bytes) legend.now.ids }
     requires as_many { length legend.now.above ≡ length table.now.ends }
     requires marked { length table.now.marks ≡ length table.now.ends }
     ensures put { PutsBytes (front_text table.now legend.now) (F.meaning shelf.old) (F.meaning shelf.new) page.old page.new result }
@@ -77,7 +78,7 @@ fn put_parts<F: Shelf>(
     requires in_order { IsTable table.now }
     requires sound { IsSound legend.now }
     requires fits { FitsTable table.now legend.now }
-    requires short { All (λ (id : List ℕ). length id ≤ 200) legend.now.ids }
+    requires short { All (λ (id : List ℕ). length id ≤ most_id_bytes) legend.now.ids }
     requires few_marks { sum_by length table.now.marks ≤ 2 ^ 20 }
     ensures put { (c : Content) → IsContentOf scale table.now legend.now versions.now c
         → PutsBytes (bytes_of 1 c) (F.meaning shelf.old) (F.meaning shelf.new) page.old page.new result }
@@ -109,7 +110,7 @@ fn make_file<F: Shelf>(
     requires in_order { IsTable table.now }
     requires sound { IsSound legend.now }
     requires fits { FitsTable table.now legend.now }
-    requires short { All (λ (id : List ℕ). length id ≤ 200) legend.now.ids }
+    requires short { All (λ (id : List ℕ). length id ≤ most_id_bytes) legend.now.ids }
     requires few_marks { sum_by length table.now.marks ≤ 2 ^ 20 }
     ensures { (c : Content) → IsContentOf scale table.now legend.now versions.now c
         → WritesFile name.now (bytes_of 1 c) (F.meaning shelf.old) (F.meaning shelf.new) result }
@@ -134,7 +135,7 @@ pub fn write_index<F: Shelf>(
 ) -> Result<(), WriteFault>
     requires scale { scale ≤ 15 }
     requires fits { FitsTable table.now legend.now }
-    requires short_ids { All (λ (id : List ℕ). length id ≤ 200) legend.now.ids }
+    requires short_ids { All (λ (id : List ℕ). length id ≤ most_id_bytes) legend.now.ids }
     requires features { feature_count table.now ≤ length legend.now.ids }
     requires few_edges { length table.now.ends ≤ 2 ^ 20 }
     requires few_marks { sum_by length table.now.marks ≤ 2 ^ 20 }

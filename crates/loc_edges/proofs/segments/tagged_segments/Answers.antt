@@ -5,7 +5,7 @@ use Rattle.std.proofs.lemmas.List.Elements.{All-push}
 use Rattle.loc_spec_plane.specs.Rings.{segments}
 use Rattle.loc_spec_text.specs.Reading.{all_rings}
 use Rattle.loc_rings.specs.Values.{IsRing, rings_of}
-use Rattle.loc_edges.specs.Layers.{layer_of}
+use Rattle.loc_edges.specs.Layers.{layer_rings}
 use Rattle.loc_edges.specs.Tagged.{tagged_by, tagged_from}
 use Rattle.loc_edges.proofs.Tagged.{tagged_more}
 use Rattle.loc_edges.proofs.segments.tagged_segments.Goals as goal
@@ -15,9 +15,9 @@ loop-n-preserved c =
     let features = c.args.features.now in
     let feature = c.index-features-n.result in
     let n = c.loop-n.n in
-    let before = layer_of (take n features) in
-    let more : layer_of (take (c.loop-n.n + 1) c.args.features.now) ≡ layer_of (take c.loop-n.n c.args.features.now) ++ rings_of c.index-features-n.result ∷ [] = map_more rings_of features n feature c.loop-n-test.true ∙ ap (λ f. before ++ rings_of f ∷ []) (sym c.index-features-n.is) in
-    let count : 0 + length (layer_of (take c.loop-n.n c.args.features.now)) ≡ c.loop-n.n = omega (arith, length-map (take n features) rings_of, length-take-le n features (omega (arith, c.loop-n-test.true))) in (
+    let before = layer_rings (take n features) in
+    let more : layer_rings (take (c.loop-n.n + 1) c.args.features.now) ≡ layer_rings (take c.loop-n.n c.args.features.now) ++ rings_of c.index-features-n.result ∷ [] = map_more rings_of features n feature c.loop-n-test.true ∙ ap (λ f. before ++ rings_of f ∷ []) (sym c.index-features-n.is) in
+    let count : 0 + length (layer_rings (take c.loop-n.n c.args.features.now)) ≡ c.loop-n.n = omega (arith, length-map (take n features) rings_of, length-take-le n features (omega (arith, c.loop-n-test.true))) in (
       subst (All (All IsRing)) (sym more) (All-push (All IsRing) before (rings_of feature) c.loop-n.invariant.0 (subst (λ ps. All IsRing (all_rings ps)) c.rings.ensures c.in_ok-add_rings.ensures.closed)),
       c.in_ok-add_rings.ensures.added
           ∙ (ap (λ ts. ts ++ tagged_by n (segments (all_rings c.rings.result.now))) c.loop-n.invariant.1

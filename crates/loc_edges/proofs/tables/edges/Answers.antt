@@ -4,14 +4,14 @@ use Rattle.std.proofs.lemmas.Result.{IfOk-weaker}
 use Rattle.loc_spec_plane.specs.Points.{edge_before}
 use Rattle.loc_spec_plane.specs.Lists.{is_rising, sorted_set}
 use Rattle.loc_spec_plane.specs.Tables.{pieces_of, whole}
-use Rattle.loc_edges.specs.Layers.{layer_of}
+use Rattle.loc_edges.specs.Layers.{layer_rings}
 use Rattle.loc_edges.specs.Tagged.{segments_in}
 use Rattle.loc_edges.proofs.Layers.{pieces_rise}
 use Rattle.loc_edges.proofs.tables.edges.Goals as goal
 
 pub returns : goal.returns
 returns c =
-    let layer = layer_of c.args.features.now in
+    let layer = layer_rings c.args.features.now in
     let value = ap (λ ts. sorted_set edge_before (segments_in ts)) c.deref.ensures.value ∙ c.in_ok-tagged.ensures.edges in
     record {
       value = IfOk-weaker c.distinct_edges.result _ (λ edges. edges.items ≡ pieces_of whole layer) (λ edges are. are ∙ value) c.distinct_edges.ensures;

@@ -9,9 +9,7 @@ use Rattle.loc_faces.proofs.cycles.least_corners.Goals as goal
 pub loop-h-preserved : goal.loop-h-preserved
 loop-h-preserved c =
     let leader : c.leader-leader.result ≡ leader_in c.args.half.now c.loop-h.h = c.leader-leader.ensures in
-    let size = c.loop-h.invariant.as_many in
-    let within = leads_within c.args.table.now c.law.ensures.in_order c.args.half.now c.requires.half c.loop-h.h (omega arith) in
-    let i : c.index.result.now ≡ get_or c.loop-h.least.items c.leader-leader.result 0 = get_or_read c.loop-h.least.items _ _ (omega (arith, leader, within, size)) c.index.ensures 0 in
+    let i : c.index.result.now ≡ get_or c.loop-h.least.items c.leader-leader.result 0 = get_or_read c.loop-h.least.items _ _ (omega (arith, leader, leads_within c.args.table.now c.law.ensures.in_order c.args.half.now c.requires.half c.loop-h.h (omega arith), c.loop-h.invariant.as_many)) c.index.ensures 0 in
     let v : c.min.result ≡ min (get_or c.loop-h.least.items (leader_in c.args.half.now c.loop-h.h) 0) (target c.args.table.now c.loop-h.h) =
     c.min.ensures ∙ (ap (λ n. min n c.target.result) (i ∙ ap (λ l. get_or c.loop-h.least.items l 0) leader) ∙ ap (min (get_or c.loop-h.least.items (leader_in c.args.half.now c.loop-h.h) 0)) c.target.ensures) in
     subst (λ l. IsLeastSoFar c.args.table.now c.args.half.now (set c.loop-h.least.items l c.min.result) (c.loop-h.h + 1)) (sym leader)

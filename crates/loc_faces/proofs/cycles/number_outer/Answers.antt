@@ -6,17 +6,13 @@ use Rattle.loc_faces.proofs.cycles.number_outer.Goals.{then-leads_outer+in_ok-pu
 
 pub overflow_cast-len : goal.overflow_cast-len
 overflow_cast-len c =
-    let few = listed_few c.args.table.now c.args.half.now c.requires.half c.loop-h.outers.items c.loop-h.of_cycle.items c.loop-h.h c.loop-h.invariant in
-    let small = c.law.ensures.small.few_edges in
     let long = ap length c.in_ok-push.ensures.items ∙ length-append c.loop-h.outers.items (c.loop-h.h ∷ []) in
-    let held = c.push.new.self.ok.0 in
-    omega (arith, few, small, long, held, c.len.ensures)
+    omega (arith, listed_few c.args.table.now c.args.half.now c.requires.half c.loop-h.outers.items c.loop-h.of_cycle.items c.loop-h.h c.loop-h.invariant, c.law.ensures.small.few_edges, long, c.push.new.self.ok.0, c.len.ensures)
 
 pub loop-h-preserved : goal.loop-h-preserved
 loop-h-preserved c = elim c.if-leads_outer.branch [
   | then-leads_outer+in_ok-push w ↦ (let more : w.push.new.self.items ≡ c.loop-h.outers.items ++ c.loop-h.h ∷ [] = w.in_ok-push.ensures.items in
-      let held = w.push.new.self.ok.0 in
-      let long : w.len.result ≡ length w.push.new.self.items = omega (arith, held, w.len.ensures) in
+      let long : w.len.result ≡ length w.push.new.self.items = omega (arith, w.push.new.self.ok.0, w.len.ensures) in
       let listed : c.if-leads_outer.outers.items ≡ w.push.new.self.items = ap (λ v. v.items) w.outers-is in
       let numbered : c.if-leads_outer.of_cycle.items ≡ set c.loop-h.of_cycle.items c.loop-h.h (length w.push.new.self.items) = ap (λ v. v.items) w.of_cycle-is ∙ ap (set c.loop-h.of_cycle.items c.loop-h.h) long in
       subst (λ (outers : List ℕ). AreNumbered c.args.table.now c.args.half.now outers c.if-leads_outer.of_cycle.items (c.loop-h.h + 1)) (sym listed)

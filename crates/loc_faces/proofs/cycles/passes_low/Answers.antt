@@ -5,6 +5,5 @@ use Rattle.loc_faces.proofs.cycles.passes_low.Goals as goal
 
 pub edge-requires-else-from-to : goal.edge-requires-else-from-to
 edge-requires-else-from-to c =
-    let within = next_within c.args.table.now c.law.ensures.in_order c.args.half.now c.requires.half c.args.h c.requires.in_range in
     let is : c.next.result ≡ next_in c.args.half.now c.args.h = c.next.ensures in
-    omega (arith, within, is)
+    omega (arith, next_within c.args.table.now c.law.ensures.in_order c.args.half.now c.requires.half c.args.h c.requires.in_range, is)

@@ -26,10 +26,7 @@ returns-in_err-write_lines g c =
 
 pub inner-requires : goal.inner-requires
 inner-requires g c =
-    let many = ap length c.requires.faces.inner in
-    let size = length-map-range_with_len (inner_leaders c.args.table.now (next_in c.args.half.now) (face_in c.args.faces.now)) 0 c.args.faces.now.count in
-    let below = c.requires.in_range in
-    omega (arith, many, size, below)
+    omega (arith, ap length c.requires.faces.inner, length-map-range_with_len (inner_leaders c.args.table.now (next_in c.args.half.now) (face_in c.args.faces.now)) 0 c.args.faces.now.count, c.requires.in_range)
 
 pub write_lines-requires-2-clause-in_range : goal.write_lines-requires-2-clause-in_range
 write_lines-requires-2-clause-in_range g c = subst (All (λ h. h < half_edge_count c.args.table.now)) (sym (inner_is c.args.table.now (next_in c.args.half.now) c.args.faces.now c.requires.faces c.args.number c.inner.result.now c.requires.in_range c.inner.ensures)) (inner_within c.args.table.now (next_in c.args.half.now) (face_in c.args.faces.now) c.args.number)

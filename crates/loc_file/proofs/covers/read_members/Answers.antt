@@ -5,7 +5,7 @@ use Rattle.loc_file.specs.Rows.{number_row}
 use Rattle.loc_file.proofs.Steps.{handed, unheld, fault-first}
 use Rattle.loc_file.proofs.Loops.{alone-more, alone-stop, alone-all, alone-none}
 use Rattle.std.specs.List.{last_or}
-use Rattle.loc_file.proofs.Steps.{last-is}
+use Rattle.loc_laws_index.proofs.RightRows.{last-is}
 use Rattle.loc_file.proofs.Orders.{rising-more}
 use Rattle.loc_file.proofs.covers.read_members.Goals as goal
 

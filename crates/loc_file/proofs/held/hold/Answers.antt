@@ -4,7 +4,7 @@ use Rattle.loc_spec_plane.specs.Tables.{Table}
 use Rattle.loc_file.specs.declared.edges.EdgeOf.{EdgeOf}
 use Rattle.loc_file.specs.Contents.{content_in}
 use Rattle.loc_file.proofs.Holding.{corners-go-up, ends-go-up, ends-fit, few_ends, marks-on-ends, marks-named, lists-are, lists-named, above-fit, floors-fit, content-is, held-is}
-use Rattle.loc_file.proofs.FileFacts.{facts}
+use Rattle.loc_laws_index.proofs.FileFacts.{facts}
 use Rattle.loc_file.proofs.held.hold.Goals as goal
 
 pub of_parts-requires-clause-corners_rise : goal.of_parts-requires-clause-corners_rise

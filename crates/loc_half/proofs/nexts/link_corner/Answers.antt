@@ -8,8 +8,7 @@ pub loop-edge-init : goal.loop-edge-init
 loop-edge-init c =
     let turns = c.args.turns.now in
     let last = sym c.last.ensures.value ∙ (sym c.copied.ensures ∙ c.in-Some.is) in
-    let inside = slice_get_within c.args.turns.now (length c.args.turns.now - 1) c.in-Some.before last in
-    linking_start c.args.table.now c.law.ensures.in_order c.args.corner turns c.requires.turns c.args.nexts.now c.in-Some.before c.requires.as_many (omega (arith, inside)) (sym (get_or_from_slice_get turns (length turns - 1) c.in-Some.before 0 last))
+    linking_start c.args.table.now c.law.ensures.in_order c.args.corner turns c.requires.turns c.args.nexts.now c.in-Some.before c.requires.as_many (omega (arith, slice_get_within c.args.turns.now (length c.args.turns.now - 1) c.in-Some.before last)) (sym (get_or_from_slice_get turns (length turns - 1) c.in-Some.before 0 last))
 
 pub arriving-arrival-requires : goal.arriving-arrival-requires
 arriving-arrival-requires c = turn_fits c.args.table.now c.law.ensures.in_order c.args.corner c.args.turns.now c.requires.turns c.loop-edge.edge-index c.loop-edge-test.true

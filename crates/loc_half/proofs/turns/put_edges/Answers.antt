@@ -26,7 +26,6 @@ returns c =
     let t = c.args.table.now in
     let first = c.beginning-first.result.0 in
     let past = c.beginning-first.result.1 in
-    let order = c.beginning-first.ensures.in_order in
-    let end : c.loop-edge.edge ≡ c.beginning-first.result.1 = omega (arith, c.loop-edge-test.false, c.loop-edge.auto.edge-end, order) in
+    let end : c.loop-edge.edge ≡ c.beginning-first.result.1 = omega (arith, c.loop-edge-test.false, c.loop-edge.auto.edge-end, c.beginning-first.ensures.in_order) in
     are_edges_at t c.law.ensures.in_order c.args.corner first past c.beginning-first.ensures c.extend_from_slice.new.self.items
     (c.in_ok-extend_from_slice.ensures.items ∙ (ap (λ es. es ++ c.ending.result.now) (c.loop-edge.invariant.listed ∙ ap (λ n. range_with_len first (n - first)) end) ∙ ap (λ es. range_with_len first (past - first) ++ es) c.ending.ensures))

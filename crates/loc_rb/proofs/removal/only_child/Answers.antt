@@ -6,16 +6,14 @@ use Rattle.loc_rb.proofs.SplicingOut.{remaining-none, remaining-some}
 use Rattle.loc_rb.proofs.removal.only_child.Goals as goal
 
 pub child-requires : goal.child-requires
-child-requires g c = let r = c.requires in node-has-row (g.K.Links.nodes c.args.links.now) Left c.args.at r.0 r.1 r.2 r.3 r.4
+child-requires g c = node-has-row (g.K.Links.nodes c.args.links.now) Left _ _ _ _ _ c.requires.4
 
 pub child-requires-in-None : goal.child-requires-in-None
-child-requires-in-None g c = let r = c.requires in node-has-row (g.K.Links.nodes c.args.links.now) Left c.args.at r.0 r.1 r.2 r.3 r.4
+child-requires-in-None g c = node-has-row (g.K.Links.nodes c.args.links.now) Left _ _ _ _ _ c.requires.4
 
 pub returns-in-None : goal.returns-in-None
 returns-in-None g c a x k b p =
-    let n = g.K.Links.nodes c.args.links.now in
-    child-is n Right c.args.at b x k a c.child-in-None.result p c.child-in-None.ensures ∙ remaining-none a b (sym (child-is n Left c.args.at a x k b c.child.result p c.child.ensures) ∙ c.in-None.is)
+    child-is (g.K.Links.nodes c.args.links.now) Right _ _ _ _ _ _ p c.child-in-None.ensures ∙ remaining-none a b (sym (child-is (g.K.Links.nodes c.args.links.now) Left _ _ _ _ _ _ p c.child.ensures) ∙ c.in-None.is)
 
 pub returns-in-Some : goal.returns-in-Some
-returns-in-Some g c a x k b p =
-    remaining-some a b c.in-Some.left (sym (child-is (g.K.Links.nodes c.args.links.now) Left c.args.at a x k b c.child.result p c.child.ensures) ∙ c.in-Some.is)
+returns-in-Some g c a x k b p = remaining-some a b _ (sym (child-is (g.K.Links.nodes c.args.links.now) Left _ _ _ _ _ _ p c.child.ensures) ∙ c.in-Some.is)

@@ -1,4 +1,4 @@
-use Rattle.std.proofs.Common.{◌≡◌, ◌-◌, false, length}
+use Rattle.std.proofs.Common.{◌≡◌, ◌-◌, false}
 use Rattle.loc_spec_plane.specs.Tables.{hi_of}
 use Rattle.loc_laws_traps.specs.Sets.{IsCalmSet, with_edge}
 use Rattle.loc_traps.specs.Meaning.{row_of, among}
@@ -9,7 +9,7 @@ use Rattle.loc_traps.proofs.walk.walk_along.Given as goal
 abbrev pub invariant-along : goal.invariant-along
 invariant-along l =
     (set : IsCalmSet l.ranks (with_edge (among l.traps.added) l.edge)) (fresh : among l.traps.added l.edge ≡ false)
-    → Walking l.ranks l.traps.added l.edge set fresh l.traps.rows l.traps.is_live l.row (length l.overs.items - 1) (length l.unders.items - 1) l.overs.items l.unders.items l.cuts.items
+    → Walking l.ranks l.traps.added l.edge set fresh l.traps.rows l.traps.is_live l.row l.overs.items l.unders.items l.cuts.items
 
 -- the lefts rise up to the upper end of the edge
 abbrev pub decreases-along : goal.decreases-along

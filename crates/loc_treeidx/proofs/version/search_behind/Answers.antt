@@ -11,6 +11,4 @@ returns-clause-few g c =
     let t = c.args.views.now in
     let list = get_or c.args.versions.now.sealed_lists (c.args.passed - 1) [] in
     let count = listed_count t c.args.p list (version_behind t c.args.versions.now c.args.p c.args.passed c.requires.stands c.requires.behind (omega arith)) in
-    let square = square_rises (length list) (alive_count t c.args.p) count in
-    let few = c.search_version.ensures.few in
-    omega (arith, square, few)
+    omega (arith, square_rises (length list) (alive_count t c.args.p) count, c.search_version.ensures.few)

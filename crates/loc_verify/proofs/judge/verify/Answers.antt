@@ -1,57 +1,44 @@
 use Rattle.std.proofs.Common.{arith}
-use Rattle.std.proofs.lemmas.Result.{err_from_is_err_and, IfErr-weaker, on_ok_weaker}
+use Rattle.std.proofs.lemmas.Result.{IfErr-weaker, on_ok_weaker}
+use Rattle.loc_file.proofs.Steps.{handed}
 use Rattle.loc_verify.specs.Judged.{IsFaultOf, IsJudged}
-use Rattle.loc_verify.proofs.Ranked.{handed_on, judged, none_below, sources_right}
+use Rattle.loc_verify.proofs.Ranked.{judged, none_below, sources_right}
 use Rattle.loc_verify.proofs.judge.verify.Goals as goal
 
 pub returns-in_err-judge_corners-clause-first : goal.returns-in_err-judge_corners-clause-first
 returns-in_err-judge_corners-clause-first c =
-    let h = c.args.held.now in
-    let p = err_from_is_err_and c.from_residual.result c.from_residual.ensures.1 in
-    handed_on (IsJudged h) c.from_residual.result p.0 c.in_err-judge_corners.field-0.0 p.1 p.2
-    (judged h _ c.law.ensures 0 (λ other there less. omega (arith, less)) c.in_err-judge_corners.field-0.0 c.in_err-judge_corners.ensures.fault)
+    handed c.from_residual.result _ (IsJudged c.args.held.now) c.from_residual.ensures.1
+    (judged c.args.held.now _ c.law.ensures 0 (λ other there less. omega (arith, less)) c.in_err-judge_corners.field-0.0 c.in_err-judge_corners.ensures.fault)
 
 pub returns-in_err-judge_edges-clause-first : goal.returns-in_err-judge_edges-clause-first
 returns-in_err-judge_edges-clause-first c =
-    let h = c.args.held.now in
-    let p = err_from_is_err_and c.from_residual-in_err-judge_edges.result c.from_residual-in_err-judge_edges.ensures.1 in
-    handed_on (IsJudged h) c.from_residual-in_err-judge_edges.result p.0 c.in_err-judge_edges.field-0.0 p.1 p.2
-    (judged h _ c.law.ensures 1 (none_below h _ c.law.ensures 1 (omega arith) (λ l. c.in_ok-judge_corners.ensures.ok) (λ l. absurd (omega (arith, l))) (λ l. absurd (omega (arith, l))) (λ l. absurd (omega (arith, l))) (λ l. absurd (omega (arith, l))) (λ l. absurd (omega (arith, l))) (λ l. absurd (omega (arith, l)))) c.in_err-judge_edges.field-0.0 c.in_err-judge_edges.ensures.fault)
+    handed c.from_residual-in_err-judge_edges.result _ (IsJudged c.args.held.now) c.from_residual-in_err-judge_edges.ensures.1
+    (judged c.args.held.now _ c.law.ensures 1 (none_below c.args.held.now _ c.law.ensures 1 (omega arith) (λ l. c.in_ok-judge_corners.ensures.ok) (λ l. absurd (omega (arith, l))) (λ l. absurd (omega (arith, l))) (λ l. absurd (omega (arith, l))) (λ l. absurd (omega (arith, l))) (λ l. absurd (omega (arith, l))) (λ l. absurd (omega (arith, l)))) c.in_err-judge_edges.field-0.0 c.in_err-judge_edges.ensures.fault)
 
 pub returns-in_err-judge_marks-clause-first : goal.returns-in_err-judge_marks-clause-first
 returns-in_err-judge_marks-clause-first c =
-    let h = c.args.held.now in
-    let p = err_from_is_err_and c.from_residual-in_err-judge_marks.result c.from_residual-in_err-judge_marks.ensures.1 in
-    handed_on (IsJudged h) c.from_residual-in_err-judge_marks.result p.0 c.in_err-judge_marks.field-0.0 p.1 p.2
-    (judged h _ c.law.ensures 2 (none_below h _ c.law.ensures 2 (omega arith) (λ l. c.in_ok-judge_corners.ensures.ok) (λ l. c.in_ok-judge_edges.ensures.ok) (λ l. absurd (omega (arith, l))) (λ l. absurd (omega (arith, l))) (λ l. absurd (omega (arith, l))) (λ l. absurd (omega (arith, l))) (λ l. absurd (omega (arith, l)))) c.in_err-judge_marks.field-0.0 c.in_err-judge_marks.ensures.fault)
+    handed c.from_residual-in_err-judge_marks.result _ (IsJudged c.args.held.now) c.from_residual-in_err-judge_marks.ensures.1
+    (judged c.args.held.now _ c.law.ensures 2 (none_below c.args.held.now _ c.law.ensures 2 (omega arith) (λ l. c.in_ok-judge_corners.ensures.ok) (λ l. c.in_ok-judge_edges.ensures.ok) (λ l. absurd (omega (arith, l))) (λ l. absurd (omega (arith, l))) (λ l. absurd (omega (arith, l))) (λ l. absurd (omega (arith, l))) (λ l. absurd (omega (arith, l)))) c.in_err-judge_marks.field-0.0 c.in_err-judge_marks.ensures.fault)
 
 pub returns-in_err-floors-clause-first : goal.returns-in_err-floors-clause-first
 returns-in_err-floors-clause-first c =
-    let h = c.args.held.now in
-    let p = err_from_is_err_and c.from_residual-in_err-floors.result c.from_residual-in_err-floors.ensures.1 in
-    handed_on (IsJudged h) c.from_residual-in_err-floors.result p.0 c.in_err-floors.field-0.0 p.1 p.2
-    (judged h _ c.law.ensures 3 (none_below h _ c.law.ensures 3 (omega arith) (λ l. c.in_ok-judge_corners.ensures.ok) (λ l. c.in_ok-judge_edges.ensures.ok) (λ l. c.in_ok-judge_marks.ensures.ok) (λ l. absurd (omega (arith, l))) (λ l. absurd (omega (arith, l))) (λ l. absurd (omega (arith, l))) (λ l. absurd (omega (arith, l)))) c.in_err-floors.field-0.0 c.in_err-floors.ensures.fault)
+    handed c.from_residual-in_err-floors.result _ (IsJudged c.args.held.now) c.from_residual-in_err-floors.ensures.1
+    (judged c.args.held.now _ c.law.ensures 3 (none_below c.args.held.now _ c.law.ensures 3 (omega arith) (λ l. c.in_ok-judge_corners.ensures.ok) (λ l. c.in_ok-judge_edges.ensures.ok) (λ l. c.in_ok-judge_marks.ensures.ok) (λ l. absurd (omega (arith, l))) (λ l. absurd (omega (arith, l))) (λ l. absurd (omega (arith, l))) (λ l. absurd (omega (arith, l)))) c.in_err-floors.field-0.0 c.in_err-floors.ensures.fault)
 
 pub returns-in_err-judge_floors-clause-first : goal.returns-in_err-judge_floors-clause-first
 returns-in_err-judge_floors-clause-first c =
-    let h = c.args.held.now in
-    let p = err_from_is_err_and c.from_residual-in_err-judge_floors.result c.from_residual-in_err-judge_floors.ensures.1 in
-    handed_on (IsJudged h) c.from_residual-in_err-judge_floors.result p.0 c.in_err-judge_floors.field-0.0 p.1 p.2
-    (judged h _ c.law.ensures 4 (none_below h _ c.law.ensures 4 (omega arith) (λ l. c.in_ok-judge_corners.ensures.ok) (λ l. c.in_ok-judge_edges.ensures.ok) (λ l. c.in_ok-judge_marks.ensures.ok) (λ l. c.in_ok-floors.ensures.ok) (λ l. absurd (omega (arith, l))) (λ l. absurd (omega (arith, l))) (λ l. absurd (omega (arith, l)))) c.in_err-judge_floors.field-0.0 c.in_err-judge_floors.ensures.fault)
+    handed c.from_residual-in_err-judge_floors.result _ (IsJudged c.args.held.now) c.from_residual-in_err-judge_floors.ensures.1
+    (judged c.args.held.now _ c.law.ensures 4 (none_below c.args.held.now _ c.law.ensures 4 (omega arith) (λ l. c.in_ok-judge_corners.ensures.ok) (λ l. c.in_ok-judge_edges.ensures.ok) (λ l. c.in_ok-judge_marks.ensures.ok) (λ l. c.in_ok-floors.ensures.ok) (λ l. absurd (omega (arith, l))) (λ l. absurd (omega (arith, l))) (λ l. absurd (omega (arith, l)))) c.in_err-judge_floors.field-0.0 c.in_err-judge_floors.ensures.fault)
 
 pub returns-in_err-judge_covers-clause-first : goal.returns-in_err-judge_covers-clause-first
 returns-in_err-judge_covers-clause-first c =
-    let h = c.args.held.now in
-    let p = err_from_is_err_and c.from_residual-in_err-judge_covers.result c.from_residual-in_err-judge_covers.ensures.1 in
-    handed_on (IsJudged h) c.from_residual-in_err-judge_covers.result p.0 c.in_err-judge_covers.field-0.0 p.1 p.2
-    (judged h _ c.law.ensures 5 (none_below h _ c.law.ensures 5 (omega arith) (λ l. c.in_ok-judge_corners.ensures.ok) (λ l. c.in_ok-judge_edges.ensures.ok) (λ l. c.in_ok-judge_marks.ensures.ok) (λ l. c.in_ok-floors.ensures.ok) (λ l. c.in_ok-judge_floors.ensures.ok) (λ l. absurd (omega (arith, l))) (λ l. absurd (omega (arith, l)))) c.in_err-judge_covers.field-0.0 c.in_err-judge_covers.ensures.fault)
+    handed c.from_residual-in_err-judge_covers.result _ (IsJudged c.args.held.now) c.from_residual-in_err-judge_covers.ensures.1
+    (judged c.args.held.now _ c.law.ensures 5 (none_below c.args.held.now _ c.law.ensures 5 (omega arith) (λ l. c.in_ok-judge_corners.ensures.ok) (λ l. c.in_ok-judge_edges.ensures.ok) (λ l. c.in_ok-judge_marks.ensures.ok) (λ l. c.in_ok-floors.ensures.ok) (λ l. c.in_ok-judge_floors.ensures.ok) (λ l. absurd (omega (arith, l))) (λ l. absurd (omega (arith, l)))) c.in_err-judge_covers.field-0.0 c.in_err-judge_covers.ensures.fault)
 
 pub returns-in_err-judge_lists-clause-first : goal.returns-in_err-judge_lists-clause-first
 returns-in_err-judge_lists-clause-first c =
-    let h = c.args.held.now in
-    let p = err_from_is_err_and c.from_residual-in_err-judge_lists.result c.from_residual-in_err-judge_lists.ensures.1 in
-    handed_on (IsJudged h) c.from_residual-in_err-judge_lists.result p.0 c.in_err-judge_lists.field-0.0 p.1 p.2
-    (judged h _ c.law.ensures 6 (none_below h _ c.law.ensures 6 (omega arith) (λ l. c.in_ok-judge_corners.ensures.ok) (λ l. c.in_ok-judge_edges.ensures.ok) (λ l. c.in_ok-judge_marks.ensures.ok) (λ l. c.in_ok-floors.ensures.ok) (λ l. c.in_ok-judge_floors.ensures.ok) (λ l. c.in_ok-judge_covers.ensures.ok) (λ l. absurd (omega (arith, l)))) c.in_err-judge_lists.field-0.0 c.in_err-judge_lists.ensures.fault)
+    handed c.from_residual-in_err-judge_lists.result _ (IsJudged c.args.held.now) c.from_residual-in_err-judge_lists.ensures.1
+    (judged c.args.held.now _ c.law.ensures 6 (none_below c.args.held.now _ c.law.ensures 6 (omega arith) (λ l. c.in_ok-judge_corners.ensures.ok) (λ l. c.in_ok-judge_edges.ensures.ok) (λ l. c.in_ok-judge_marks.ensures.ok) (λ l. c.in_ok-floors.ensures.ok) (λ l. c.in_ok-judge_floors.ensures.ok) (λ l. c.in_ok-judge_covers.ensures.ok) (λ l. absurd (omega (arith, l)))) c.in_err-judge_lists.field-0.0 c.in_err-judge_lists.ensures.fault)
 
 pub returns-clause-ok : goal.returns-clause-ok
 returns-clause-ok c = on_ok_weaker c.judge_versions.result (λ versions. record {

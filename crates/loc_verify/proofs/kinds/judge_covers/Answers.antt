@@ -7,11 +7,11 @@ use Rattle.loc_spec_index.specs.Content.{EdgeRow}
 use Rattle.loc_cover.specs.Legends.{list_above}
 use Rattle.loc_verify.specs.Least.{IsLeastFailing}
 use Rattle.loc_verify.proofs.KindLaws.{cover_there, covers_right}
-use Rattle.loc_verify.proofs.Ranked.{as_many}
+use Rattle.loc_laws_index.proofs.FlawKinds.{as_many}
 use Rattle.loc_verify.proofs.kinds.judge_covers.Goals as goal
 
 pub least_wrong_cover-requires-clause-as_many : goal.least_wrong_cover-requires-clause-as_many
-least_wrong_cover-requires-clause-as_many c = ap length c.legend.ensures.cover_of ∙ (length-map c.args.held.now.edges (λ (e : EdgeRow). e.cover) ∙ (sym (as_many c.args.held.now _ c.law.ensures) ∙ ap (λ (t : Table). length t.ends) (sym c.table.ensures)))
+least_wrong_cover-requires-clause-as_many c = ap length c.legend.ensures.cover_of ∙ (length-map c.args.held.now.edges (λ (e : EdgeRow). e.cover) ∙ (sym (as_many c.args.held.now) ∙ ap (λ (t : Table). length t.ends) (sym c.table.ensures)))
 
 pub returns-in-None-clause-ok : goal.returns-in-None-clause-ok
 returns-in-None-clause-ok c = covers_right c.args.held.now c.legend.result.now.lists c.legend.result.now.above c.legend.ensures.covers c.legend.ensures.cover_of _ c.law.ensures

@@ -6,11 +6,11 @@ use Rattle.loc_spec_plane.specs.Tables.{Table}
 use Rattle.loc_spec_index.specs.Content.{EdgeRow}
 use Rattle.loc_verify.specs.Least.{IsLeastFailing}
 use Rattle.loc_verify.proofs.KindLaws.{list_there, lists_right}
-use Rattle.loc_verify.proofs.Ranked.{as_many}
+use Rattle.loc_laws_index.proofs.FlawKinds.{as_many}
 use Rattle.loc_verify.proofs.kinds.judge_lists.Goals as goal
 
 pub least_spare-requires : goal.least_spare-requires
-least_spare-requires c = c.edge_count.ensures.value ∙ (ap (λ (t : Table). length t.ends) c.table.ensures ∙ (as_many c.args.held.now _ c.law.ensures ∙ (sym (length-map c.args.held.now.edges (λ (e : EdgeRow). e.cover)) ∙ ap length (sym c.legend.ensures.cover_of))))
+least_spare-requires c = c.edge_count.ensures.value ∙ (ap (λ (t : Table). length t.ends) c.table.ensures ∙ (as_many c.args.held.now ∙ (sym (length-map c.args.held.now.edges (λ (e : EdgeRow). e.cover)) ∙ ap length (sym c.legend.ensures.cover_of))))
 
 pub returns-in-None-clause-ok : goal.returns-in-None-clause-ok
 returns-in-None-clause-ok c = lists_right c.args.held.now c.legend.result.now.lists c.legend.result.now.above c.legend.ensures.covers c.legend.ensures.cover_of

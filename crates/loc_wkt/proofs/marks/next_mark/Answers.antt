@@ -1,5 +1,5 @@
 use Rattle.std.proofs.Common.{rules, arith}
-use Rattle.loc_wkt.proofs.PieceLemmas.{mark_first, no_mark_first}
+use Rattle.loc_wkt.proofs.SymbolLemmas.{mark_first, no_mark_first}
 use Rattle.loc_wkt.proofs.marks.next_mark.Goals as goal
 
 pub returns-in-empty-clause-found : goal.returns-in-empty-clause-found

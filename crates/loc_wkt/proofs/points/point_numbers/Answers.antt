@@ -1,5 +1,5 @@
 use Rattle.std.proofs.Common.{◌≡◌, ◌∙◌, ap, sym, None, Some, rules}
-use Rattle.loc_spec_text.specs.Geometry.{pieces}
+use Rattle.loc_spec_text.specs.Geometry.{symbols}
 use Rattle.loc_spec_text.specs.Reader.{point_at}
 use Rattle.std.specs.Prelude.{if◌then◌else◌}
 use Rattle.loc_wkt.specs.Fronts.{is_end, point_mark_at}
@@ -8,18 +8,18 @@ use Rattle.loc_wkt.proofs.TagLemmas.{is_nothing, marked_texts, pair_then, plain_
 use Rattle.loc_wkt.proofs.points.point_numbers.Goals as goal
 
 pub returns-in_err-x-in-Some-clause-found : goal.returns-in_err-x-in-Some-clause-found
-returns-in_err-x-in-Some-clause-found c = let none : point_at (pieces c.in-Some.inside.now) ≡ None = search rules in
-    at_none _ _ _ c.from_residual.ensures (marked_texts (pieces c.args.text.now) (pieces c.in-Some.inside.now) c.in-Some.ensures.found ∙ ap (pair_then is_end) none)
+returns-in_err-x-in-Some-clause-found c = let none : point_at (symbols c.in-Some.inside.now) ≡ None = search rules in
+    at_none _ _ _ c.from_residual.ensures (marked_texts (symbols c.args.text.now) (symbols c.in-Some.inside.now) c.in-Some.ensures.found ∙ ap (pair_then is_end) none)
 
 pub returns-in_err-x-in-None-clause-found : goal.returns-in_err-x-in-None-clause-found
-returns-in_err-x-in-None-clause-found c = let none : point_at (pieces c.args.text.now) ≡ None = search rules in
-    let mark : point_mark_at (pieces c.args.text.now) ≡ None = search rules in
-    at_none _ _ _ c.from_residual-in_err-x-in-None.ensures (plain_texts (pieces c.args.text.now) mark ∙ ap (pair_then is_nothing) none)
+returns-in_err-x-in-None-clause-found c = let none : point_at (symbols c.args.text.now) ≡ None = search rules in
+    let mark : point_mark_at (symbols c.args.text.now) ≡ None = search rules in
+    at_none _ _ _ c.from_residual-in_err-x-in-None.ensures (plain_texts (symbols c.args.text.now) mark ∙ ap (pair_then is_nothing) none)
 
 pub returns-then-is_close_mark-clause-found : goal.returns-then-is_close_mark-clause-found
-returns-then-is_close_mark-clause-found c = marked_texts (pieces c.args.text.now) (pieces c.in-Some.inside.now) c.in-Some.ensures.found ∙ ap (pair_then is_end) c.in_ok-x-in-Some.ensures.found
+returns-then-is_close_mark-clause-found c = marked_texts (symbols c.args.text.now) (symbols c.in-Some.inside.now) c.in-Some.ensures.found ∙ ap (pair_then is_end) c.in_ok-x-in-Some.ensures.found
     ∙ ap (λ b. if b then Some (c.in_ok-x-in-Some.x.text.now, c.in_ok-x-in-Some.y.text.now) else None) (sym c.is_close_mark.ensures ∙ c.if-is_close_mark.true)
 
 pub returns-else-is_close_mark-clause-found : goal.returns-else-is_close_mark-clause-found
-returns-else-is_close_mark-clause-found c = marked_texts (pieces c.args.text.now) (pieces c.in-Some.inside.now) c.in-Some.ensures.found ∙ ap (pair_then is_end) c.in_ok-x-in-Some.ensures.found
+returns-else-is_close_mark-clause-found c = marked_texts (symbols c.args.text.now) (symbols c.in-Some.inside.now) c.in-Some.ensures.found ∙ ap (pair_then is_end) c.in_ok-x-in-Some.ensures.found
     ∙ ap (λ b. if b then Some (c.in_ok-x-in-Some.x.text.now, c.in_ok-x-in-Some.y.text.now) else None) (sym c.is_close_mark.ensures ∙ c.if-is_close_mark.false)

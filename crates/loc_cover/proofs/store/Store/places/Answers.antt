@@ -5,5 +5,4 @@ use Rattle.loc_cover.proofs.store.Store.places.Goals as goal
 pub overflow_cast-place : goal.overflow_cast-place
 overflow_cast-place c =
     let same = c.deref-number-items.ensures.value ∙ c.in_ok-order.ensures in
-    let few = few_rows c.args.self.now c.requires.stands in
-    omega (arith, few, c.requires.stands.as_many, ap length same, c.loop-place-test.true)
+    omega (arith, few_rows c.args.self.now c.requires.stands, c.requires.stands.as_many, ap length same, c.loop-place-test.true)

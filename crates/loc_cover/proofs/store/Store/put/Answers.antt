@@ -11,9 +11,7 @@ use Rattle.loc_cover.proofs.store.Store.put.Goals as goal
 pub overflow_cast-number : goal.overflow_cast-number
 overflow_cast-number c =
     let same : map (λ row. row.now) c.self.inside.rows.items ≡ c.args.self.now.rows = ap (λ (s : StoreRows). s.rows) c.self.view_is in
-    let size = length-map c.self.inside.rows.items (λ row. row.now) in
-    let few = few_rows c.args.self.now c.requires.stands in
-    omega (arith, few, size, ap length same, c.len-number.ensures)
+    omega (arith, few_rows c.args.self.now c.requires.stands, length-map c.self.inside.rows.items (λ row. row.now), ap length same, c.len-number.ensures)
 
 pub returns-clause-stands : goal.returns-clause-stands
 returns-clause-stands c =

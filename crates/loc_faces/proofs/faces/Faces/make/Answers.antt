@@ -13,17 +13,11 @@ use Rattle.loc_faces.proofs.faces.Faces.make.Goals as goal
 
 pub overflow_cast-count : goal.overflow_cast-count
 overflow_cast-count c =
-    let few = listed_few c.args.table.now c.args.half.now c.requires.half c.in_ok-outers.outers.items c.in_ok-outers.of_cycle.items _ c.in_ok-outers.ensures in
-    let small = c.law.ensures.small.few_edges in
-    let held = c.in_ok-outers.outers.ok.0 in
-    omega (arith, few, small, held, c.len.ensures)
+    omega (arith, listed_few c.args.table.now c.args.half.now c.requires.half c.in_ok-outers.outers.items c.in_ok-outers.of_cycle.items _ c.in_ok-outers.ensures, c.law.ensures.small.few_edges, c.in_ok-outers.outers.ok.0, c.len.ensures)
 
 pub overflow_add-count : goal.overflow_add-count
 overflow_add-count c =
-    let few = listed_few c.args.table.now c.args.half.now c.requires.half c.in_ok-outers.outers.items c.in_ok-outers.of_cycle.items _ c.in_ok-outers.ensures in
-    let small = c.law.ensures.small.few_edges in
-    let held = c.in_ok-outers.outers.ok.0 in
-    omega (arith, few, small, held, c.len.ensures)
+    omega (arith, listed_few c.args.table.now c.args.half.now c.requires.half c.in_ok-outers.outers.items c.in_ok-outers.of_cycle.items _ c.in_ok-outers.ensures, c.law.ensures.small.few_edges, c.in_ok-outers.outers.ok.0, c.len.ensures)
 
 pub hanging_rows-requires-clause-within : goal.hanging_rows-requires-clause-within
 hanging_rows-requires-clause-within c =

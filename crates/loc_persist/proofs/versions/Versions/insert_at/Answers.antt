@@ -5,19 +5,14 @@ use Rattle.loc_persist.proofs.Meanings.{reserved, gap-in, kept-insert, inserts-o
 use Rattle.loc_persist.proofs.versions.Versions.insert_at.Goals as goal
 
 pub insert-requires-clause-place : goal.insert-requires-clause-place
-insert-requires-clause-place c =
-    let i = c.self.inside in let t = c.reserve.new.self in let g = c.requires.place in
-    let k = reserved i.store t i.inserted i.removed i.past_greatest i.is_changed c.args.self.now c.in_ok-reserve.ensures.room c.self.invariant c.self.view_is in
-    (g.0, g.1, (gap-in t i.inserted i.removed i.past_greatest i.is_changed c.args.self.now c.args.path.items g.0 g.1 k.0 k.1 g.2).0)
+insert-requires-clause-place c = let k = reserved _ _ _ _ _ _ _ c.in_ok-reserve.ensures.room c.self.invariant c.self.view_is in (_, _, (gap-in _ _ _ _ _ _ _ _ _ k.0 k.1 c.requires.place.2).0)
 
 pub invariant_of-self-2 : goal.invariant_of-self-2
 invariant_of-self-2 c =
-    let i = c.self.inside in let t = c.reserve.new.self in let g = c.requires.place in let n = c.insert.ensures in
-    let k = reserved i.store t i.inserted i.removed i.past_greatest i.is_changed c.args.self.now c.in_ok-reserve.ensures.room c.self.invariant c.self.view_is in
-    let q = gap-in t i.inserted i.removed i.past_greatest i.is_changed c.args.self.now c.args.path.items g.0 g.1 k.0 k.1 g.2 in
+    let i = c.self.inside in let n = c.insert.ensures in let k = reserved _ _ _ _ _ _ _ c.in_ok-reserve.ensures.room c.self.invariant c.self.view_is in let q = gap-in _ _ _ _ _ _ _ _ _ k.0 k.1 c.requires.place.2 in
     let l = ap (λ (m : VersionsMeaning). length m.list) k.1 in let a = c.requires.small in let e = ap (λ (m : VersionsMeaning). m.inserted) k.1 in let f = c.requires.few in
     subst (λ (p : ℕ). IsKept c.insert.new.links (i.inserted + 1) i.removed p true) (sym c.max-self-inside.ensures)
-    (kept-insert t c.insert.new.links i.inserted i.removed i.past_greatest i.is_changed g.0 g.1 c.args.item k.0 q.1 (omega (arith, l, a)) (omega (arith, e, f)) (n.tree g.0 g.1 q.0) n.made n.changed n.items)
+    (kept-insert _ _ _ _ _ _ _ _ c.args.item k.0 q.1 (omega (arith, l, a)) (omega (arith, e, f)) (n.tree _ _ q.0) n.made n.changed n.items)
 
 pub returns-clause-inserts : goal.returns-clause-inserts
 returns-clause-inserts c =

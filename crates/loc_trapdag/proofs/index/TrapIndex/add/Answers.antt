@@ -1,21 +1,17 @@
-use Rattle.std.proofs.Common.{◌≡◌, ℕ, ◌++◌, List, true, length, take, drop, sym, ◌∙◌, ap, subst, ◌⊎◌, arith}
+use Rattle.std.proofs.Common.{◌≡◌, List, true, length, sym, ◌∙◌, ap, subst, ◌⊎◌, arith}
 use Rattle.std.specs.Prelude.{Option, Some, vec_len}
-use Rattle.std.proofs.Math.Seq.{take-append_seam}
 use Rattle.loc_spec_plane.specs.Tables.{corner, lo_of}
 use Rattle.loc_laws_traps.specs.Sets.{is_inside}
 use Rattle.loc_laws_traps.proofs.Where.{where_law}
 use Rattle.loc_traps.specs.declared.map.Split.{Split}
 use Rattle.loc_traps.specs.Meaning.{MapMeaning, row_of, among}
 use Rattle.loc_traps.specs.Splits.{AreSplits, IsAdded}
+use Rattle.loc_traps.proofs.Burying.{written_back}
 use Rattle.loc_traps.proofs.Coded.{calm_with}
 use Rattle.loc_trapdag.specs.declared.index.Step.{Step}
 use Rattle.loc_trapdag.specs.Graphs.{Graph, IsGraphOf, Marks}
 use Rattle.loc_trapdag.proofs.Growing.{graph_more, steps_grown}
 use Rattle.loc_trapdag.proofs.index.TrapIndex.add.Goals as goal
-
--- what is written back is the list itself
-back : (n : ℕ) (xs rest : List (Option Step)) → length xs ≡ n → take n (xs ++ drop (length xs) rest) ≡ xs
-back n xs rest many = subst (λ k. take k (xs ++ drop (length xs) rest) ≡ xs) many (take-append_seam xs (drop (length xs) rest))
 
 pub seek-from-requires-clause-calm : goal.seek-from-requires-clause-calm
 seek-from-requires-clause-calm c = calm_with c.args.ranks.now c.args.self.now.map c.args.edge c.requires.graph.map c.requires.in_range c.requires.apart
@@ -51,5 +47,5 @@ returns-clause-graph c =
     let count = c.requires.graph.many in
     let cuts_many = ap length cuts_is in
     let same = steps_grown g.cuts c.self.inside.cuts.items lent c.made.result (vec_len c.self.inside.cuts) cuts_is (omega arith) (omega arith) (c.deref_mut.ensures.value ∙ c.in_ok-resize.ensures.items) in
-    subst (λ (cs : List (Option Step)). IsGraphOf t (record { map = new; cuts = cs })) (sym (back c.resize.new.self.len c.mark.new.cuts c.resize.new.self.items (omega arith)))
+    subst (λ (cs : List (Option Step)). IsGraphOf t (record { map = new; cuts = cs })) (sym (written_back c.resize.new.self.len c.mark.new.cuts c.resize.new.self.items (omega arith)))
     (graph_more t e g c.requires.graph new c.in_ok-splits.ensures.is_map added splits are lent c.mark.new.cuts marks many same)

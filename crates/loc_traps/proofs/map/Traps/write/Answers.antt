@@ -1,16 +1,11 @@
-use Rattle.std.proofs.Common.{◌≡◌, ℕ, ◌-◌, ◌≤◌, ◌++◌, Bool, List, length, take, drop, replicate, sym, ◌∙◌, ap, subst, arith}
+use Rattle.std.proofs.Common.{◌≡◌, ℕ, ◌-◌, ◌≤◌, ◌++◌, Bool, List, length, take, replicate, sym, ◌∙◌, ap, subst, arith}
 use Rattle.std.specs.Prelude.{Option, None, if◌then◌else◌, is_ok, vec_len}
-use Rattle.std.proofs.Math.Seq.{take-append_seam}
 use Rattle.loc_spec_plane.specs.declared.Trap.{Trap}
 use Rattle.loc_laws_traps.specs.Sets.{is_lowest_at, is_highest_at}
 use Rattle.loc_laws_traps.specs.Maps.{Renames}
 use Rattle.loc_traps.specs.Meaning.{MapMeaning, row_of, named_of}
-use Rattle.loc_traps.proofs.Burying.{grown, renames_from}
+use Rattle.loc_traps.proofs.Burying.{grown, written_back, renames_from}
 use Rattle.loc_traps.proofs.map.Traps.write.Goals as goal
-
--- what is written back is the list itself
-back : (n : ℕ) (names rest : List (Option ℕ)) → length names ≡ n → take n (names ++ drop (length names) rest) ≡ names
-back n names rest many = subst (λ k. take k (names ++ drop (length names) rest) ≡ names) many (take-append_seam names (drop (length names) rest))
 
 -- a list that has grown and is lent has the names that it had
 same_names : (old names lent resized : List (Option ℕ)) (ok : Bool) (n many : ℕ) → lent ≡ resized → resized ≡ (if ok then take n names ++ replicate (n - many) None else names) → many ≡ length names → many ≤ n → names ≡ old → (d : ℕ) → named_of lent d ≡ named_of old d
@@ -24,7 +19,7 @@ returns-clause-lowest c =
     let lent = c.deref_mut-2.result.now in
     let names = c.rename.new.names in
     let first : c.len-from.result ≡ length m.rows = (let r = ap (λ (v : MapMeaning). length v.rows) c.self.view_is in omega arith) in
-    subst (λ (ns : List (Option ℕ)). Renames (length m.rows) (length rows) (row_of rows) (is_lowest_at c.args.ranks.now) (named_of m.lowest) (named_of ns)) (sym (back c.resize-2.new.self.len names c.resize-2.new.self.items (let a = c.rename.auto.names in let b = ap length c.deref_mut-2.ensures.value in omega arith)))
+    subst (λ (ns : List (Option ℕ)). Renames (length m.rows) (length rows) (row_of rows) (is_lowest_at c.args.ranks.now) (named_of m.lowest) (named_of ns)) (sym (written_back c.resize-2.new.self.len names c.resize-2.new.self.items (let a = c.rename.auto.names in let b = ap length c.deref_mut-2.ensures.value in omega arith)))
     (renames_from (length m.rows) (length rows) (row_of rows) (is_lowest_at c.args.ranks.now) (named_of m.lowest) (named_of lent) (named_of names)
     (same_names m.lowest c.reserve-3.new.self.items lent c.resize-2.new.self.items (is_ok c.resize-2.result) c.max-lowest.result (vec_len c.reserve-3.new.self) c.deref_mut-2.ensures.value c.resize-2.ensures.items (omega arith) (omega arith) (c.reserve-3.ensures.items ∙ ap (λ (v : MapMeaning). v.lowest) c.self.view_is))
     (subst (λ n. Renames n (length rows) (row_of rows) (is_lowest_at c.args.ranks.now) (named_of lent) (named_of names)) first
@@ -37,7 +32,7 @@ returns-clause-highest c =
     let lent = c.deref_mut-3.result.now in
     let names = c.rename-2.new.names in
     let first : c.len-from.result ≡ length m.rows = (let r = ap (λ (v : MapMeaning). length v.rows) c.self.view_is in omega arith) in
-    subst (λ (ns : List (Option ℕ)). Renames (length m.rows) (length rows) (row_of rows) (is_highest_at c.args.ranks.now) (named_of m.highest) (named_of ns)) (sym (back c.resize-3.new.self.len names c.resize-3.new.self.items (let a = c.rename-2.auto.names in let b = ap length c.deref_mut-3.ensures.value in omega arith)))
+    subst (λ (ns : List (Option ℕ)). Renames (length m.rows) (length rows) (row_of rows) (is_highest_at c.args.ranks.now) (named_of m.highest) (named_of ns)) (sym (written_back c.resize-3.new.self.len names c.resize-3.new.self.items (let a = c.rename-2.auto.names in let b = ap length c.deref_mut-3.ensures.value in omega arith)))
     (renames_from (length m.rows) (length rows) (row_of rows) (is_highest_at c.args.ranks.now) (named_of m.highest) (named_of lent) (named_of names)
     (same_names m.highest c.reserve-4.new.self.items lent c.resize-3.new.self.items (is_ok c.resize-3.result) c.max-highest.result (vec_len c.reserve-4.new.self) c.deref_mut-3.ensures.value c.resize-3.ensures.items (omega arith) (omega arith) (c.reserve-4.ensures.items ∙ ap (λ (v : MapMeaning). v.highest) c.self.view_is))
     (subst (λ n. Renames n (length rows) (row_of rows) (is_highest_at c.args.ranks.now) (named_of lent) (named_of names)) first

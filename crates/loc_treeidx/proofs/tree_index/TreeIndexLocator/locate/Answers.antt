@@ -13,8 +13,7 @@ returns-in-OnCorner-clause-found g c = ap (λ place. Ok place) (place_is_found c
 pub returns-in-OnCorner-clause-within : goal.returns-in-OnCorner-clause-within
 returns-in-OnCorner-clause-within g c =
     let t = c.args.views.now in
-    let first = c.search_corners.ensures.halving in
-    within_most t 0 c.args.steps.now c.search_corners.new.steps (omega arith) c.search_corners.ensures.counted (omega (arith, first))
+    within_most t 0 c.args.steps.now c.search_corners.new.steps (omega arith) c.search_corners.ensures.counted (omega (arith, c.search_corners.ensures.halving))
 
 pub returns-in-Behind-clause-found : goal.returns-in-Behind-clause-found
 returns-in-Behind-clause-found g c = ap (λ place. Ok place) (place_is_found c.args.views.now c.requires.planar c.args.p c.search_behind.result c.search_behind.ensures.place)

@@ -10,9 +10,7 @@ use Rattle.loc_treeidx.proofs.tree_index.TreeIndexStatus.insert.Goals.{in-Err, i
 pub insert_at-requires-clause-small : goal.insert_at-requires-clause-small
 insert_at-requires-clause-small c =
     let t = c.args.ranks.now in
-    let room = chain_has_room t (corner t (lo_of t c.args.edge)) c.args.self.now.list c.args.edge c.requires.chain (not-true _ c.requires.is_new) c.requires.in_range in
-    let same = ap (λ (m : VersionsMeaning). length m.list) c.self.view_is in
-    omega (arith, room, same, c.law.ensures.small.few_edges)
+    omega (arith, chain_has_room t (corner t (lo_of t c.args.edge)) c.args.self.now.list c.args.edge c.requires.chain (not-true _ c.requires.is_new) c.requires.in_range, ap (λ (m : VersionsMeaning). length m.list) c.self.view_is, c.law.ensures.small.few_edges)
 
 pub insert_at-requires-clause-place : goal.insert_at-requires-clause-place
 insert_at-requires-clause-place c = let end = c.in_ok-way.ensures.ok.end in (end.front, end.back, end.leads)

@@ -1,5 +1,5 @@
 use Rattle.std.proofs.Common.{◌∙◌, refl, rules, arith, ap, length}
-use Rattle.loc_spec_text.specs.Geometry.{pieces}
+use Rattle.loc_spec_text.specs.Geometry.{symbols}
 use Rattle.loc_spec_text.specs.Reader.{wide_point_at}
 use Rattle.loc_wkt.specs.Lists.{listed_at, wide_ring_at}
 use Rattle.loc_wkt.proofs.ListLemmas.{enclosed_none, enclosed_open}
@@ -7,11 +7,11 @@ use Rattle.loc_wkt.proofs.PassLemmas.{points_keep, points_keep_rings, ring_kept,
 use Rattle.loc_wkt.proofs.values.Values.behind_ring.Goals as goal
 
 pub returns-in_default-clause-err : goal.returns-in_default-clause-err
-returns-in_default-clause-err c = λ h. (refl, enclosed_none wide_point_at (pieces c.args.text.now) c.in_default.ensures.found)
+returns-in_default-clause-err c = λ h. (refl, enclosed_none wide_point_at (symbols c.args.text.now) c.in_default.ensures.found)
 
 pub returns-in_err-points-clause-err : goal.returns-in_err-points-clause-err
-returns-in_err-points-clause-err c = unread_handed c.from_residual.result c.in_err-points.field-0.0 (listed_at wide_point_at (pieces c.in-Some.inside.now)) (wide_ring_at (pieces c.args.text.now))
-    c.from_residual.ensures.1 (λ none. enclosed_open wide_point_at (pieces c.args.text.now) (pieces c.in-Some.inside.now) c.in-Some.ensures.found ∙ none) c.in_err-points.ensures.err
+returns-in_err-points-clause-err c = unread_handed c.from_residual.result c.in_err-points.field-0.0 (listed_at wide_point_at (symbols c.in-Some.inside.now)) (wide_ring_at (symbols c.args.text.now))
+    c.from_residual.ensures.1 (λ none. enclosed_open wide_point_at (symbols c.args.text.now) (symbols c.in-Some.inside.now) c.in-Some.ensures.found ∙ none) c.in_err-points.ensures.err
 
 pub keep-requires-clause-started : goal.keep-requires-clause-started
 keep-requires-clause-started c = let read = c.in_ok-points.ensures.ok in
@@ -20,7 +20,7 @@ keep-requires-clause-started c = let read = c.in_ok-points.ensures.ok in
 pub returns-clause-ok : goal.returns-clause-ok
 returns-clause-ok c = let read = c.in_ok-points.ensures.ok in record {
   member = read.member;
-  gives = enclosed_open wide_point_at (pieces c.args.text.now) (pieces c.in-Some.inside.now) c.in-Some.ensures.found ∙ read.gives;
+  gives = enclosed_open wide_point_at (symbols c.args.text.now) (symbols c.in-Some.inside.now) c.in-Some.ensures.found ∙ read.gives;
   meaning = ring_kept c.args.self.now c.points.new.self c.keep.new.self read.member c.in_ok-points.points.items read.meaning.0 read.meaning.1 (search rules);
 }
 

@@ -1,5 +1,5 @@
 use Rattle.std.proofs.Common.{◌∙◌, ap, Some, refl, arith}
-use Rattle.loc_spec_text.specs.Geometry.{pieces}
+use Rattle.loc_spec_text.specs.Geometry.{symbols}
 use Rattle.loc_wkt.specs.Lists.{wide_ring_at}
 use Rattle.loc_wkt.specs.Passes.{after_ring}
 use Rattle.loc_wkt.proofs.ListLemmas.{ring_takes}
@@ -15,7 +15,7 @@ returns-in_default-clause-err c = λ h. (
 
 pub returns-then-not-goes_on-clause-ok : goal.returns-then-not-goes_on-clause-ok
 returns-then-not-goes_on-clause-ok c = list_ends wide_ring_at after_ring c.args.self.now c.loop-more.self c.args.text.now c.loop-more.rest.now c.loop-more.invariant.list c.behind_ring.new.self c.in_ok-more.more.now c.in_ok-more.ensures.ok ring_takes c.in-Some.behind.now
-    (c.in-Some.ensures.found ∙ ap (λ b. Some (b, pieces c.in-Some.behind.now)) c.if-not-goes_on.true)
+    (c.in-Some.ensures.found ∙ ap (λ b. Some (b, symbols c.in-Some.behind.now)) c.if-not-goes_on.true)
 
 pub loop-more-init : goal.loop-more-init
 loop-more-init c = record { list = list_begins wide_ring_at after_ring c.args.self.now c.args.self.now c.args.text.now c.args.text.now c.requires.room; started = c.requires.started }
@@ -23,7 +23,7 @@ loop-more-init c = record { list = list_begins wide_ring_at after_ring c.args.se
 pub loop-more-preserved : goal.loop-more-preserved
 loop-more-preserved c = record {
   list = list_goes_on wide_ring_at after_ring c.args.self.now c.loop-more.self c.args.text.now c.loop-more.rest.now c.loop-more.invariant.list c.behind_ring.new.self c.in_ok-more.more.now c.in_ok-more.ensures.ok ring_takes c.in-Some.behind.now
-      (c.in-Some.ensures.found ∙ ap (λ b. Some (b, pieces c.in-Some.behind.now)) c.if-not-goes_on.false)
+      (c.in-Some.ensures.found ∙ ap (λ b. Some (b, symbols c.in-Some.behind.now)) c.if-not-goes_on.false)
       (less_room c.behind_ring.new.self c.in_ok-more.more.now c.in-Some.behind.now c.in_ok-more.ensures.room (omega (arith, c.in-Some.ensures.shorter)))
       (omega (arith, c.in_ok-more.ensures.shorter, c.in-Some.ensures.shorter));
   started = c.in_ok-more.ensures.started;

@@ -1,15 +1,15 @@
--- Where the pieces of a text are cut: what a reader of tokens knows of the pieces behind its place.
-use Rattle.std.proofs.Common.{◌≡◌, ℕ, List, [], ◌∷◌, ◌++◌, Bool, true, false, ◌||◌, not, map, refl, sym, ◌∙◌, ap, ap₂, one-add, take_while}
+-- Where the symbols of a text are cut: what a reader of tokens knows of the symbols behind its place.
+use Rattle.std.proofs.Common.{◌≡◌, ℕ, List, [], ◌∷◌, Bool, true, false, ◌||◌, not, map, refl, sym, ◌∙◌, ap, ap₂, one-add, take_while}
 use Rattle.std.specs.Prelude.{if◌then◌else◌}
 use Rattle.std.specs.List.{onto_first}
 use Rattle.loc_spec_text.specs.Bytes.{is_white, drop_while}
-use Rattle.loc_spec_text.specs.Geometry.{runs, pieces, piece_of, is_mark, is_break, ends_piece}
+use Rattle.loc_spec_text.specs.Geometry.{runs, symbols, symbol_of, is_mark, is_break, ends_symbol}
 
 -- neither of the two holds
 abbrev pub not_either : Bool → Bool → Bool
 not_either w m = not (w || m)
 
--- a part of a piece: bytes that are no white space and no mark
+-- a part of a symbol: bytes that are no white space and no mark
 abbrev pub is_plain : ℕ → Bool
 is_plain b = not (is_break b)
 
@@ -21,16 +21,16 @@ plain-parts true m h = absurd (cc)
 plain-parts false true h = absurd (cc)
 plain-parts false false h = (refl, refl)
 
--- a run of other bytes in front, up to white space, a mark or the end, is one piece
-runs-last : (b : ℕ) (rest : List ℕ) → is_plain b ≡ true → ends_piece rest ≡ true → runs (b ∷ rest) ≡ (b ∷ []) ∷ runs rest
+-- a run of other bytes in front, up to white space, a mark or the end, is one symbol
+runs-last : (b : ℕ) (rest : List ℕ) → is_plain b ≡ true → ends_symbol rest ≡ true → runs (b ∷ rest) ≡ (b ∷ []) ∷ runs rest
 runs-last b rest h e = let p = plain-parts (is_white b) (is_mark b) h in rw (p.0, p.1, e) refl
 
-ends-plain : (c : ℕ) (text : List ℕ) → is_plain c ≡ true → ends_piece (c ∷ text) ≡ false
+ends-plain : (c : ℕ) (text : List ℕ) → is_plain c ≡ true → ends_symbol (c ∷ text) ≡ false
 ends-plain c text h = let p = plain-parts (is_white c) (is_mark c) h in rw (p.0, p.1) refl
 
 runs-more : (b c : ℕ) (text : List ℕ) → is_plain b ≡ true → is_plain c ≡ true → runs (b ∷ c ∷ text) ≡ onto_first b (runs (c ∷ text))
 runs-more b c text h k = let p = plain-parts (is_white b) (is_mark b) h in
-    step (is_white b) (is_mark b) (ends_piece (c ∷ text)) p.0 p.1 (ends-plain c text k) (runs (c ∷ text))
+    step (is_white b) (is_mark b) (ends_symbol (c ∷ text)) p.0 p.1 (ends-plain c text k) (runs (c ∷ text))
   where
     step : (w m e : Bool) → w ≡ false → m ≡ false → e ≡ false → (more : List (List ℕ))
         → (if w then more else if m || e then (b ∷ []) ∷ more else onto_first b more) ≡ onto_first b more
@@ -39,7 +39,7 @@ runs-more b c text h k = let p = plain-parts (is_white b) (is_mark b) h in
     step false false true hw hm he more = absurd (cc)
     step false false false hw hm he more = refl
 
--- white space is skipped, and then a mark or the longest run is the first piece
+-- white space is skipped, and then a mark or the longest run is the first symbol
 pub drop_while-yes : {X : Type 0} (p : X → Bool) (x : X) (xs : List X) → p x ≡ true → drop_while p (x ∷ xs) ≡ drop_while p xs
 drop_while-yes p x xs h = rw h (rw one-add refl)
 
@@ -62,10 +62,10 @@ runs-skip [] = refl
 runs-skip (b ∷ text) = skip_step b text (is_white b) refl (runs-skip text)
 
 -- the white space at the front can be dropped
-pub pieces-skip : (text : List ℕ) → pieces text ≡ pieces (drop_while is_white text)
-pieces-skip text = ap (map piece_of) (runs-skip text)
+pub symbols-skip : (text : List ℕ) → symbols text ≡ symbols (drop_while is_white text)
+symbols-skip text = ap (map symbol_of) (runs-skip text)
 
-not_plain-ends : (c : ℕ) (text : List ℕ) → is_plain c ≡ false → ends_piece (c ∷ text) ≡ true
+not_plain-ends : (c : ℕ) (text : List ℕ) → is_plain c ≡ false → ends_symbol (c ∷ text) ≡ true
 not_plain-ends c text h = go (is_white c) (is_mark c) h
   where
     go : (w m : Bool) → not_either w m ≡ false → (w || m) ≡ true
@@ -85,10 +85,10 @@ runs-longest b [] h = runs-last b [] h refl
 runs-longest b (c ∷ text) h = runs-first b c text (is_plain c) h refl
     (λ k. runs-longest c text k ∙ ap₂ (λ x y. x ∷ runs y) (sym (take_while-yes is_plain c text k)) (sym (drop_while-yes is_plain c text k)))
 
--- the first piece behind white space is the longest run
-pub pieces-longest : (b : ℕ) (text : List ℕ) → is_plain b ≡ true → pieces (b ∷ text) ≡ piece_of (b ∷ take_while is_plain text) ∷ pieces (drop_while is_plain text)
-pieces-longest b text h = ap (map piece_of) (runs-longest b text h)
+-- the first symbol behind white space is the longest run
+pub symbols-longest : (b : ℕ) (text : List ℕ) → is_plain b ≡ true → symbols (b ∷ text) ≡ symbol_of (b ∷ take_while is_plain text) ∷ symbols (drop_while is_plain text)
+symbols-longest b text h = ap (map symbol_of) (runs-longest b text h)
 
 -- and a mark is one by itself
-pub pieces-mark : (b : ℕ) (text : List ℕ) → is_white b ≡ false → is_mark b ≡ true → pieces (b ∷ text) ≡ piece_of (b ∷ []) ∷ pieces text
-pieces-mark b text h k = rw (h, k) refl
+pub symbols-mark : (b : ℕ) (text : List ℕ) → is_white b ≡ false → is_mark b ≡ true → symbols (b ∷ text) ≡ symbol_of (b ∷ []) ∷ symbols text
+symbols-mark b text h k = rw (h, k) refl

@@ -1,9 +1,9 @@
-// The pieces of a text: each mark by itself, and what stands before the next break.
+// The symbols of a text: each mark by itself, and what stands before the next break.
 
 ghost use Rattle.std.specs.Prelude.{◌≡◌, ◌∷◌, [], ◌<◌, ◌≤◌, length, take, drop, slice_index, false, IfSome, IfNone};
 ghost use Rattle.std.specs.List.{position_or_len};
 ghost use Rattle.loc_spec_text.specs.Bytes.{is_white as is_white_byte};
-ghost use Rattle.loc_spec_text.specs.Geometry.{is_break as is_break_byte, is_mark as is_mark_byte, piece_of, pieces};
+ghost use Rattle.loc_spec_text.specs.Geometry.{is_break as is_break_byte, is_mark as is_mark_byte, symbol_of, symbols};
 
 use super::lengths::{is_white, white_length};
 
@@ -14,7 +14,7 @@ pub fn is_mark(b: u8) -> bool
     b == b'(' || b == b')' || b == b','
 }
 
-/// Whether a byte ends a piece.
+/// Whether a byte ends a symbol.
 fn is_break(b: u8) -> bool
     ensures { result ≡ is_break_byte b }
 {
@@ -29,13 +29,13 @@ fn run_length(text: &[u8]) -> usize
     text.iter().take_while(|b| !is_break(**b)).count()
 }
 
-/// The length of the first piece of a text that begins with no white space: a mark by itself, or what stands before the first break.
-fn piece_length(text: &[u8]) -> usize
+/// The length of the first symbol of a text that begins with no white space: a mark by itself, or what stands before the first break.
+fn symbol_length(text: &[u8]) -> usize
     requires some { 0 < length text.now }
     requires no_white { is_white_byte (slice_index text.now 0) ≡ false }
     ensures some { 0 < result }
     ensures within { result ≤ length text.now }
-    ensures cut { pieces text.now ≡ piece_of (take result text.now) ∷ pieces (drop result text.now) }
+    ensures cut { symbols text.now ≡ symbol_of (take result text.now) ∷ symbols (drop result text.now) }
 {
     if is_mark(text[0]) {
         1
@@ -44,17 +44,17 @@ fn piece_length(text: &[u8]) -> usize
     }
 }
 
-/// The first piece of a text and what follows it, or nothing where the text is blank.
-pub fn next_piece(text: &[u8]) -> Option<(&[u8], &[u8])>
-    ensures found { IfSome result (λ p. pieces text.now ≡ piece_of p.0.now ∷ pieces p.1.now) }
+/// The first symbol of a text and what follows it, or nothing where the text is blank.
+pub fn next_symbol(text: &[u8]) -> Option<(&[u8], &[u8])>
+    ensures found { IfSome result (λ p. symbols text.now ≡ symbol_of p.0.now ∷ symbols p.1.now) }
     ensures shorter { IfSome result (λ p. length p.1.now < length text.now) }
     ensures within { IfSome result (λ p. length p.0.now ≤ length text.now) }
-    ensures none { IfNone result (pieces text.now ≡ []) }
+    ensures none { IfNone result (symbols text.now ≡ []) }
 {
     let white = white_length(text);
     if white == text.len() {
         return None;
     }
     let text = &text[white..];
-    Some(text.split_at(piece_length(text)))
+    Some(text.split_at(symbol_length(text)))
 }
