@@ -12,6 +12,3 @@ mod rows;
 pub use faults::LayerFault;
 pub use loc_spec_text::Form;
 pub use reader::read_layer;
-
-#[cfg(test)]
-mod tests;

@@ -12,6 +12,3 @@ pub use faces::Faces;
 pub use faults::FaceFault;
 pub use laws::{lines_law, subdivision_law};
 pub use texts::write_face;
-
-#[cfg(test)]
-mod tests;

@@ -16,8 +16,6 @@ mod nodes;
 mod parts;
 mod rows;
 mod search;
-#[cfg(test)]
-mod tests;
 
 pub use held::{Held, read_index};
 pub use loc_spec_index::{IndexFault, NodeRow, Part};

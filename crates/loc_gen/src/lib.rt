@@ -6,8 +6,6 @@ mod kinds;
 mod layers;
 mod lines;
 mod points;
-#[cfg(test)]
-mod tests;
 
 pub use kinds::Kind;
 pub use layers::{GenFault, gen_layer};

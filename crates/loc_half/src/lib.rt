@@ -7,6 +7,3 @@ mod nexts;
 mod turns;
 
 pub use half_edges::HalfEdges;
-
-#[cfg(test)]
-mod tests;

@@ -8,8 +8,6 @@ pub mod laws;
 mod node_row;
 mod present;
 mod store;
-#[cfg(test)]
-mod tests;
 mod versions;
 
 pub use loc_spec_index::NodeRow;

@@ -5,6 +5,7 @@ ghost use Rattle.loc_place.specs.Planar.{IsPlanar};
 ghost use Rattle.loc_spec_plane.specs.Tables.{Table};
 ghost use Rattle.loc_cover.specs.Legends.{FitsTable};
 
+use crate::limits::repeated;
 use crate::tests::{ANSWERS, POINTS, SQUARE};
 use loc_batch::{Batch, BatchFault, FeedFault, Tally, Unnumbered, answer_all, write_answer};
 use loc_cover::Legend;
@@ -13,6 +14,7 @@ use loc_edges::{EdgeTable, Views};
 use loc_geom::{Point, Steps};
 use loc_io::{MemShelf, MemSink, Shelf};
 use loc_place::{Deep, Locator, Place};
+use loc_rings::Layer;
 use loc_scan::Scan;
 use loc_status::VecStatus;
 use loc_sweep::sweep;
@@ -22,10 +24,10 @@ use std::process::Abort;
 use std::sync::ledger::{Blank, Ledger};
 use std::test::Fail;
 
-// The layer, the points and the answers at scale 0.
-pub(crate) type Row = (&'static [u8], &'static [u8], &'static [u8]);
+// A layer with points and their answers, at scale 0.
+type Row = (&'static [u8], &'static [u8], &'static [u8]);
 
-pub(crate) const ROWS: [Row; 5] = [
+static ROWS: [Row; 5] = [
     (SQUARE, POINTS, ANSWERS),
     (
         b"POLYGON((0 0,2 -2,4 0,2 2,0 0))",
@@ -45,25 +47,39 @@ pub(crate) const ROWS: [Row; 5] = [
     (b"POLYGON EMPTY", b"1 1\n2 2", b"face in\nface in\n"),
 ];
 
-// The table and the legend of a layer text.
-fn map_of(alloc: Global, text: &[u8]) -> Result<(EdgeTable, Legend), Fail>
+// The layer of a text in a form.
+pub(crate) fn read_text(alloc: Global, text: &[u8], form: Form) -> Result<Layer, Fail> {
+    if text.len() > 268_435_456 {
+        return Err(Fail::new("a long layer"));
+    }
+    let Ok(layer) = read_layer(alloc, text, form, 0) else {
+        return Err(Fail::new("no layer"));
+    };
+    Ok(layer)
+}
+
+// The table and the legend of a layer.
+fn map_of_layer(alloc: Global, layer: &Layer) -> Result<(EdgeTable, Legend), Fail>
     ensures planar { IfOk result (λ map. IsPlanar map.0) }
     ensures fits { IfOk result (λ map. FitsTable map.0 map.1) }
 {
-    if text.len() > 1000 {
-        return Err(Fail::new("a long layer"));
-    }
-    let Ok(layer) = read_layer(alloc, text, Form::Lines, 0) else {
-        return Err(Fail::new("no layer"));
-    };
-    let table = EdgeTable::make(alloc, &layer)?;
+    let table = EdgeTable::make(alloc, layer)?;
     let Ok((_, floors)) = sweep(alloc, &table, VecStatus::new(alloc)) else {
         return Err(Fail::new("edges that conflict"));
     };
-    let Ok(legend) = Legend::make(alloc, &layer, &table, &floors) else {
+    let Ok(legend) = Legend::make(alloc, layer, &table, &floors) else {
         return Err(Fail::new("long cover lists"));
     };
     Ok((table, legend))
+}
+
+// The table and the legend of a layer text.
+pub(crate) fn map_of(alloc: Global, text: &[u8], form: Form) -> Result<(EdgeTable, Legend), Fail>
+    ensures planar { IfOk result (λ map. IsPlanar map.0) }
+    ensures fits { IfOk result (λ map. FitsTable map.0 map.1) }
+{
+    let layer = read_text(alloc, text, form)?;
+    map_of_layer(alloc, &layer)
 }
 
 // What was answered to a stream that came in pieces of this length.
@@ -131,22 +147,24 @@ fn read_by<L: Ledger>(
     ))
 }
 
-// What comes of points by a layer, in pieces of this length, and what stands on the sink.
+// What comes of points in pieces of this length, and what stands on the sink.
 fn fed(
     alloc: Global,
-    layer: &[u8],
+    map: &(EdgeTable, Legend),
     points: &[u8],
     length: usize,
     limit: u64,
-) -> Result<(Result<(), FeedFault>, Tally, MemSink), Fail> {
+) -> Result<(Result<(), FeedFault>, Tally, MemSink), Fail>
+    requires planar { IsPlanar map.now.0 }
+    requires fits { FitsTable map.now.0 map.now.1 }
+{
     if length == 0 || limit > 1_000_000 {
         return Err(Fail::new("no such pieces"));
     }
-    let map = map_of(alloc, layer)?;
     let mut sink = MemSink::new(alloc, Vec::new(alloc));
     let (ended, tally) = fed_by::<Brand>(
         alloc,
-        &map,
+        map,
         points,
         length,
         limit,
@@ -159,76 +177,133 @@ fn fed(
 // What comes of points that are read, and what stands on the sink.
 fn read(
     alloc: Global,
-    layer: &[u8],
+    map: &(EdgeTable, Legend),
     points: &[u8],
     limit: u64,
-) -> Result<(Result<(), BatchFault>, MemSink), Fail> {
+) -> Result<(Result<(), BatchFault>, MemSink), Fail>
+    requires planar { IsPlanar map.now.0 }
+    requires fits { FitsTable map.now.0 map.now.1 }
+{
     if limit > 1_000_000 {
         return Err(Fail::new("a long file"));
     }
-    let map = map_of(alloc, layer)?;
     let mut shelf = MemShelf::new(alloc, Vec::new(alloc));
     shelf.put("points", points)?;
     let mut sink = MemSink::new(alloc, Vec::new(alloc));
-    let ended = read_by::<Brand>(alloc, &map, &mut shelf, limit, &mut sink, Blank::new(1))?;
+    let ended = read_by::<Brand>(alloc, map, &mut shelf, limit, &mut sink, Blank::new(1))?;
     Ok((ended, sink))
+}
+
+// A stream in pieces of this length is answered so. Its counts.
+fn expect_fed(
+    rt: &impl Abort,
+    alloc: Global,
+    map: &(EdgeTable, Legend),
+    points: &[u8],
+    answers: &[u8],
+    length: usize,
+    limit: u64,
+) -> Result<Tally, Fail>
+    requires planar { IsPlanar map.now.0 }
+    requires fits { FitsTable map.now.0 map.now.1 }
+{
+    let (ended, tally, sink) = fed(alloc, map, points, length, limit)?;
+    assert_eq!(rt; ended, Ok(()));
+    assert_eq!(rt; sink.bytes(), answers);
+    Ok(tally)
+}
+
+// A file is answered so.
+fn expect_read(
+    rt: &impl Abort,
+    alloc: Global,
+    map: &(EdgeTable, Legend),
+    points: &[u8],
+    answers: &[u8],
+    limit: u64,
+) -> Result<(), Fail>
+    requires planar { IsPlanar map.now.0 }
+    requires fits { FitsTable map.now.0 map.now.1 }
+{
+    let (ended, sink) = read(alloc, map, points, limit)?;
+    assert_eq!(rt; ended, Ok(()));
+    assert_eq!(rt; sink.bytes(), answers);
+    Ok(())
+}
+
+// Points are answered so, however they are cut.
+fn expect_cuts(
+    rt: &impl Abort,
+    alloc: Global,
+    map: &(EdgeTable, Legend),
+    points: &[u8],
+    answers: &[u8],
+) -> Result<(), Fail>
+    requires planar { IsPlanar map.now.0 }
+    requires fits { FitsTable map.now.0 map.now.1 }
+{
+    for length in [1, 2, 3, 5, 7, 100] {
+        expect_fed(rt, alloc, map, points, answers, length, 1000)?;
+    }
+    expect_read(rt, alloc, map, points, answers, 1000)
 }
 
 #[test]
 fn any_cut_gives_the_same_answers(rt: HostRuntime) -> Result<(), Fail> {
-    let alloc = rt.alloc();
-    for (layer, points, answers) in ROWS {
-        for length in [1, 2, 3, 5, 7, 100] {
-            let (ended, _, sink) = fed(alloc, layer, points, length, 1000)?;
-            assert_eq!(rt; ended, Ok(()));
-            assert_eq!(rt; sink.bytes(), answers);
-        }
-        let (ended, sink) = read(alloc, layer, points, 1000)?;
-        assert_eq!(rt; ended, Ok(()));
-        assert_eq!(rt; sink.bytes(), answers);
+    for (layer, points, answers) in &ROWS {
+        let map = map_of(rt.alloc(), layer, Form::Lines)?;
+        expect_cuts(&rt, rt.alloc(), &map, points, answers)?;
     }
     Ok(())
 }
 
-// Many points, and then one behind spaces and one before them, each on a line of 4096 and on one of 4097 bytes; and their answers.
-fn many_points(alloc: Global) -> Result<(Vec<u8>, Vec<u8>), Fail> {
-    let mut points = Vec::new(alloc);
-    let mut answers = Vec::new(alloc);
-    for _ in 0..3000 {
-        points.extend_from_slice(POINTS)?;
-        answers.extend_from_slice(ANSWERS)?;
+// What stands before spaces, how many there are, and what stands behind them: a point, on lines of 4096 and of 4097 bytes.
+static SPACED: [(&[u8], u32, &[u8]); 4] = [
+    (b"", 4093, b"2 2\n"),
+    (b"", 4094, b"2 2\n"),
+    (b"2 2", 4093, b"\n"),
+    (b"2 2", 4094, b"\n"),
+];
+
+// Many points, and then those behind spaces and before them.
+fn many_points(alloc: Global) -> Result<Vec<u8>, Fail> {
+    let mut points = repeated(alloc, b"", POINTS, 3000, b"")?;
+    for (head, spaces, foot) in &SPACED {
+        points.extend_from_slice(&repeated(alloc, head, b" ", *spaces, foot)?)?;
     }
-    for (before, behind) in [(4093, 0), (4094, 0), (0, 4093), (0, 4094)] {
-        points.extend_from_slice(&vec![in alloc; b' '; before]?)?;
-        points.extend_from_slice(b"2 2")?;
-        points.extend_from_slice(&vec![in alloc; b' '; behind]?)?;
-        points.push(b'\n')?;
-    }
-    answers.extend_from_slice(b"face in \"1\"\nunread\nface in \"1\"\nunread\n")?;
-    Ok((points, answers))
+    Ok(points)
+}
+
+// What is answered to the points behind the many.
+const LAST_ANSWERS: &[u8] = b"face in \"1\"\nunread\nface in \"1\"\nunread\n";
+
+// The counts of the many points.
+const COUNTS: Tally = Tally {
+    lines: 27004,
+    corners: 6000,
+    borders: 3000,
+    faces: 18002,
+    unread: 2,
+    on: 9000,
+    covering: 3002,
+};
+
+// The many points are answered one by one, fed and read.
+fn expect_many(rt: &impl Abort, alloc: Global, map: &(EdgeTable, Legend)) -> Result<(), Fail>
+    requires planar { IsPlanar map.now.0 }
+    requires fits { FitsTable map.now.0 map.now.1 }
+{
+    let points = many_points(alloc)?;
+    let answers = repeated(alloc, b"", ANSWERS, 3000, LAST_ANSWERS)?;
+    let tally = expect_fed(rt, alloc, map, &points, &answers, 1000, 1_000_000)?;
+    assert_eq!(rt; tally, COUNTS);
+    expect_read(rt, alloc, map, &points, &answers, 1_000_000)
 }
 
 #[test]
 fn many_lines_and_long_ones(rt: HostRuntime) -> Result<(), Fail> {
-    let alloc = rt.alloc();
-    let (points, answers) = many_points(alloc)?;
-    let (ended, tally, sink) = fed(alloc, SQUARE, &points, 1000, 1_000_000)?;
-    assert_eq!(rt; ended, Ok(()));
-    assert_eq!(rt; sink.bytes(), answers.as_slice());
-    let wanted = Tally {
-        lines: 27004,
-        corners: 6000,
-        borders: 3000,
-        faces: 18002,
-        unread: 2,
-        on: 9000,
-        covering: 3002,
-    };
-    assert_eq!(rt; tally, wanted);
-    let (ended, sink) = read(alloc, SQUARE, &points, 1_000_000)?;
-    assert_eq!(rt; ended, Ok(()));
-    assert_eq!(rt; sink.bytes(), answers.as_slice());
-    Ok(())
+    let map = map_of(rt.alloc(), SQUARE, Form::Lines)?;
+    expect_many(&rt, rt.alloc(), &map)
 }
 
 // A locator that gives up each search, at version 1.
@@ -301,24 +376,26 @@ fn answered_by<I: Locator, L: Ledger>(
     ])
 }
 
-// What a batch answers to two pieces for the square, and at the end, by an index, where one write fails.
+// What a batch answers to two pieces, and at the end, by an index, where one write fails.
 fn answered<I: Locator>(
     alloc: Global,
+    map: &(EdgeTable, Legend),
     index: &I,
     pieces: [&[u8]; 2],
     limit: u64,
     write_call: u64,
 ) -> Result<([Answer; 3], MemSink), Fail>
+    requires planar { IsPlanar map.now.0 }
+    requires fits { FitsTable map.now.0 map.now.1 }
     requires index { (t : Table) → IsPlanar t → I.fits index.now t }
 {
     if limit > 1_000_000 {
         return Err(Fail::new("a long stream"));
     }
-    let map = map_of(alloc, SQUARE)?;
     let mut sink = MemSink::new(alloc, vec![in alloc; write_call]?);
     let answers = answered_by::<I, Brand>(
         alloc,
-        &map,
+        map,
         index,
         pieces,
         limit,
@@ -332,7 +409,7 @@ fn answered<I: Locator>(
 type Stop = ([&'static [u8]; 2], u64, u64, FeedFault, &'static [u8]);
 
 #[rattlefmt::skip]
-const STOPS: [Stop; 5] = [
+static STOPS: [Stop; 5] = [
     ([b"2 2\n5", b""], 4, 0, FeedFault::PointsLong, b"face in \"1\"\n"),
     ([b"2 2\n5", b"\n4 2\n"], 4, 0, FeedFault::PointsLong, b"face in \"1\"\n"),
     ([b"2 2\n5 2", b""], 1000, 1, FeedFault::WriteFault, b""),
@@ -341,26 +418,49 @@ const STOPS: [Stop; 5] = [
 ];
 
 // The batch has stopped: its answers are the same fault, and nothing more is written.
-fn expect_stopped(rt: &impl Abort, answers: [Answer; 3], fault: FeedFault, written: usize) {
+fn expect_stopped(rt: &impl Abort, answers: &[Answer], fault: FeedFault, written: usize) {
     for (answer, length) in answers {
-        assert_eq!(rt; answer, Err(fault));
-        assert_eq!(rt; length, written);
+        assert_eq!(rt; *answer, Err(fault));
+        assert_eq!(rt; *length, written);
     }
 }
 
+// A batch by an index stops so.
+fn expect_stop<I: Locator>(
+    rt: &impl Abort,
+    alloc: Global,
+    map: &(EdgeTable, Legend),
+    index: &I,
+    stop: &Stop,
+) -> Result<(), Fail>
+    requires planar { IsPlanar map.now.0 }
+    requires fits { FitsTable map.now.0 map.now.1 }
+    requires index { (t : Table) → IsPlanar t → I.fits index.now t }
+{
+    let (pieces, limit, write_call, fault, out) = *stop;
+    let (answers, sink) = answered(alloc, map, index, pieces, limit, write_call)?;
+    expect_stopped(rt, &answers, fault, out.len());
+    assert_eq!(rt; sink.bytes(), out);
+    Ok(())
+}
+
+// A batch stops where its index gives up.
+#[rattlefmt::skip]
+static GIVEN_UP: Stop = ([b"x\n2 2\n5", b"\ny\n"], 1000, 0, FeedFault::Deep { version: 1 }, b"unread\n");
+
 #[test]
 fn stopped_batches(rt: HostRuntime) -> Result<(), Fail> {
-    let alloc = rt.alloc();
-    for (pieces, limit, write_call, fault, out) in STOPS {
-        let (answers, sink) = answered(alloc, &Scan, pieces, limit, write_call)?;
-        expect_stopped(&rt, answers, fault, out.len());
-        assert_eq!(rt; sink.bytes(), out);
+    let map = map_of(rt.alloc(), SQUARE, Form::Lines)?;
+    for stop in &STOPS {
+        expect_stop(&rt, rt.alloc(), &map, &Scan, stop)?;
     }
-    let pieces: [&[u8]; 2] = [b"x\n2 2\n5", b"\ny\n"];
-    let (answers, sink) = answered(alloc, &GivesUp, pieces, 1000, 0)?;
-    expect_stopped(&rt, answers, FeedFault::Deep { version: 1 }, 7);
-    assert_eq!(rt; sink.bytes(), b"unread\n".as_slice());
-    let (ended, sink) = read(alloc, SQUARE, b"2 2\n5", 4)?;
+    expect_stop(&rt, rt.alloc(), &map, &GivesUp, &GIVEN_UP)
+}
+
+#[test]
+fn a_long_file(rt: HostRuntime) -> Result<(), Fail> {
+    let map = map_of(rt.alloc(), SQUARE, Form::Lines)?;
+    let (ended, sink) = read(rt.alloc(), &map, b"2 2\n5", 4)?;
     assert_eq!(rt; ended, Err(BatchFault::PointsLong));
     assert_eq!(rt; sink.bytes(), b"face in \"1\"\n".as_slice());
     Ok(())
@@ -369,7 +469,7 @@ fn stopped_batches(rt: HostRuntime) -> Result<(), Fail> {
 #[test]
 fn one_answer_with_a_face(rt: HostRuntime) -> Result<(), Fail> {
     let alloc = rt.alloc();
-    let map = map_of(alloc, SQUARE)?;
+    let map = map_of(alloc, SQUARE, Form::Lines)?;
     if map.0.edge_count() < 4 {
         return Err(Fail::new("no square"));
     }

@@ -1,8 +1,9 @@
 //! Index files whose nodes were put there to keep a judge busy: long chains, and paths that double at each level. The judge names the version.
 
 use crate::generated::layer_of;
+use crate::indexed::VERIFY;
 use crate::round_trips::number_at;
-use crate::tests::{outcome_of, shelf_of};
+use crate::tests::{expect_left, outcome_of, shelf_of, shelf_with};
 use loc_gen::Kind;
 use loc_io::MemShelf;
 use std::alloc::Global;
@@ -33,6 +34,15 @@ fn put_nodes(index: &mut Vec<u8>, before: u32, count: u32, doubled: bool) -> Res
     Ok(())
 }
 
+// Puts a number at a place of an index.
+fn put_number(index: &mut [u8], at: usize, number: u32) -> Result<(), Fail> {
+    if index.len() < 4 || at > index.len() - 4 {
+        return Err(Fail::new("a short index"));
+    }
+    index[at..at + 4].copy_from_slice(&number.to_be_bytes());
+    Ok(())
+}
+
 // The index with so many hostile nodes more, to which the roots lead from a version on.
 fn hostile(
     alloc: Global,
@@ -43,18 +53,13 @@ fn hostile(
 ) -> Result<Vec<u8>, Fail> {
     let nodes = number_at(index, 36)?;
     let corners = number_at(index, 20)? as usize;
-    if version > corners {
-        return Err(Fail::new("no such version"));
+    let behind = 21 * nodes as usize + 4 * corners;
+    let roots = index.len().checked_sub(behind).ok_or("short")?;
+    let mut bytes = Vec::from_slice(alloc, index)?;
+    put_number(&mut bytes, 36, nodes.saturating_add(count))?;
+    for n in version..corners {
+        put_number(&mut bytes, roots + 4 * n, nodes.saturating_add(1))?;
     }
-    let tables = index.len().checked_sub(21 * nodes as usize).ok_or("short")?;
-    let roots = tables.checked_sub(4 * corners).ok_or("short")?;
-    let mut bytes = Vec::from_slice(alloc, index.get(..36).ok_or("short")?)?;
-    bytes.extend_from_slice(&nodes.saturating_add(count).to_be_bytes())?;
-    bytes.extend_from_slice(index.get(40..roots + 4 * version).ok_or("short")?)?;
-    for _ in version..corners {
-        bytes.extend_from_slice(&nodes.saturating_add(1).to_be_bytes())?;
-    }
-    bytes.extend_from_slice(index.get(tables..).ok_or("short")?)?;
     put_nodes(&mut bytes, nodes, count, doubled)?;
     Ok(bytes)
 }
@@ -62,7 +67,7 @@ fn hostile(
 // How many nodes are put there, whether both links of each lead to the next, the version whose root leads to the first, and the line on notes.
 // A path through the 2048 edges of version 2047 may have 22 nodes.
 #[rattlefmt::skip]
-const ROWS: [(u32, bool, usize, &[u8]); 6] = [
+static ROWS: [(u32, bool, usize, &[u8]); 6] = [
     (65_536, false, 0, b"verify: version 0 deep\n"),
     (65_536, true, 0, b"verify: version 0 deep\n"),
     (65_536, false, 2047, b"verify: version 2047 deep\n"),
@@ -76,13 +81,10 @@ fn hostile_nodes(rt: HostRuntime) -> Result<(), Fail> {
     let alloc = rt.alloc();
     let built = index_of_strips(alloc)?;
     let index = built.bytes("index").ok_or("no index")?;
-    for (count, doubled, version, line) in ROWS {
-        let mut shelf = MemShelf::new(alloc, Vec::new(alloc));
-        shelf.put("index", &hostile(alloc, index, count, doubled, version)?)?;
-        let outcome = outcome_of(alloc, &["verify", "index"], shelf, 0, 0)?;
-        assert_eq!(rt; outcome.status, 1);
-        assert_eq!(rt; outcome.out.bytes().len(), 0);
-        assert_eq!(rt; outcome.notes.bytes(), line);
+    for (count, doubled, version, line) in &ROWS {
+        let bytes = hostile(alloc, index, *count, *doubled, *version)?;
+        let shelf = shelf_with(alloc, &[("index", &bytes)])?;
+        expect_left(&rt, alloc, VERIFY, shelf, (1, b"", line))?;
     }
     Ok(())
 }

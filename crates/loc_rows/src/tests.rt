@@ -2,11 +2,13 @@
 
 ghost use Rattle.std.specs.Prelude.{◌≡◌, ◌<◌};
 
+use crate::limits::repeated;
 use crate::watched::{WatchedShelf, WatchedSink};
 use loc_io::{MemShelf, MemSink};
 use loc_top::{Steps, run};
 use std::alloc::Global;
 use std::marker::Brand;
+use std::process::Abort;
 use std::sync::ledger::{Blank, Ledger};
 use std::test::Fail;
 
@@ -30,7 +32,7 @@ pub(crate) type Row = (
     &'static [u8],
 );
 
-pub(crate) const ROWS: [Row; 31] = [
+pub(crate) static ROWS: [Row; 31] = [
     (SQUARE, POINTS, "0", 0, ANSWERS, b""),
     (
         b"POLYGON((0 0,2 -2,4 0,2 2,0 0))",
@@ -256,86 +258,47 @@ pub(crate) const ROWS: [Row; 31] = [
 pub(crate) const USAGE: &[u8] =
     b"usage: locate query LAYER POINTS --scale K [--form lines|csv] [--index scan|tree|trap] [--order FILE | --shuffle N] [--faces]\n       locate check LAYER --scale K [--form lines|csv]\n       locate build LAYER INDEX --scale K [--form lines|csv]\n       locate ask INDEX POINTS\n       locate verify INDEX\n       locate face LAYER POINT --scale K [--form lines|csv]\n       locate gen KIND N SHIFT\n       locate trial KIND N SHIFT [--index scan|tree|trap]\n";
 
-// Words that are no command.
-const REFUSED: [[&str; 5]; 6] = [
-    ["query", "layer", "points", "--scale", "16"],
-    ["query", "layer", "points", "--scale", "1.5"],
-    ["query", "layer", "points", "--form", "csv"],
-    ["query", "-layer", "points", "--scale", "0"],
-    ["query", "layer", "", "--scale", "0"],
-    ["ask", "layer", "points", "--scale", "0"],
-];
-
 pub(crate) const LOTS: &[u8] =
     b"WKT,id,name\r\n\"POLYGON ((13.3775 52.5165, 13.3785 52.5165, 13.3785 52.5175, 13.3775 52.5165))\",\"Lot 7 \"\"east\"\"\",x\r\n";
 
-// The words, the layer, the status, and what stands on out and on notes.
-type CommandRow = (
-    &'static [&'static str],
-    &'static [u8],
-    u8,
-    &'static [u8],
-    &'static [u8],
-);
+// A file by its name and its bytes.
+pub(crate) type File = (&'static str, &'static [u8]);
 
-const COMMANDS: [CommandRow; 9] = [
-    (
-        &["check", "layer", "--scale", "0"],
-        SQUARE,
-        0,
-        b"features 1 corners 4 edges 4\n",
-        b"",
-    ),
-    (
-        &["check", "layer", "--form=csv", "--scale=6"],
-        LOTS,
-        0,
-        b"features 1 corners 3 edges 3\n",
-        b"",
-    ),
-    (
-        &["query", "layer", "points", "--form", "csv", "--scale", "6"],
-        LOTS,
-        0,
-        b"corner 0 on \"Lot 7 \"\"east\"\"\" in\n",
-        b"",
-    ),
-    (
-        &["query", "layer", "points", "--scale=0"],
-        SQUARE,
-        0,
-        b"unread\n",
-        b"",
-    ),
-    (
-        &["check", "layer", "--scale", "0", "--form", "csv"],
-        b"geom,id\n",
-        1,
-        b"",
-        b"layer: no wkt column\n",
-    ),
-    (
-        &["check", "layer", "--scale", "0", "--form", "csv"],
-        b"wkt,id\nPOLYGON EMPTY,a,b\n",
-        1,
-        b"",
-        b"layer row 1: fields\n",
-    ),
-    (
-        &["check", "layer", "--scale", "1"],
-        BOW_TIE,
-        1,
-        b"",
-        b"layer: edges 0.0 0.0, 4.0 4.0 and 0.0 4.0, 4.0 0.0 cross\n",
-    ),
-    (&["query", "layer", "points"], SQUARE, 2, b"", USAGE),
-    (
-        &["query", "absent", "points", "--scale", "0"],
-        SQUARE,
-        3,
-        b"",
-        b"read failed\n",
-    ),
+// The status of a run, and what stands on out and on notes.
+pub(crate) type Left<'a> = (u8, &'a [u8], &'a [u8]);
+
+// The words of a run, the files on its shelf, and what it leaves.
+pub(crate) type Run = (&'static [&'static str], &'static [File], Left<'static>);
+
+// A point of the lots.
+const PLACE: File = ("points", b"POINT (13.3775 52.5165)");
+
+// Words that are a command, and words that are none.
+#[rattlefmt::skip]
+static RUNS: [Run; 15] = [
+    (&["check", "layer", "--scale", "0"], &[("layer", SQUARE), PLACE], (0, b"features 1 corners 4 edges 4\n", b"")),
+    (&["check", "layer", "--form=csv", "--scale=6"], &[("layer", LOTS), PLACE], (0, b"features 1 corners 3 edges 3\n", b"")),
+    (&["query", "layer", "points", "--form", "csv", "--scale", "6"], &[("layer", LOTS), PLACE], (0, b"corner 0 on \"Lot 7 \"\"east\"\"\" in\n", b"")),
+    (&["query", "layer", "points", "--scale=0"], &[("layer", SQUARE), PLACE], (0, b"unread\n", b"")),
+    (&["check", "layer", "--scale", "0", "--form", "csv"], &[("layer", b"geom,id\n"), PLACE], (1, b"", b"layer: no wkt column\n")),
+    (&["check", "layer", "--scale", "0", "--form", "csv"], &[("layer", b"wkt,id\nPOLYGON EMPTY,a,b\n"), PLACE], (1, b"", b"layer row 1: fields\n")),
+    (&["check", "layer", "--scale", "1"], &[("layer", BOW_TIE), PLACE], (1, b"", b"layer: edges 0.0 0.0, 4.0 4.0 and 0.0 4.0, 4.0 0.0 cross\n")),
+    (&["query", "layer", "points"], &[("layer", SQUARE), PLACE], (2, b"", USAGE)),
+    (&["query", "absent", "points", "--scale", "0"], &[("layer", SQUARE), PLACE], (3, b"", b"read failed\n")),
+    (&["query", "layer", "points", "--scale", "16"], &[], (2, b"", USAGE)),
+    (&["query", "layer", "points", "--scale", "1.5"], &[], (2, b"", USAGE)),
+    (&["query", "layer", "points", "--form", "csv"], &[], (2, b"", USAGE)),
+    (&["query", "-layer", "points", "--scale", "0"], &[], (2, b"", USAGE)),
+    (&["query", "layer", "", "--scale", "0"], &[], (2, b"", USAGE)),
+    (&["ask", "layer", "points", "--scale", "0"], &[], (2, b"", USAGE)),
+];
+
+// The words of a query.
+pub(crate) const QUERY: &[&str] = &["query", "layer", "points", "--scale", "0"];
+
+// The words of a query by trapezoids.
+pub(crate) const BY_TRAPEZOIDS: &[&str] = &[
+    "query", "layer", "points", "--scale", "0", "--index", "trap",
 ];
 
 // A list of one call number, or of none.
@@ -353,6 +316,15 @@ fn words_of(alloc: Global, words: &[&str]) -> Result<Vec<String>, Fail> {
         all.push(String::from_str(alloc, word)?)?;
     }
     Ok(all)
+}
+
+// A shelf with these files.
+pub(crate) fn shelf_with(alloc: Global, files: &[(&str, &[u8])]) -> Result<MemShelf, Fail> {
+    let mut shelf = MemShelf::new(alloc, Vec::new(alloc));
+    for (name, bytes) in files {
+        shelf.put(name, bytes)?;
+    }
+    Ok(shelf)
 }
 
 // A shelf with a layer and points, and which of its calls fails.
@@ -422,67 +394,64 @@ pub(crate) fn outcome_of(
     })
 }
 
+// A run of these words over a shelf leaves what is wanted.
+pub(crate) fn expect_left(
+    rt: &impl Abort,
+    alloc: Global,
+    words: &[&str],
+    shelf: MemShelf,
+    left: Left,
+) -> Result<(), Fail> {
+    let (status, out, notes) = left;
+    let outcome = outcome_of(alloc, words, shelf, 0, 0)?;
+    assert_eq!(rt; outcome.status, status);
+    assert_eq!(rt; outcome.out.bytes(), out);
+    assert_eq!(rt; outcome.notes.bytes(), notes);
+    Ok(())
+}
+
+// Each of these runs leaves what is wanted.
+pub(crate) fn expect_runs(rt: &impl Abort, alloc: Global, runs: &[Run]) -> Result<(), Fail> {
+    for (words, files, left) in runs {
+        expect_left(rt, alloc, words, shelf_with(alloc, files)?, *left)?;
+    }
+    Ok(())
+}
+
+// A layer is queried by each index.
+fn expect_row(rt: &impl Abort, alloc: Global, row: &Row) -> Result<(), Fail> {
+    let (layer, points, scale, status, out, notes) = *row;
+    for index in ["scan", "tree", "trap"] {
+        let words = [
+            "query", "layer", "points", "--scale", scale, "--index", index,
+        ];
+        let shelf = shelf_of(alloc, layer, points, 0)?;
+        expect_left(rt, alloc, &words, shelf, (status, out, notes))?;
+    }
+    Ok(())
+}
+
 #[test]
 fn worked_layers(rt: HostRuntime) -> Result<(), Fail> {
-    let alloc = rt.alloc();
-    for (layer, points, scale, status, out, notes) in ROWS {
-        for index in ["scan", "tree", "trap"] {
-            let shelf = shelf_of(alloc, layer, points, 0)?;
-            let words = [
-                "query", "layer", "points", "--scale", scale, "--index", index,
-            ];
-            let outcome = outcome_of(alloc, &words, shelf, 0, 0)?;
-            assert_eq!(rt; outcome.status, status);
-            assert_eq!(rt; outcome.out.bytes(), out);
-            assert_eq!(rt; outcome.notes.bytes(), notes);
-        }
+    for row in &ROWS {
+        expect_row(&rt, rt.alloc(), row)?;
     }
-    Ok(())
-}
-
-#[test]
-fn refused_words(rt: HostRuntime) -> Result<(), Fail> {
-    let alloc = rt.alloc();
-    for words in REFUSED {
-        let outcome = outcome_of(alloc, &words, MemShelf::new(alloc, Vec::new(alloc)), 0, 0)?;
-        assert_eq!(rt; outcome.status, 2);
-        assert_eq!(rt; outcome.out.bytes().len(), 0);
-        assert_eq!(rt; outcome.notes.bytes(), USAGE);
-    }
-    Ok(())
-}
-
-#[test]
-fn long_lines(rt: HostRuntime) -> Result<(), Fail> {
-    let alloc = rt.alloc();
-    let mut points = Vec::new(alloc);
-    points.extend_from_slice(b"2 2\n\n0.12345678901234567 1\n")?;
-    for _ in 0..5000 {
-        points.push(b'a')?;
-    }
-    points.extend_from_slice(b"\n2 2")?;
-    let shelf = shelf_of(alloc, SQUARE, &points, 0)?;
-    let words = ["query", "layer", "points", "--scale", "3"];
-    let outcome = outcome_of(alloc, &words, shelf, 0, 0)?;
-    assert_eq!(rt; outcome.status, 0);
-    assert_eq!(rt;
-        outcome.out.bytes(),
-        b"face in \"1\"\nunread\nunread\nunread\nface in \"1\"\n".as_slice()
-    );
     Ok(())
 }
 
 #[test]
 fn commands(rt: HostRuntime) -> Result<(), Fail> {
-    let alloc = rt.alloc();
-    for (words, layer, status, out, notes) in COMMANDS {
-        let shelf = shelf_of(alloc, layer, b"POINT (13.3775 52.5165)", 0)?;
-        let outcome = outcome_of(alloc, words, shelf, 0, 0)?;
-        assert_eq!(rt; outcome.status, status);
-        assert_eq!(rt; outcome.out.bytes(), out);
-        assert_eq!(rt; outcome.notes.bytes(), notes);
-    }
-    Ok(())
+    expect_runs(&rt, rt.alloc(), &RUNS)
+}
+
+#[test]
+fn long_lines(rt: HostRuntime) -> Result<(), Fail> {
+    let head = b"2 2\n\n0.12345678901234567 1\n";
+    let points = repeated(rt.alloc(), head, b"a", 5000, b"\n2 2")?;
+    let shelf = shelf_of(rt.alloc(), SQUARE, &points, 0)?;
+    let words = ["query", "layer", "points", "--scale", "3"];
+    let out = b"face in \"1\"\nunread\nunread\nunread\nface in \"1\"\n";
+    expect_left(&rt, rt.alloc(), &words, shelf, (0, out, b""))
 }
 
 // Squares one in another, each a line.
@@ -498,20 +467,18 @@ fn nested(alloc: Global, count: u32) -> Result<String, Fail> {
     Ok(text)
 }
 
+// How many squares are nested, and what a query of their least corner leaves.
+static NESTED: [(u32, Left<'static>); 2] = [
+    (5792, (0, b"corner 0 on \"1\" in\n", b"")),
+    (5793, (1, b"", b"layer: covers past 16777216\n")),
+];
+
 #[test]
 fn cover_lists(rt: HostRuntime) -> Result<(), Fail> {
-    let alloc = rt.alloc();
-    for (count, status, notes) in [(5792, 0, ""), (5793, 1, "layer: covers past 16777216\n")] {
-        let shelf = shelf_of(alloc, nested(alloc, count)?.as_bytes(), b"0 0\n", 0)?;
-        let outcome = outcome_of(
-            alloc,
-            &["query", "layer", "points", "--scale", "0"],
-            shelf,
-            0,
-            0,
-        )?;
-        assert_eq!(rt; outcome.status, status);
-        assert_eq!(rt; outcome.notes.bytes(), notes.as_bytes());
+    for (count, left) in &NESTED {
+        let layer = nested(rt.alloc(), *count)?;
+        let shelf = shelf_of(rt.alloc(), layer.as_bytes(), b"0 0\n", 0)?;
+        expect_left(&rt, rt.alloc(), QUERY, shelf, *left)?;
     }
     Ok(())
 }

@@ -5,8 +5,6 @@ mod places;
 mod search;
 mod status;
 mod targets;
-#[cfg(test)]
-mod tests;
 mod vec_status;
 
 pub use status::{Beside, InsertFault, Status};

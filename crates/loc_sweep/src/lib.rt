@@ -7,8 +7,6 @@ mod fault;
 mod leaving;
 mod neighbours;
 mod notes;
-#[cfg(test)]
-mod tests;
 
 pub use corners::sweep;
 pub use fault::SweepFault;

@@ -5,8 +5,6 @@
 mod index;
 mod order;
 mod reading;
-#[cfg(test)]
-mod tests;
 mod turn;
 
 pub use index::TrapIndex;

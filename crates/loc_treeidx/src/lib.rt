@@ -6,8 +6,6 @@ pub mod laws;
 mod neighbours;
 mod node;
 mod places;
-#[cfg(test)]
-mod tests;
 mod tree_index;
 mod version;
 mod walk;

@@ -12,8 +12,6 @@ mod lists;
 mod marks;
 mod nodes;
 mod reading;
-#[cfg(test)]
-mod tests;
 mod versions;
 
 pub use fault::VerifyFault;

@@ -8,8 +8,6 @@ mod command;
 mod fault;
 mod parser;
 mod row;
-#[cfg(test)]
-mod tests;
 mod usage;
 mod values;
 mod words;
