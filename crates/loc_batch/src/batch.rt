@@ -1,10 +1,10 @@
 // A batch: the lines of a stream that comes in pieces, and their answers.
 
-ghost use Rattle.std.specs.Prelude.{◌≡◌, ◌+◌, ◌*◌, ◌≤◌, ◌^◌, None, false, true, length, IfOk};
+ghost use Rattle.std.specs.Prelude.{◌≡◌, ◌+◌, ◌*◌, ◌<◌, ◌≤◌, ◌^◌, Err, None, false, true, length, IfErr, IfOk, OnErr, OnOk};
 ghost use Rattle.loc_io.specs.Streams.{InTime};
 ghost use Rattle.loc_cover.specs.Legends.{FitsTable};
 ghost use Rattle.loc_batch.specs.Answering.{answer_by};
-ghost use Rattle.loc_batch.specs.Batches.{Ends, EndsBy, Feeds, FeedsBy, IsFresh, StaysSo, fault_or, lines_ended};
+ghost use Rattle.loc_batch.specs.Batches.{Ends, Feeds, IsFresh, StaysSo, fault_or, lines_ended, within_limit};
 ghost use Rattle.loc_batch.specs.Streams.{last_line};
 
 use crate::desk::Desk;
@@ -88,36 +88,31 @@ impl Stream {
         given
     }
 
-    // The lines that a piece ends within the limit.
-    fn write_piece<I: Locator, N: FaceNumbers, O: Sink, L: Ledger>(
-        &mut self,
-        index: &I,
-        views: &Views<'_, L>,
-        legend: &Legend,
-        faces: &N,
-        piece: &[u8],
-        sink: &mut O,
-        steps: &mut Steps<L>,
-    ) -> Result<(), FeedFault>
-        requires fits { I.fits index.now views.now }
-        requires legend { FitsTable views.now legend.now }
-        requires faces { N.fits faces.now views.now }
-        ensures feeds { FeedsBy (answer_by self.old.scale (I.finds index.now views.now) (N.shown faces.now) legend.now) self.old self.new piece.now (O.meaning sink.old) (O.meaning sink.new) result }
-        ensures in_time { InTime (O.meaning sink.old) (O.meaning sink.new) }
-        ensures stays { StaysSo self.old self.new }
-        ensures closed { self.new.closed ≡ self.old.closed }
-        ensures fault { self.new.fault ≡ self.old.fault }
-        ensures counted { steps.old ≤ steps.new }
-        ensures within { steps.new ≤ steps.old + length (lines_ended self.old piece.now) * I.most index.now views.now }
+    // So much of a piece as is within the limit.
+    fn front<'a>(&self, piece: &'a [u8]) -> &'a [u8]
+        ensures { result.now ≡ within_limit self.now piece.now }
     {
         let room = self.limit - self.fed;
         if piece.len() as u64 > room {
-            let front = &piece[..room as usize];
-            self.desk.write_lines(self.scale, index, views, legend, faces, front, sink, steps)?;
+            return &piece[..room as usize];
+        }
+        piece
+    }
+
+    // Counts so many bytes more as fed, unless their lines were not all answered, or they pass the limit.
+    fn count_fed(&mut self, given: Result<(), FeedFault>, count: usize) -> Result<(), FeedFault>
+        ensures given { IfErr given (λ fault. result ≡ Err fault) }
+        ensures within { OnOk result (self.old.fed + count ≤ self.old.limit) }
+        ensures counted { OnOk result (self.new.fed ≡ self.old.fed + count) }
+        ensures past { OnOk given (OnErr result (self.old.limit < self.old.fed + count)) }
+        ensures fault { OnOk given (IfErr result (λ fault. fault ≡ FeedFault.PointsLong)) }
+        ensures others { self.new ≡ record self.old { fed = self.new.fed } }
+    {
+        given?;
+        if count as u64 > self.limit - self.fed {
             return Err(FeedFault::PointsLong);
         }
-        self.desk.write_lines(self.scale, index, views, legend, faces, piece, sink, steps)?;
-        self.fed += piece.len() as u64;
+        self.fed += count as u64;
         Ok(())
     }
 
@@ -145,7 +140,11 @@ impl Stream {
         if let Some(fault) = self.fault {
             return Err(fault);
         }
-        let result = self.write_piece(index, views, legend, faces, piece, sink, steps);
+        let front = self.front(piece);
+        let given = self.desk.write_lines(
+            self.scale, index, views, legend, faces, front, sink, steps,
+        );
+        let result = self.count_fed(given, piece.len());
         self.noted(result)
     }
 
@@ -154,34 +153,6 @@ impl Stream {
         ensures { result ≡ self.now.tally }
     {
         self.desk.tally
-    }
-
-    // The last line, behind which nothing comes.
-    fn write_last<I: Locator, N: FaceNumbers, O: Sink, L: Ledger>(
-        &mut self,
-        index: &I,
-        views: &Views<'_, L>,
-        legend: &Legend,
-        faces: &N,
-        sink: &mut O,
-        steps: &mut Steps<L>,
-    ) -> Result<(), FeedFault>
-        requires fits { I.fits index.now views.now }
-        requires legend { FitsTable views.now legend.now }
-        requires faces { N.fits faces.now views.now }
-        ensures ends { EndsBy (answer_by self.old.scale (I.finds index.now views.now) (N.shown faces.now) legend.now) self.old self.new (O.meaning sink.old) (O.meaning sink.new) result }
-        ensures in_time { InTime (O.meaning sink.old) (O.meaning sink.new) }
-        ensures stays { StaysSo self.old self.new }
-        ensures closed { self.new.closed ≡ true }
-        ensures fault { self.new.fault ≡ self.old.fault }
-        ensures counted { steps.old ≤ steps.new }
-        ensures within { steps.new ≤ steps.old + length (last_line self.old.line) * I.most index.now views.now }
-    {
-        let result = self
-            .desk
-            .write_last(self.scale, index, views, legend, faces, sink, steps);
-        self.closed = true;
-        result
     }
 
     // The last line.
@@ -207,7 +178,10 @@ impl Stream {
         if let Some(fault) = self.fault {
             return Err(fault);
         }
-        let result = self.write_last(index, views, legend, faces, sink, steps);
+        let result = self
+            .desk
+            .write_last(self.scale, index, views, legend, faces, sink, steps);
+        self.closed = true;
         self.noted(result)
     }
 }

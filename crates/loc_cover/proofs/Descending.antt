@@ -61,3 +61,31 @@ descent_end t below numbers first last path down known = record {
   begins = λ _. down.begins;
   ends = λ none. absurd (let some = down.some in omega arith);
 }
+
+module _ {t : Table} {below numbers : List (Option ℕ)} {first : ℕ} {path : List ℕ} (rest : List ℕ) (next : ℕ) (way : IsPath t below numbers first path) (is : path ≡ rest ++ next ∷ []) where
+  size : length path ≡ length rest + 1
+  size = ap length is ∙ length-append rest (next ∷ [])
+
+  last : (i : ℕ) → i ≡ length rest → get_or path i 0 ≡ next
+  last i same = ap (λ xs. get_or xs i 0) is ∙ (ap (λ k. get_or (rest ++ next ∷ []) k 0) same ∙ get_or-append_seam rest next [] 0)
+
+  before : (i : ℕ) → i < length rest → get_or path i 0 ≡ get_or rest i 0
+  before i old = ap (λ xs. get_or xs i 0) is ∙ get_or_append_left rest (next ∷ []) 0 i old
+
+  -- the last edge of a path is one of the table, and what is under it is known
+  pub last_within : next < length t.ends
+  last_within = subst (λ n. n < length t.ends) (last (length rest) refl) (way.within (length rest) (omega (arith, size)))
+
+  pub known_under_last : IsKnownUnder numbers (get_or below next None)
+  known_under_last = subst (λ n. IsKnownUnder numbers (get_or below n None)) (last (length rest) refl) (way.foot (length rest) (sym size))
+
+  -- once its list is known, the edges before it are a path
+  pub path_shorter : (more : List (Option ℕ)) → get_or more next None ≢ None → IsPath t below more first rest
+  path_shorter more known = record {
+    within = λ i fits. subst (λ n. n < length t.ends) (before i fits) (way.within i (omega (arith, size)));
+    links = λ i fits. (ap (λ n. get_or below n None) (sym (before i (omega arith))) ∙ (way.links i (omega (arith, size)) ∙ ap (λ n. Some n) (before (i + 1) fits)));
+    foot = λ i at. (let under = ap (λ n. get_or below n None) (sym (before i (omega (arith, at)))) ∙ (way.links i (omega (arith, size, at)) ∙ ap (λ n. Some n) (last (i + 1) at)) in
+        subst (IsKnownUnder more) (sym under) known);
+    begins = λ some. (sym (before 0 some) ∙ way.begins (omega (arith, size)));
+    ends = λ none. (let begins : next ≡ first = sym (last 0 (sym none)) ∙ way.begins (omega (arith, size)) in subst (λ n. get_or more n None ≢ None) begins known);
+  }

@@ -9,7 +9,8 @@ use Rattle.std.proofs.lemmas.List.Folds.{list_all-append, list_any-append, list_
 use Rattle.loc_spec_plane.specs.declared.Mark.{Mark}
 use Rattle.loc_spec_plane.specs.Lists.{exactly_one, is_in, is_rising, IsRisingListOf}
 use Rattle.loc_spec_plane.specs.Tables.{mark_before}
-use Rattle.loc_laws_order.proofs.Sets.{all_weaker, or_none}
+use Rattle.loc_laws_order.proofs.Sets.{all_joined, all_weaker}
+use Rattle.loc_laws_order.proofs.Booleans.{or_none}
 use Rattle.loc_laws_order.proofs.TableOrder.{rises}
 use Rattle.loc_laws_order.proofs.Unique.{all-at}
 use Rattle.loc_laws_rays.proofs.Parity.{exactly_one_assoc}
@@ -19,10 +20,6 @@ use Rattle.loc_cover.specs.Exchanges.{IsExchange, is_marked_odd}
 -- of both parts of a list
 pub all_parts : {X : Type 0} (p : X → Bool) (xs ys : List X) → list_all p (xs ++ ys) ≡ true → (list_all p xs ≡ true) × (list_all p ys ≡ true)
 all_parts p xs ys h = and_parts (list_all p xs) (list_all p ys) (sym (list_all-append p xs ys) ∙ h)
-
--- of a list made of two parts
-pub all_joined : {X : Type 0} (p : X → Bool) (xs ys : List X) → list_all p xs ≡ true → list_all p ys ≡ true → list_all p (xs ++ ys) ≡ true
-all_joined p xs ys h k = list_all-append p xs ys ∙ and_from _ _ h k
 
 -- what is below a number is below each greater one
 pub all_below : (a b : ℕ) (xs : List ℕ) → a ≤ b → list_all (λ x. nat_lt x a) xs ≡ true → list_all (λ x. nat_lt x b) xs ≡ true

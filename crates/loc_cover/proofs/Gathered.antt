@@ -12,12 +12,11 @@ use Rattle.std.proofs.lemmas.List.Folds.{list_all-map, list_any-append, list_any
 use Rattle.loc_spec_plane.specs.declared.Mark.{Mark}
 use Rattle.loc_spec_plane.specs.Lists.{is_in, is_rising, numbers, IsRisingListOf}
 use Rattle.loc_spec_plane.specs.Tables.{Table, ends_at, edge_numbers, has, hi_of, lo_of, mark_before}
-use Rattle.loc_laws_order.proofs.Sets.{or_none}
+use Rattle.loc_laws_order.proofs.Booleans.{or_none, same-from_both}
 use Rattle.loc_laws_order.proofs.TableOrder.{numbers_within}
 use Rattle.loc_laws_order.proofs.Unique.{all-at}
 use Rattle.loc_laws_rays.proofs.Covering.{any-found}
 use Rattle.loc_laws_rays.proofs.Members.{in_range, is_in-filter}
-use Rattle.loc_laws_rays.proofs.Parity.{same-from_both}
 use Rattle.loc_edges.specs.Ending.{IsBeginning}
 use Rattle.loc_edges.proofs.SortedSet.{IsOrderBy}
 use Rattle.loc_cover.proofs.Lexicographic.{any_map}

@@ -11,9 +11,9 @@ use Rattle.loc_spec_plane.specs.Covers.{is_at_or_under, is_over}
 use Rattle.loc_laws_rays.specs.Laws.{is_over_at}
 use Rattle.loc_laws_order.proofs.AliveAt.{lower_passes}
 use Rattle.loc_laws_order.proofs.Sides.{lower-asym, before_irrefl}
-use Rattle.loc_laws_order.proofs.Sets.{or_none}
+use Rattle.loc_laws_order.proofs.Booleans.{or_none, same-from_both}
 use Rattle.loc_laws_order.proofs.TableOrder.{edge_up}
-use Rattle.loc_laws_rays.proofs.Parity.{odd_many-exactly_one, odd_many-same, same-from_both, exactly_one-false}
+use Rattle.loc_laws_rays.proofs.Parity.{odd_many-exactly_one, odd_many-same, exactly_one-false}
 use Rattle.loc_laws_rays.proofs.Along.{parity_along}
 
 module _ (t : Table) (ok : IsTable t) (apart : NoConflict t) where

@@ -9,7 +9,7 @@ use Rattle.loc_spec_plane.specs.Tables.{Table, edge_numbers}
 use Rattle.loc_spec_plane.specs.Covers.{cover_above, cover_lists}
 use Rattle.loc_laws_order.proofs.TableOrder.{numbers_within}
 use Rattle.loc_laws_rays.proofs.Covering.{any-found}
-use Rattle.loc_laws_rays.proofs.Parity.{same-from_both}
+use Rattle.loc_laws_order.proofs.Booleans.{same-from_both}
 use Rattle.loc_edges.proofs.SortedSet.{same-sorted_set}
 use Rattle.loc_cover.specs.Legends.{IsFew}
 use Rattle.loc_cover.specs.Numbered.{IsNumbered, covers_of}

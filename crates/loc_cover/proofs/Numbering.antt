@@ -11,7 +11,7 @@ use Rattle.loc_spec_plane.specs.Tables.{Table, IsTable, AllEnds, AllEven, NoConf
 use Rattle.loc_spec_plane.specs.Places.{IsJustBelow}
 use Rattle.loc_spec_plane.specs.Covers.{cover_above, cover_lists, cover_of_floor, feature_count, is_over, list_before}
 use Rattle.loc_laws_order.proofs.Kept.{numbers_rise, rising_kept}
-use Rattle.loc_laws_order.proofs.Sets.{or_none}
+use Rattle.loc_laws_order.proofs.Booleans.{or_none}
 use Rattle.loc_laws_order.proofs.Unique.{rising-unique}
 use Rattle.loc_laws_rays.proofs.Members.{in_cover}
 use Rattle.loc_laws_rays.proofs.Parity.{exactly_one-false}

@@ -17,7 +17,8 @@ use Rattle.loc_spec_plane.specs.Covers.{list_before}
 use Rattle.loc_edges.proofs.SortedSet.{rising-sorted_set}
 use Rattle.loc_cover.specs.Legends.{most_members}
 use Rattle.loc_cover.specs.Stores.{StoreRows, IsStore, is_among, lists_in, lists_of}
-use Rattle.loc_cover.proofs.Exchanging.{all_below, all_joined, all_parts}
+use Rattle.loc_laws_order.proofs.Sets.{all_joined}
+use Rattle.loc_cover.proofs.Exchanging.{all_below, all_parts}
 use Rattle.loc_cover.proofs.Lexicographic.{lists_by_before, lists_ranked, sorted_set-rising}
 
 -- ---- how many lists there are

@@ -8,7 +8,7 @@ use Rattle.loc_spec_plane.specs.Points.{Point, Edge, before, same_point, edge_be
 use Rattle.loc_spec_plane.specs.Lists.{with_member, sorted_set}
 use Rattle.loc_spec_plane.specs.Rings.{Ring, Rings, ring_segments, segments, segment_between}
 use Rattle.loc_spec_plane.specs.Tables.{layer_segments, layer_corners, pieces_of, whole}
-use Rattle.loc_laws_order.proofs.Sets.{or_true}
+use Rattle.loc_laws_order.proofs.Booleans.{or_true}
 use Rattle.loc_edges.specs.Kept.{written_points}
 use Rattle.loc_edges.specs.Layers.{ends_of}
 use Rattle.loc_edges.proofs.Orders.{points_by_before}
@@ -90,7 +90,7 @@ few_corners layer =
     absorb false false h = refl
 
 -- a ring has no more segments than points
-few_ring_segments : (ring : Ring) → length (ring_segments ring) ≤ length ring
+pub few_ring_segments : (ring : Ring) → length (ring_segments ring) ≤ length ring
 few_ring_segments [] = omega arith
 few_ring_segments (a ∷ []) = omega arith
 few_ring_segments (a ∷ b ∷ ps) = elim (cases_Bool (same_point a b)) [

@@ -10,11 +10,11 @@ use Rattle.loc_spec_plane.specs.Points.{Point, Edge, before, same_point, same_ed
 use Rattle.loc_spec_plane.specs.Lists.{numbers, exactly_one, odd_many, is_rising}
 use Rattle.loc_spec_plane.specs.Rings.{Ring, Rings, ring_segments, segments, segment_between}
 use Rattle.loc_spec_plane.specs.Tables.{mark_before, table_of, table_by, corner, ends_at, has_odd, edge_marks, mark_of, whole, pieces_of, layer_segments, layer_corners, AllEnds, AllEven}
-use Rattle.loc_laws_order.proofs.Sets.{and_none, or_none, or_true}
+use Rattle.loc_laws_order.proofs.Booleans.{and_none, and_true, or_none, or_true}
 use Rattle.loc_laws_order.proofs.Sides.{same_point-true, same_point_refl}
 use Rattle.loc_laws_order.proofs.Tests.{same_edge_decides}
 use Rattle.loc_laws_order.proofs.TableOrder.{is_end_is, origin_point}
-use Rattle.loc_laws_rays.proofs.Parity.{and_true, exactly_one_chain, exactly_one_comm, exactly_one_same, exactly_one-false, odd_many-exactly_one, odd_many-same, odd_many-append, never}
+use Rattle.loc_laws_rays.proofs.Parity.{exactly_one_chain, exactly_one_comm, exactly_one_same, exactly_one-false, odd_many-exactly_one, odd_many-same, odd_many-append, never}
 use Rattle.loc_rings.specs.Values.{IsRing}
 use Rattle.loc_edges.specs.Layers.{ends_of}
 use Rattle.loc_edges.proofs.Layers.{pieces_of-whole, pieces_rise, corners_from_edges, any-ends_of}

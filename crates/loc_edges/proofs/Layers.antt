@@ -7,7 +7,7 @@ use Rattle.loc_spec_plane.specs.Points.{Point, Edge, before, edge_before}
 use Rattle.loc_spec_plane.specs.Lists.{is_rising, sorted_set}
 use Rattle.loc_spec_plane.specs.Rings.{Rings}
 use Rattle.loc_spec_plane.specs.Tables.{layer_segments, layer_corners, pieces_of, whole}
-use Rattle.loc_laws_order.proofs.Sets.{or_assoc}
+use Rattle.loc_laws_order.proofs.Booleans.{or_assoc}
 use Rattle.loc_edges.specs.Layers.{ends_of}
 use Rattle.loc_edges.proofs.Orders.{points_by_before, edges_by_before}
 use Rattle.loc_edges.proofs.SortedSet.{rising-sorted_set, any-sorted_set, same-sorted_set}

@@ -11,7 +11,7 @@ use Rattle.loc_spec_plane.specs.Points.{Point, Edge, before, same_point, same_ed
 use Rattle.loc_spec_plane.specs.Lists.{is_rising, odd_many}
 use Rattle.loc_spec_plane.specs.Rings.{Ring, Rings, ring_segments, segments, segment_between}
 use Rattle.loc_spec_plane.specs.Tables.{IsTable, table_of, table_by, corner, edge, lo_of, hi_of, layer_segments, layer_corners, pieces_of, whole, number_of, edge_marks, mark_of, pair_before, mark_before}
-use Rattle.loc_laws_order.proofs.Sets.{or_true}
+use Rattle.loc_laws_order.proofs.Booleans.{or_true}
 use Rattle.loc_laws_order.proofs.Sides.{before_irrefl, before-asym_test, same_point-true, same_point_refl}
 use Rattle.loc_laws_order.proofs.TableOrder.{all_from, rises, origin_point}
 use Rattle.loc_edges.specs.Kept.{AreEdges, written_points}

@@ -12,10 +12,9 @@ use Rattle.loc_spec_plane.specs.Rays.{crosses_right}
 use Rattle.loc_spec_plane.specs.Rings.{Rings, segments, touches, covers}
 use Rattle.loc_spec_plane.specs.Tables.{table_of, table_by, edge, edge_marks, edge_numbers, has, has_odd, whole, pieces_of, layer_segments, touches_by_marks, covers_by_marks}
 use Rattle.loc_spec_plane.specs.Covers.{feature_count}
-use Rattle.loc_laws_order.proofs.Sets.{or_none}
+use Rattle.loc_laws_order.proofs.Booleans.{and_swap, and_true, or_none, same-from_both}
 use Rattle.loc_laws_order.proofs.Tests.{same_edge_decides}
 use Rattle.loc_laws_rays.proofs.Members.{feature_count_within}
-use Rattle.loc_laws_rays.proofs.Parity.{and_swap, and_true, same-from_both}
 use Rattle.loc_edges.proofs.Even.{any_by_number, by_edges, mark_passes, marks_from, odd_by_number, piece_odd, segments_part}
 use Rattle.loc_edges.proofs.Layers.{pieces_of-whole, pieces_rise}
 use Rattle.loc_edges.proofs.MarkRows.{is_hit}

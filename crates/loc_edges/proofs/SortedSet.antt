@@ -10,7 +10,8 @@ use Rattle.std.proofs.lemmas.Cmp.{by_ranked}
 use Rattle.std.proofs.lemmas.List.Kept.{IsStrictlySortedBy-dedup}
 use Rattle.std.proofs.lemmas.List.Sorted.{list_any-IsPermutation}
 use Rattle.loc_spec_plane.specs.Lists.{is_rising, sorted_set}
-use Rattle.loc_laws_order.proofs.Sets.{or_twice, set_of}
+use Rattle.loc_laws_order.proofs.Sets.{set_of}
+use Rattle.loc_laws_order.proofs.Booleans.{or_twice}
 use Rattle.loc_laws_order.proofs.Unique.{one_rising}
 
 -- ---- equal neighbours dropped

@@ -1,5 +1,5 @@
 -- What a table of numbers keeps beside its value: `AreEdges` and `IsKept`; and the points of a layer.
-use Rattle.std.specs.Prelude.{◌≡◌, ℕ, ◌<◌, ◌≤◌, ◌^◌, List, length, map, slice_index_or}
+use Rattle.std.specs.Prelude.{◌≡◌, ℕ, ◌<◌, List, length, map, slice_index_or}
 use Rattle.std.specs.List.{flat_map}
 use Rattle.loc_spec_plane.specs.Points.{Point, Edge}
 use Rattle.loc_spec_plane.specs.Rings.{Rings}

@@ -6,7 +6,7 @@ use Rattle.loc_spec_plane.specs.Tables.{Table, IsTable}
 use Rattle.loc_spec_plane.specs.Places.{lower_of}
 use Rattle.loc_spec_plane.specs.HalfEdges.{half_edge_count, cycle, edge_of, target}
 use Rattle.loc_spec_plane.specs.Faces.{hangs, least_corner}
-use Rattle.loc_laws_rays.proofs.Parity.{same-from_both}
+use Rattle.loc_laws_order.proofs.Booleans.{same-from_both}
 use Rattle.loc_half.specs.HalfEdgeLists.{HalfEdgeLists, AreHalfEdges, leader_in, next_in}
 use Rattle.loc_faces.specs.Cycles.{AreHanging, AreLeast, passes_low}
 use Rattle.loc_faces.proofs.Leaders.{leads_within, on_same, same_on, any_member, member_any}

@@ -11,7 +11,7 @@ use Rattle.loc_spec_plane.specs.HalfEdges.{half_edge_count, cycle, leader}
 use Rattle.loc_spec_plane.specs.Faces.{hangs, leads_face}
 use Rattle.loc_laws_order.proofs.Kept.{numbers_rise, rising_kept}
 use Rattle.loc_laws_rays.proofs.Members.{in_numbers, is_in-filter}
-use Rattle.loc_laws_rays.proofs.Parity.{same-from_both}
+use Rattle.loc_laws_order.proofs.Booleans.{same-from_both}
 use Rattle.loc_half.specs.HalfEdgeLists.{HalfEdgeLists, AreHalfEdges, next_in}
 use Rattle.loc_half.proofs.Orbits.{cycle_differs, in_cycle, leader_within, leads_itself, same_cycle}
 use Rattle.loc_half.proofs.Permuting.{AllDiffer, differ_from_rising}

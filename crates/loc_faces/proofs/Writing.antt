@@ -1,13 +1,12 @@
 -- Texts that are written one after the other.
-use Rattle.std.proofs.Common.{◌≡◌, ℕ, List, [], ◌++◌, Result, Ok, Err, sym, ◌∙◌, subst, arith, ap, ◌+◌, ◌<◌, ◌∷◌, length, get_or, take, drop, take-append-drop, append_assoc, append-nil, ℤ, of_z, to_z}
+use Rattle.std.proofs.Common.{◌≡◌, ℕ, List, [], ◌++◌, Result, Ok, Err, sym, ◌∙◌, subst, ap, ◌+◌, ◌<◌, ◌∷◌, length, get_or, take, drop, take-append-drop, append_assoc, append-nil, ℤ, of_z, to_z}
 use Rattle.std.specs.List.{flat_map}
 use Rattle.std.proofs.lemmas.Grind.{flat_map-append}
 use Rattle.std.proofs.lemmas.List.{take_more}
-use Rattle.std.proofs.lemmas.Int.{ints, to_z-of_z}
 use Rattle.std.specs.Int.{w64}
-use borrow.Author.Differences.{fits_in}
 use Rattle.loc_spec_plane.specs.Points.{OnGrid}
 use Rattle.loc_spec_text.specs.Points.{grid_text}
+use Rattle.loc_geom.proofs.Grid.{grid_back}
 use Rattle.loc_io.specs.declared.sink.WriteFault.{WriteFault}
 use Rattle.loc_io.specs.Causes.{HasCause}
 use Rattle.loc_io.specs.Streams.{Stream, TakesAll}
@@ -48,10 +47,6 @@ stop {o = o} {m = m} {a = a} b is fails p =
 -- a text that was written, by the result that says so
 pub took : {o m : Stream} {a : List ℕ} {first : Answer} {x : Unit {0}} → first ≡ Ok x → TakesAll a o m first → Took a o m
 took {o = o} {m = m} {a = a} is p = subst (λ r. TakesAll a o m r) is p
-
--- a coordinate is read back from its 64 bits
-grid_back : (v : ℤ) → OnGrid v → to_z w64 (of_z w64 v) ≡ v
-grid_back v on = to_z-of_z w64 v (fits_in w64 v (omega (arith, ints)))
 
 -- a coordinate that was written as 64 bits
 pub same_value : (scale : ℕ) (v w : ℤ) {o m : Stream} {r : Answer} → OnGrid v → v ≡ w → TakesAll (grid_text scale (to_z w64 (of_z w64 v))) o m r → TakesAll (grid_text scale w) o m r

@@ -1,6 +1,6 @@
 -- The parts of a file as a table and a legend, and back.
 use Rattle.std.proofs.Common.{◌≡◌, ℕ, zero, suc, ◌-◌, ◌^◌, ◌<◌, ◌≤◌, true, List, [], ◌∷◌, length, map, get_or, refl, sym, ◌∙◌, ap, subst, arith}
-use Rattle.std.specs.Prelude.{Option, IfSome, All, nat_lt}
+use Rattle.std.specs.Prelude.{IfSome, All, nat_lt}
 use Rattle.std.proofs.lemmas.List.{length-map, get_or_read}
 use Rattle.loc_spec_plane.specs.Lists.{is_rising, numbers}
 use Rattle.loc_spec_plane.specs.Points.{Point, before}
@@ -13,6 +13,7 @@ use Rattle.loc_cover.specs.Legends.{LegendRows, FitsTable, AreLists}
 use Rattle.loc_laws_index.proofs.RightRows.{IsEdgeIn}
 use Rattle.loc_laws_index.proofs.FileFacts.{Facts, facts}
 use Rattle.loc_laws_index.proofs.HeldTable.{file_holds_table}
+use Rattle.loc_laws_index.proofs.AgreeTable.{content-same}
 use Rattle.loc_file.specs.declared.edges.EdgeOf.{EdgeOf}
 use Rattle.loc_file.specs.Rows.{own}
 use Rattle.loc_file.specs.Keeping.{edge_rows, marks_from, content_of, IsHeld}
@@ -128,13 +129,8 @@ module _ (c : Content) (es : List EdgeOf) (ends : List (ℕ × ℕ)) (above : Li
   unfolding table_in
   table-is = same-table _ _ _ _ _ _ refl (ends_are ∙ (sym (own-ends es) ∙ ap (λ l. map (λ (e : EdgeRow). e.ends) l) (sym edges_are))) (ap (λ n. map (row_of c.marks) (numbers n)) as_many_ends)
 
-  same-content : (a a' : ℕ) (b b' : List (List ℕ)) (d d' : List Point) (e e' : List EdgeRow) (f f' : List (ℕ × Mark)) (g g' : List (List ℕ)) (h h' : List (Option ℕ)) (i i' : List ℕ) (j j' : List NodeRow)
-      → a ≡ a' → b ≡ b' → d ≡ d' → e ≡ e' → f ≡ f' → g ≡ g' → h ≡ h' → i ≡ i' → j ≡ j'
-      → ◌≡◌ {A = Content} (record { scale = a; ids = b; corners = d; edges = e; marks = f; covers = g; floors = h; roots = i; nodes = j }) (record { scale = a'; ids = b'; corners = d'; edges = e'; marks = f'; covers = g'; floors = h'; roots = i'; nodes = j' })
-  same-content a a' b b' d d' e e' f f' g g' h h' i i' j j' p q r s t u v w x = cc
-
   pub content-is : (t : Table) (l : LegendRows) (scale : ℕ) → t ≡ table_of_parts c.corners ends c.marks → l.ids ≡ c.ids → l.lists ≡ c.covers → l.above ≡ above → l.floors ≡ c.floors → scale ≡ c.scale → content_of scale t l c.roots c.nodes ≡ c
-  content-is t l scale table ids lists above_is floors scale_is = same-content _ _ _ _ _ _ _ _ _ _ _ _ _ _ _ _ _ _ scale_is ids (ap (λ (k : Table). k.corners) table)
+  content-is t l scale table ids lists above_is floors scale_is = content-same _ _ _ _ _ _ _ _ _ _ _ _ _ _ _ _ _ _ scale_is ids (ap (λ (k : Table). k.corners) table)
       (ap (λ (k : Table). edge_rows k.ends l.above) table ∙ (ap (edge_rows ends) (above_is ∙ above_are) ∙ (ap (λ ps. edge_rows ps (map (λ (e : EdgeOf). e.cover) es)) ends_are ∙ (zipped es ∙ sym edges_are))))
       (ap (λ (k : Table). marks_from 0 k.marks) table ∙ marks-flat (length ends) c.marks F.marks_go_up marks-on-ends)
       lists floors refl refl

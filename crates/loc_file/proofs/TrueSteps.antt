@@ -10,7 +10,7 @@ use Rattle.loc_spec_plane.specs.Tables.{Table, IsTable, corner, edge, edge_numbe
 use Rattle.loc_spec_plane.specs.Places.{alive, alive_at, is_edge}
 use Rattle.loc_spec_index.specs.Content.{Content, table_in, root_of}
 use Rattle.loc_spec_index.specs.TrueIndex.{alive_count as count_at}
-use Rattle.loc_laws_index.proofs.FlawKinds.{as_many}
+use Rattle.loc_laws_index.proofs.FlawKinds.{as_many, as_many_corners}
 use Rattle.loc_place.specs.Standing.{IsBehind}
 use Rattle.loc_place.proofs.Behind.{alive_is}
 use Rattle.loc_status.proofs.AtCorner.{alive_at_corner}
@@ -46,10 +46,6 @@ counted f g same (n ∷ ns) = ap (λ b. length (cond b (n ∷ filter f ns) (filt
 count-same : (t : Table) → IsTable t → (p : Point) (i : ℕ) → IsBehind t p (suc i) → alive_count t p ≡ count_at t i
 count-same t ok p i behind = counted (alive_at t p) (alive_at t (corner t i)) (alive-same t ok p i behind) (edge_numbers t) ∙ length-filter (alive_at t (corner t i)) (edge_numbers t)
 
-corners-of : (c : Content) → length (table_in c).corners ≡ length c.corners
-unfolding table_in
-corners-of c = refl
-
 module _ (c : Content) (t : Table) (s : IsIndexFor c t) where
   shallow-at : (i : ℕ) → i < length c.corners → 2 ^ depth_from c.nodes i 42 (root_of c i) ≤ (count_at t i + 1) * (count_at t i + 1)
   shallow-at i lt =
@@ -80,7 +76,7 @@ module _ (c : Content) (t : Table) (s : IsIndexFor c t) where
         let down : suc i - 1 ≡ i = omega arith in
         let w : steps ≤ middle + depth_from c.nodes i 42 (root_of c i) = subst (λ k. steps ≤ middle + depth_from c.nodes k 42 (root_of c k)) down walked in
         let within = behind.within in
-        let n = ap (λ (u : Table). length u.corners) s.table_is ∙ corners-of c in
+        let n = ap (λ (u : Table). length u.corners) s.table_is ∙ as_many_corners c in
         let h = shallow-at i (omega (arith, within, n)) in
         let same = count-same t s.in_order p i behind in
         let bound : 2 ^ depth_from c.nodes i 42 (root_of c i) ≤ (alive_count t p + 1) * (alive_count t p + 1) = subst (λ k. 2 ^ depth_from c.nodes i 42 (root_of c i) ≤ (k + 1) * (k + 1)) (sym same) h in

@@ -1,45 +1,13 @@
 -- What does not depend on the order of two points or edges.
-use Rattle.std.proofs.Common.{◌≡◌, Bool, true, false, not, ◌&&◌, ◌||◌, refl, sym, ◌∙◌, ap, arith, ℤ, pos, ◌-ℤ◌, int_lt, inl, inr}
+use Rattle.std.proofs.Common.{◌≡◌, true, false, not, ◌&&◌, sym, ◌∙◌, ap, arith, ℤ, pos, ◌-ℤ◌, int_lt, inl, inr}
 use Rattle.std.proofs.lemmas.Int.{ints}
 use Rattle.std.proofs.lemmas.Bool.{cases_Bool, and_parts, not_from_false, false_from_ne_true}
 use Rattle.std.proofs.lemmas.Bool.Decides.{Decides-int_eq}
 use Rattle.std.specs.Ordering.{int_eq}
-use Rattle.loc_spec_plane.specs.Points.{Point, Edge, same_point, same_edge, ends_inside, touch, is_parted, conflict, turn, is_above, is_on, is_below}
+use Rattle.loc_spec_plane.specs.Points.{Point, Edge, same_point, turn, is_above, is_on, is_below}
 use Rattle.loc_spec_plane.specs.Places.{lower}
 use Rattle.loc_laws_order.proofs.Sides.{turn_swap, same_point-true, lower-asym}
-use Rattle.loc_laws_order.proofs.Tests.{same_edge_decides}
-
--- two tests that follow from each other are one
-same-from_both : (a b : Bool) → (a ≡ true → b ≡ true) → (b ≡ true → a ≡ true) → a ≡ b
-same-from_both true b to back = sym (to refl)
-same-from_both false true to back = back refl
-same-from_both false false to back = refl
-
--- or, either way round
-or_swap : (a b : Bool) → (a || b) ≡ (b || a)
-or_swap true true = refl
-or_swap true false = refl
-or_swap false true = refl
-or_swap false false = refl
-
--- and, either way round
-and_swap : (a b : Bool) → (a && b) ≡ (b && a)
-and_swap true true = refl
-and_swap true false = refl
-and_swap false true = refl
-and_swap false false = refl
-
--- one edge, either way round
-same_edge_swap : (a b : Edge) → same_edge a b ≡ same_edge b a
-same_edge_swap a b = same-from_both _ _ (λ h. (same_edge_decides b a).1 (sym ((same_edge_decides a b).0 h))) (λ h. (same_edge_decides a b).1 (sym ((same_edge_decides b a).0 h)))
-
--- a touch, either way round
-pub touch_swap : (a b : Edge) → touch a b ≡ touch b a
-touch_swap a b = or_swap (ends_inside a b) (ends_inside b a)
-
--- a conflict, either way round
-pub conflict_swap : (a b : Edge) → conflict a b ≡ conflict b a
-conflict_swap a b = cc (same_edge_swap a b, touch_swap a b, and_swap (is_parted a b) (is_parted b a))
+use Rattle.loc_laws_order.proofs.Booleans.{same-from_both}
 
 -- of the negative of a number the signs are exchanged
 less_flip : (m n : ℤ) → m ≡ pos 0 -ℤ n → int_lt (pos 0) m ≡ int_lt n (pos 0)

@@ -14,7 +14,7 @@ use Rattle.loc_laws_order.proofs.Sets.{all_weaker}
 use Rattle.loc_laws_order.proofs.TableOrder.{numbers_within, rises}
 use Rattle.loc_laws_order.proofs.Unique.{all-at}
 use Rattle.loc_laws_rays.proofs.Members.{in_numbers, is_in-filter}
-use Rattle.loc_laws_rays.proofs.Parity.{same-from_both}
+use Rattle.loc_laws_order.proofs.Booleans.{same-from_both}
 use Rattle.loc_edges.specs.Ending.{IsBeginning}
 use Rattle.loc_half.specs.Turns.{stands_at, AreEdgesAt}
 

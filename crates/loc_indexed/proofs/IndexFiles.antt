@@ -14,7 +14,7 @@ use Rattle.loc_spec_index.specs.Content.{Content, table_in}
 use Rattle.loc_spec_index.specs.IndexFile.{IsFileOf}
 use Rattle.loc_spec_index.specs.TrueIndex.{IsIndexOf, IsTrueIndex}
 use Rattle.loc_laws_index.specs.IndexReading.{AreBytes, reading}
-use Rattle.loc_laws_order.proofs.Sides.{same_point-true, same_point_refl}
+use Rattle.loc_laws_order.proofs.Tests.{same_point_decides}
 use Rattle.loc_rings.specs.Values.{Feature, rings_of}
 use Rattle.loc_indexed.specs.Building.{is_content_for, is_index_text, is_read_for, same_mark, same_pair, same_table}
 use Rattle.loc_indexed.specs.Builds.{IsIndexFileOf}
@@ -50,9 +50,6 @@ pairs_decide a b = (
   λ same. subst (λ (x : ℕ × ℕ). same_pair a x ≡ true) same (and_from (a.0 == a.0) (a.1 == a.1) (eq-eqb a.0 a.0 refl) (eq-eqb a.1 a.1 refl)),
 )
 
-points_decide : (a b : Point) → Decides (same_point a b) (a ≡ b)
-points_decide a b = (same_point-true a b, λ same. subst (λ (x : Point). same_point a x ≡ true) same (same_point_refl a))
-
 rows_decide : (xs ys : List Mark) → Decides (pointwise same_mark xs ys) (xs ≡ ys)
 rows_decide xs ys = slice_eq-Decides marks_decide xs ys (pointwise same_mark xs ys) refl
 
@@ -65,9 +62,9 @@ tables_decide : (s t : Table) → Decides (same_table s t) (s ≡ t)
 tables_decide s t = (
   λ is. (let first = and_parts (pointwise same_point s.corners t.corners) _ is in
       let second = and_parts (pointwise same_pair s.ends t.ends) _ first.1 in
-      by_parts s t ((slice_eq-Decides points_decide s.corners t.corners _ refl).0 first.0) ((slice_eq-Decides pairs_decide s.ends t.ends _ refl).0 second.0) ((slice_eq-Decides rows_decide s.marks t.marks _ refl).0 second.1)),
+      by_parts s t ((slice_eq-Decides same_point_decides s.corners t.corners _ refl).0 first.0) ((slice_eq-Decides pairs_decide s.ends t.ends _ refl).0 second.0) ((slice_eq-Decides rows_decide s.marks t.marks _ refl).0 second.1)),
   λ same. subst (λ (x : Table). same_table s x ≡ true) same
-      (and_from (pointwise same_point s.corners s.corners) _ ((slice_eq-Decides points_decide s.corners s.corners _ refl).1 refl)
+      (and_from (pointwise same_point s.corners s.corners) _ ((slice_eq-Decides same_point_decides s.corners s.corners _ refl).1 refl)
       (and_from (pointwise same_pair s.ends s.ends) _ ((slice_eq-Decides pairs_decide s.ends s.ends _ refl).1 refl) ((slice_eq-Decides rows_decide s.marks s.marks _ refl).1 refl))),
 )
 

@@ -1,6 +1,6 @@
 -- What comes of a course in which a file is made by a test of its text.
 use Rattle.std.proofs.Common.{◌≡◌, ◌≢◌, ◌≤◌, Bool, true, false, List, length, Option, Ok, Err, refl}
-use Rattle.std.specs.Prelude.{IsTrue, cond, codes}
+use Rattle.std.specs.Prelude.{IsTrue, cond}
 use Rattle.std.proofs.lemmas.Bool.{cond_both, ltb-false, not_from_false}
 use Rattle.loc_spec_text.specs.Bytes.{Text}
 use Rattle.loc_io.specs.Meaning.{Meaning}

@@ -4,7 +4,6 @@ use Rattle.std.specs.Prelude.{◌^◌, nat_lt, option_map, unwrap_or, Result, co
 use Rattle.std.specs.List.{list_any}
 use Rattle.std.proofs.Math.Path.{fun_ext}
 use Rattle.std.proofs.lemmas.Bool.{and_left, and_parts, and_right, cases_lt, false_from_ne_true, ltb-true, true≢false}
-use Rattle.std.proofs.lemmas.List.{length-map}
 use Rattle.std.proofs.lemmas.List.Elements.{filter_agree}
 use Rattle.std.proofs.lemmas.List.FromFn.{get_or-map-range_with_len, length-map-range_with_len}
 use Rattle.loc_spec_text.specs.Bytes.{Text}
@@ -19,9 +18,10 @@ use Rattle.loc_spec_plane.specs.Rays.{crosses_right}
 use Rattle.loc_spec_plane.specs.Rings.{Rings, covers, touches}
 use Rattle.loc_spec_plane.specs.Tables.{IsTable, Table, corner, covers_by_marks, edge, edge_numbers, has, has_odd, table_of, touches_by_marks}
 use Rattle.loc_spec_text.specs.Points.{answer_text, answer_to, ended, in_face, no_point, on_border, on_corner, point_of}
-use Rattle.loc_spec_index.specs.Content.{Content, EdgeRow, search_in, table_in}
+use Rattle.loc_spec_index.specs.Content.{Content, search_in, table_in}
 use Rattle.loc_spec_index.specs.IndexFile.{IsFileOf}
 use Rattle.loc_spec_index.specs.TrueIndex.{IsIndexOf, IsTrueIndex}
+use Rattle.loc_laws_index.proofs.FlawKinds.{as_many, as_many_corners}
 use Rattle.loc_laws_index.proofs.HeldTable.{file_holds_table}
 use Rattle.loc_laws_order.proofs.Kept.{rising_kept}
 use Rattle.loc_laws_rays.proofs.Covering.{cover_law}
@@ -99,14 +99,6 @@ module _ (c : Content) (bytes : Text) (file : IsFileOf 1 c bytes) (is_true : IsT
   few : length c.edges ≤ 2 ^ 21
   few = let k = (facts c bytes file).few_edges in omega (arith, k)
 
-  as_many_ends : length (table_in c).ends ≡ length c.edges
-  unfolding table_in
-  as_many_ends = length-map c.edges (λ (x : EdgeRow). x.ends)
-
-  as_many_corners : length (table_in c).corners ≡ length c.corners
-  unfolding table_in
-  as_many_corners = refl
-
   -- its rows are of its table, and its lists and floors are true
   fits : FitsTable (table_in c) (rows_in c)
   unfolding rows_in
@@ -119,11 +111,11 @@ module _ (c : Content) (bytes : Text) (file : IsFileOf 1 c bytes) (is_true : IsT
 
   above_is : (e : ℕ) → e < length (table_in c).ends → list_above (rows_in c) e ≡ cover_above (table_in c) e
   unfolding rows_in
-  above_is e less = is_true.covers e (omega (arith, less, as_many_ends))
+  above_is e less = is_true.covers e (omega (arith, less, as_many c))
 
   floor_is : (n : ℕ) → n < length (table_in c).corners → IsFloor (table_in c) (corner (table_in c) n) (get_or (rows_in c).floors n None)
   unfolding rows_in
-  floor_is n less = is_true.floors n (omega (arith, less, as_many_corners))
+  floor_is n less = is_true.floors n (omega (arith, less, as_many_corners c))
 
   over_is : (p : Point) (floor : Option ℕ) → IsFloor (table_in c) p floor → list_over (rows_in c) floor ≡ cover_of_floor (table_in c) floor
   over_is p None is = refl

@@ -1,17 +1,17 @@
 -- How many edges and marks the table of a layer has: no more of either than the layer has points, since each mark stands for a segment.
-use Rattle.std.proofs.Common.{◌≡◌, ℕ, suc, ◌+◌, ◌≤◌, Bool, true, false, cond, ◌||◌, List, [], ◌∷◌, length, map, refl, sym, ◌∙◌, ap, subst, inl, inr, arith, length-append}
+use Rattle.std.proofs.Common.{◌≡◌, ℕ, ◌+◌, ◌≤◌, Bool, true, false, cond, ◌||◌, List, [], ◌∷◌, length, map, refl, sym, ◌∙◌, ap, subst, inl, inr, arith, length-append}
 use Rattle.std.specs.Prelude.{sum_by}
 use Rattle.std.specs.List.{list_all, list_any, cons_option, flat_map}
 use Rattle.std.proofs.lemmas.Bool.{and_parts, both_ways, cases_Bool, cond-true, cond-false, false_from_ne_true, or_cases, true≢false}
 use Rattle.std.proofs.lemmas.List.Sums.{sum_by-cons}
 use Rattle.loc_spec_plane.specs.Lists.{is_rising}
-use Rattle.loc_spec_plane.specs.Points.{Edge, edge_before, same_edge, same_point}
+use Rattle.loc_spec_plane.specs.Points.{Edge, edge_before, same_edge}
 use Rattle.loc_spec_plane.specs.Rings.{Ring, Rings, ring_segments, segments}
 use Rattle.loc_spec_plane.specs.Tables.{edge_marks, pieces_of, table_by, table_of, whole}
 use Rattle.loc_laws_order.proofs.Tests.{same_edge_decides}
 use Rattle.loc_edges.specs.Kept.{written_points}
 use Rattle.loc_edges.specs.Layers.{layer_rings}
-use Rattle.loc_edges.proofs.Counts.{few_edges}
+use Rattle.loc_edges.proofs.Counts.{few_edges, few_ring_segments}
 use Rattle.loc_edges.proofs.Layers.{pieces_rise}
 use Rattle.loc_edges.proofs.MarkRows.{is_hit}
 use Rattle.loc_edges.proofs.Ordered.{as_many_ends}
@@ -19,7 +19,7 @@ use Rattle.loc_edges.proofs.Orders.{edges_by_before}
 use Rattle.loc_edges.proofs.SmallLayers.{few_written_points}
 use Rattle.loc_edges.proofs.SortedSet.{irrefl}
 use Rattle.loc_laws_built.specs.Built.{LayerFits}
-use Rattle.loc_laws_built.proofs.Marked.{marks_from}
+use Rattle.loc_edges.proofs.Even.{marks_from}
 
 -- ---- sums over edges
 
@@ -105,22 +105,12 @@ few_hits (s ∷ ss) es rise =
 
 -- ---- segments and points
 
-few_of_ring : (ring : Ring) → length (ring_segments ring) ≤ length ring
-few_of_ring [] = omega arith
-few_of_ring (p ∷ []) = omega arith
-few_of_ring (p ∷ q ∷ ps) =
-    let rest = few_of_ring (q ∷ ps) in
-    elim (cases_Bool (same_point p q)) [
-      | inl same ↦ (let is : length (ring_segments (p ∷ q ∷ ps)) ≡ length (ring_segments (q ∷ ps)) = ap length (cond-true _ _ _ same) in omega (arith, is, rest))
-      | inr other ↦ (let is : length (ring_segments (p ∷ q ∷ ps)) ≡ suc (length (ring_segments (q ∷ ps))) = ap length (cond-false _ _ _ other) in omega (arith, is, rest))
-    ]
-
 few_of_feature : (rings : Rings) → length (segments rings) ≤ length (flat_map (λ (ring : Ring). ring) rings)
 few_of_feature [] = omega arith
 few_of_feature (ring ∷ rings) =
     let a = length-append (ring_segments ring) (segments rings) in
     let b = length-append ring (flat_map (λ (r : Ring). r) rings) in
-    let here = few_of_ring ring in
+    let here = few_ring_segments ring in
     let rest = few_of_feature rings in
     omega (arith, a, b, here, rest)
 

@@ -1,24 +1,21 @@
 -- Every edge of the table of a layer has a mark: it is a segment of some feature.
 use Rattle.std.proofs.Common.{◌≡◌, ◌≢◌, ℕ, ◌+◌, ◌<◌, true, false, ◌||◌, List, [], ◌∷◌, length, get_or, refl, sym, ◌∙◌, ap, subst, inl, inr, arith}
-use Rattle.std.specs.List.{list_any, filter_map, enumerate_from, cons_option}
+use Rattle.std.specs.List.{list_any, cons_option}
 use Rattle.std.proofs.lemmas.Bool.{cases_Bool, cond-true, cond-false, or_left, true≢false}
 use Rattle.std.proofs.lemmas.List.{get_or-map}
 use Rattle.std.proofs.lemmas.List.Folds.{list_any-append, list_any_at}
 use Rattle.loc_spec_plane.specs.declared.Mark.{Mark}
 use Rattle.loc_spec_plane.specs.Points.{Edge, same_edge}
 use Rattle.loc_spec_plane.specs.Rings.{Rings, segments}
-use Rattle.loc_spec_plane.specs.Tables.{edge_marks, layer_segments, mark_of, pieces_of, table_by, table_of, whole}
+use Rattle.loc_spec_plane.specs.Tables.{edge_marks, layer_segments, pieces_of, table_by, table_of, whole}
 use Rattle.loc_laws_order.proofs.Tests.{same_edge_decides}
 use Rattle.loc_laws_order.proofs.TableOrder.{origin_point}
+use Rattle.loc_edges.proofs.Even.{marks_from}
 use Rattle.loc_edges.proofs.Layers.{pieces_of-whole}
 use Rattle.loc_edges.proofs.MarkRows.{is_hit}
 use Rattle.loc_edges.proofs.Ordered.{as_many_ends}
 use Rattle.loc_edges.proofs.Orders.{edges_by_before}
 use Rattle.loc_edges.proofs.SortedSet.{any-sorted_set}
-
--- the marks of an edge in a layer whose first feature has this number
-abbrev pub marks_from : Edge → ℕ → List Rings → List Mark
-marks_from e a layer = filter_map (λ (numbered : ℕ × Rings). mark_of whole e numbered.0 (segments numbered.1)) (enumerate_from a layer)
 
 -- a list with a first member is not empty
 not_empty : {X : Type 0} (x : X) (xs ys : List X) → ys ≡ x ∷ xs → ys ≢ []

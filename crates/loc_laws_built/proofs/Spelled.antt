@@ -4,9 +4,9 @@ use Rattle.std.specs.Prelude.{All, nat_lt}
 use Rattle.std.specs.Int.{byte_at, byte_len, bytes_high_first, cast_unsigned, w32, w64}
 use Rattle.std.specs.List.{flat_map, list_all}
 use Rattle.std.proofs.lemmas.Bool.{and_from, and_parts, lt-ltb, ltb-true}
-use Rattle.std.proofs.lemmas.List.Folds.{list_all-append}
 use Rattle.loc_spec_index.specs.Content.{Content}
 use Rattle.loc_spec_index.specs.IndexFile.{Field, magic, version, number, coordinate, text, order, fields, spelled, spelled_all, rows_from, id_fields, corner_fields, edge_fields, mark_fields, cover_fields, node_fields, none_or_next, parts}
+use Rattle.loc_laws_order.proofs.Sets.{all_joined}
 use Rattle.loc_laws_index.specs.IndexReading.{AreBytes}
 use Rattle.loc_laws_index.proofs.Progress.{flat-rows, map-rows}
 use Rattle.loc_laws_built.specs.Built.{BytesOf}
@@ -52,20 +52,17 @@ spelled_small (coordinate value) small = number_small 8 (cast_unsigned w64 value
 spelled_small (text bytes) small = small
 spelled_small (order part row holds) small = refl
 
-joined : {X : Type 0} (p : X → Bool) (xs ys : List X) → list_all p xs ≡ true → list_all p ys ≡ true → list_all p (xs ++ ys) ≡ true
-joined p xs ys first second = list_all-append p xs ys ∙ and_from (list_all p xs) (list_all p ys) first second
-
 all_spelled : (fs : List Field) → list_all is_small fs ≡ true → are_small (spelled_all fs) ≡ true
 all_spelled [] small = refl
 all_spelled (f ∷ fs) small =
     let parts = and_parts (is_small f) (list_all is_small fs) small in
-    joined (λ b. nat_lt b 256) (spelled f) (spelled_all fs) (spelled_small f parts.0) (all_spelled fs parts.1)
+    all_joined (λ b. nat_lt b 256) (spelled f) (spelled_all fs) (spelled_small f parts.0) (all_spelled fs parts.1)
 
 -- ---- rows
 
 from : {X : Type 0} (row : List X → X → List Field) → ((earlier : List X) (x : X) → list_all is_small (row earlier x) ≡ true) → (earlier xs : List X) → list_all is_small (rows_from row earlier xs) ≡ true
 from row each earlier [] = refl
-from row each earlier (x ∷ xs) = joined is_small (row earlier x) (rows_from row (earlier ++ x ∷ []) xs) (each earlier x) (from row each (earlier ++ x ∷ []) xs)
+from row each earlier (x ∷ xs) = all_joined is_small (row earlier x) (rows_from row (earlier ++ x ∷ []) xs) (each earlier x) (from row each (earlier ++ x ∷ []) xs)
 
 mapped : {X : Type 0} (f : X → Field) → ((x : X) → is_small (f x) ≡ true) → (xs : List X) → list_all is_small (map f xs) ≡ true
 mapped f each xs = ap (list_all is_small) (sym (map-rows f [] xs)) ∙ from (λ _ x. f x ∷ []) (λ _ x. and_from (is_small (f x)) true (each x) refl) [] xs
@@ -76,16 +73,16 @@ flat row each xs = ap (list_all is_small) (sym (flat-rows row [] xs)) ∙ from (
 ids_small : (ids : List (List ℕ)) → All AreBytes ids → list_all is_small (flat_map id_fields ids) ≡ true
 ids_small [] are = refl
 ids_small (id ∷ ids) are =
-    joined is_small (id_fields id) (flat_map id_fields ids) (and_from (are_small id) true (small_are id (are 0 id (omega arith))) refl) (ids_small ids (λ i d lt. are (suc i) d (omega (arith, lt))))
+    all_joined is_small (id_fields id) (flat_map id_fields ids) (and_from (are_small id) true (small_are id (are 0 id (omega arith))) refl) (ids_small ids (λ i d lt. are (suc i) d (omega (arith, lt))))
 
 cover_small : (features : ℕ) (earlier : List (List ℕ)) (list : List ℕ) → list_all is_small (cover_fields features earlier list) ≡ true
-cover_small features earlier list = joined is_small (map (number w32 features) list) _ (mapped (number w32 features) (λ n. refl) list) refl
+cover_small features earlier list = all_joined is_small (map (number w32 features) list) _ (mapped (number w32 features) (λ n. refl) list) refl
 
 parts_small : (ps : List (List Field)) → list_all (λ part. list_all is_small part) ps ≡ true → list_all is_small (flat_map (λ part. part) ps) ≡ true
 parts_small [] small = refl
 parts_small (part ∷ ps) small =
     let both = and_parts (list_all is_small part) (list_all (λ part. list_all is_small part) ps) small in
-    joined is_small part (flat_map (λ part. part) ps) both.0 (parts_small ps both.1)
+    all_joined is_small part (flat_map (λ part. part) ps) both.0 (parts_small ps both.1)
 
 fields_small : (c : Content) → All AreBytes c.ids → list_all is_small (fields 1 c) ≡ true
 unfolding fields

@@ -1,5 +1,5 @@
 -- A content of the table, the legend and the versions of a layer is a true index of it.
-use Rattle.std.proofs.Common.{◌≡◌, ◌≢◌, ℕ, ◌+◌, ◌*◌, ◌^◌, ◌<◌, ◌≤◌, true, false, List, [], length, get_or, Option, None, refl, sym, ◌∙◌, ap, subst, arith}
+use Rattle.std.proofs.Common.{◌≡◌, ◌≢◌, ℕ, ◌+◌, ◌*◌, ◌^◌, ◌<◌, ◌≤◌, true, false, List, [], length, get_or, Option, None, sym, ◌∙◌, ap, subst, arith}
 use Rattle.std.specs.Prelude.{IsTrue}
 use Rattle.std.proofs.lemmas.Bool.{both_ways, ltb-true, not_from_false, not-true, false_from_ne_true, lt-ltb}
 use Rattle.std.proofs.lemmas.List.Sums.{length-filter}
@@ -10,7 +10,7 @@ use Rattle.loc_spec_plane.specs.Places.{IsFloor, IsVersion, alive_at}
 use Rattle.loc_spec_plane.specs.Covers.{cover_above}
 use Rattle.loc_spec_plane.specs.Lists.{is_in}
 use Rattle.loc_spec_index.specs.declared.NodeRow.{NodeRow}
-use Rattle.loc_spec_index.specs.Content.{Content, cover_numbers, floor_of_corner, root_of, table_in}
+use Rattle.loc_spec_index.specs.Content.{Content, cover_numbers, floor_of_corner, root_of}
 use Rattle.loc_spec_index.specs.Nodes.{IsShallow, is_deep}
 use Rattle.loc_spec_index.specs.TrueIndex.{IsIndexOf, IsTrueIndex, IsTrueVersion, alive_count, is_on_source}
 use Rattle.loc_edges.proofs.Ordered.{table_of-is_table}
@@ -19,15 +19,11 @@ use Rattle.loc_persist.proofs.ByNumber.{rows_by_number_read}
 use Rattle.loc_treeidx.proofs.Standing.{listed_count, square_rises}
 use Rattle.loc_cover.specs.Legends.{LegendRows}
 use Rattle.loc_write.specs.Written.{HoldsParts, IsContentOf}
-use Rattle.loc_laws_index.proofs.FlawKinds.{as_many}
+use Rattle.loc_laws_index.proofs.FlawKinds.{as_many, as_many_corners}
 use Rattle.loc_laws_index.proofs.OwnSources.{on_source}
 use Rattle.loc_laws_built.specs.Built.{ContentIsTrue, IsPlaneOf}
 use Rattle.loc_laws_built.proofs.Marked.{every_marked}
 use Rattle.loc_laws_built.proofs.Named.{every_named}
-
-corners-of : (c : Content) → length (table_in c).corners ≡ length c.corners
-unfolding table_in
-corners-of c = refl
 
 -- what is not too long for some edges is not for more
 fewer_shallow : (rows : List NodeRow) (i n k l : ℕ) → k ≤ l → IsShallow rows i n k → IsShallow rows i n l
@@ -50,7 +46,7 @@ module _ (scale : ℕ) (layer : List Rings) (rows : LegendRows) (m : VersionsMea
   within e lt = let a = as_many c in let b = ap (λ (u : Table). length u.ends) holds.table in omega (arith, lt, a, b)
 
   there : (n : ℕ) → n < length c.corners → n < length t.corners
-  there n lt = let a = corners-of c in let b = ap (λ (u : Table). length u.corners) holds.table in omega (arith, lt, a, b)
+  there n lt = let a = as_many_corners c in let b = ap (λ (u : Table). length u.corners) holds.table in omega (arith, lt, a, b)
 
   covers_are : c.covers ≡ rows.lists
   covers_are = ap (λ (x : Content). x.covers) of.parts

@@ -103,3 +103,8 @@ module _ (c : Content) where
   pub as_many : length (table_in c).ends ≡ length c.edges
   unfolding table_in
   as_many = length-map c.edges (λ (e : EdgeRow). e.ends)
+
+  -- and as many corners
+  pub as_many_corners : length (table_in c).corners ≡ length c.corners
+  unfolding table_in
+  as_many_corners = refl

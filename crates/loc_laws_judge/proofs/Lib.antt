@@ -3,7 +3,6 @@ mod Differences
 pub mod First
 mod FirstSome
 mod Floors
-mod InOrder
 mod OfKind
 mod Pairs
 mod ReadWithin

@@ -9,7 +9,7 @@ use Rattle.loc_spec_plane.specs.Tables.{Table, AllEven, NoConflict, edge, edge_n
 use Rattle.loc_spec_plane.specs.Covers.{feature_count}
 use Rattle.loc_laws_rays.proofs.Members.{feature_below, has-from_odd}
 use Rattle.loc_laws_rays.proofs.Parity.{never, odd_many-same}
-use Rattle.loc_laws_traps.proofs.Joined.{conflict_back, conflict_none}
+use Rattle.loc_laws_order.proofs.Tests.{conflict_none, conflict_swap}
 use Rattle.loc_spec_index.specs.Content.{Content, table_in}
 use Rattle.loc_spec_index.specs.Flaws.{Flaw, uneven, conflicting}
 use Rattle.loc_spec_index.proofs.Refutes.{no_uneven, no_conflicting}
@@ -79,7 +79,7 @@ module _ (c : Content) where
     | inl same ↦ subst (λ k. conflict (edge (table_in c) a) (edge (table_in c) k) ≡ false) same (conflict_none (edge (table_in c) a))
     | inr apart ↦ elim apart [
       | inl less ↦ none_found h a b la lb less
-      | inr more ↦ conflict_back (edge (table_in c) b) (edge (table_in c) a) (none_found h b a lb la more)
+      | inr more ↦ conflict_swap (edge (table_in c) a) (edge (table_in c) b) ∙ none_found h b a lb la more
     ]
   ]
 

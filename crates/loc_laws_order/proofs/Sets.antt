@@ -1,40 +1,11 @@
 -- Tests of the members of lists, and sorted sets of what is in order.
-use Rattle.std.proofs.Common.{◌≡◌, ℕ, Bool, true, false, ◌||◌, ◌&&◌, List, [], ◌∷◌, refl, sym, ◌∙◌, ap, inl, inr}
+use Rattle.std.proofs.Common.{◌≡◌, ℕ, Bool, true, false, ◌||◌, List, [], ◌∷◌, ◌++◌, refl, sym, ◌∙◌, ap, inl, inr}
 use Rattle.std.specs.Prelude.{◌==◌}
 use Rattle.std.specs.List.{list_any, list_all}
 use Rattle.std.proofs.lemmas.Bool.{and_parts, and_from, or_cases, or_left, or_right, cases_Bool, cases_eq, eq-eqb, ne_eqb, cond-true, cond-false}
+use Rattle.std.proofs.lemmas.List.Folds.{list_all-append}
 use Rattle.loc_spec_plane.specs.Lists.{is_rising, with_member, sorted_set}
-
--- or, with a second part that fails
-pub or_none : (a : Bool) → (a || false) ≡ a
-or_none true = refl
-or_none false = refl
-
--- or, with a second part that holds
-pub or_true : (a : Bool) → (a || true) ≡ true
-or_true true = refl
-or_true false = refl
-
--- or, with the parts joined otherwise
-pub or_assoc : (a b c : Bool) → (a || (b || c)) ≡ ((a || b) || c)
-or_assoc true b c = refl
-or_assoc false b c = refl
-
--- and, with a second part that fails
-pub and_none : (a : Bool) → (a && false) ≡ false
-and_none true = refl
-and_none false = refl
-
--- or, with the first two exchanged
-pub or_swap : (a b c : Bool) → (a || (b || c)) ≡ (b || (a || c))
-or_swap true true c = refl
-or_swap true false c = refl
-or_swap false b c = refl
-
--- or, with one part said twice
-pub or_twice : (a b : Bool) → (a || (a || b)) ≡ (a || b)
-or_twice true b = refl
-or_twice false b = refl
+use Rattle.loc_laws_order.proofs.Booleans.{or_exchange, or_twice}
 
 -- a test of two numbers, either way
 pub number_swap : (m n : ℕ) → (m == n) ≡ (n == m)
@@ -54,6 +25,10 @@ any_some p (x ∷ xs) h = elim (or_cases (p x) (list_any p xs) h) [ inl here ↦
 pub all_weaker : {X : Type 0} (p q : X → Bool) → ((x : X) → p x ≡ true → q x ≡ true) → (xs : List X) → list_all p xs ≡ true → list_all q xs ≡ true
 all_weaker p q weaker [] h = refl
 all_weaker p q weaker (x ∷ xs) h = let parts = and_parts (p x) (list_all p xs) h in and_from (q x) _ (weaker x parts.0) (all_weaker p q weaker xs parts.1)
+
+-- what all of two lists pass all of the lists together pass
+pub all_joined : {X : Type 0} (p : X → Bool) (xs ys : List X) → list_all p xs ≡ true → list_all p ys ≡ true → list_all p (xs ++ ys) ≡ true
+all_joined p xs ys first second = list_all-append p xs ys ∙ and_from (list_all p xs) (list_all p ys) first second
 
 module _ {X : Type 0} (comes_before : X → X → Bool) where
   -- a test that x and all members pass is passed by all of the list with x
@@ -97,7 +72,7 @@ module _ {X : Type 0} (comes_before : X → X → Bool) where
     any-with_member p x (y ∷ ys) hx hs = let heres = and_parts (here y) (list_all here ys) hs in elim (cases_Bool (comes_before x y)) [
       | inl first ↦ ap (list_any p) (cond-true _ _ _ first)
       | inr not_first ↦ elim (cases_Bool (comes_before y x)) [
-        | inl later ↦ ap (list_any p) (cond-false _ _ _ not_first ∙ cond-true _ _ _ later) ∙ (ap (λ b. p y || b) (any-with_member p x ys hx heres.1) ∙ or_swap (p y) (p x) (list_any p ys))
+        | inl later ↦ ap (list_any p) (cond-false _ _ _ not_first ∙ cond-true _ _ _ later) ∙ (ap (λ b. p y || b) (any-with_member p x ys hx heres.1) ∙ or_exchange (p y) (p x) (list_any p ys))
         | inr not_later ↦ ap (list_any p) (cond-false _ _ _ not_first ∙ cond-false _ _ _ not_later) ∙ (sym (or_twice (p y) (list_any p ys)) ∙ ap (λ b. b || (p y || list_any p ys)) (ap p (sym (same x y hx heres.0 not_first not_later))))
       ]
     ]

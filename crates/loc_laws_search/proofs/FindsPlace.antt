@@ -28,7 +28,7 @@ use Rattle.loc_place.proofs.Listed.{listed_alive, in_area}
 use Rattle.loc_place.proofs.Versions.{version_there}
 use Rattle.loc_treeidx.specs.Gaps.{IsLast}
 use Rattle.loc_treeidx.proofs.Descents.{last-snoc, last-passes, last_there}
-use Rattle.loc_laws_index.proofs.FlawKinds.{as_many}
+use Rattle.loc_laws_index.proofs.FlawKinds.{as_many, as_many_corners}
 use Rattle.loc_laws_search.proofs.Counted.{stands-behind, is-corner}
 use Rattle.loc_laws_search.proofs.Walking.{walk-none, walk-on, walk-left, walk-right, below-else}
 
@@ -162,10 +162,6 @@ few-alive c i =
     let e = as_many c in
     omega (arith, n, l, e)
 
-as-many-corners : (c : Content) → length (table_in c).corners ≡ length c.corners
-unfolding table_in
-as-many-corners c = refl
-
 module _ (c : Content) (ok : IsTable (table_in c)) (holds : IsTrueIndex c) (few : length c.edges ≤ 2 ^ 21) (p : Point) where
   abbrev t : Table
   t = table_in c
@@ -175,7 +171,7 @@ module _ (c : Content) (ok : IsTable (table_in c)) (holds : IsTrueIndex c) (few 
 
   read : (i : ℕ) → i < length t.corners → (l : List ℕ) × IsRead c i l
   read i lt =
-      let n = as-many-corners c in
+      let n = as_many_corners c in
       let v = holds.versions i (omega (arith, lt, n)) in
       let k = few-alive c i in
       (v.list, record { is_version = v.is_version; reads = v.reads; fits = shallow-fits c.nodes i (root_of c i) (alive_count t i) (omega (arith, k, few)) v.shallow })

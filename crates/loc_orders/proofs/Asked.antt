@@ -1,5 +1,5 @@
 -- How far reading an order comes along a course.
-use Rattle.std.proofs.Common.{◌≡◌, ℕ, Bool, List, Option, Some, None, Result, Ok, Err, refl, sym, subst}
+use Rattle.std.proofs.Common.{◌≡◌, ℕ, Bool, List, Some, Result, Ok, Err, refl, sym, subst}
 use Rattle.loc_spec_text.specs.Bytes.{Text}
 use Rattle.loc_spec_text.specs.Points.{ended}
 use Rattle.loc_course.specs.Courses.{Source, Course, reads, refuses, refused}
@@ -9,6 +9,9 @@ use Rattle.loc_course.proofs.Told.{exactly_it}
 use Rattle.loc_trapdag.specs.Orders.{IsFaultOf, order_of}
 use Rattle.loc_trapdag.specs.declared.order.OrderFault.{OrderFault}
 use Rattle.loc_trapdag.specs.declared.order.OrderFault.TheVariants.{NotNumber, OutOfRange, Twice, Missing, NoMemory}
+use Rattle.loc_spec_asked.specs.Orders.{AskedOrder, in_file, shuffled_from}
+use Rattle.loc_orders.specs.declared.given.GivenOrder.{GivenOrder}
+use Rattle.loc_orders.specs.declared.given.GivenOrder.TheVariants.{Read, Shuffled}
 use Rattle.loc_orders.specs.OrderCourses.{asked_course, order_in}
 use Rattle.loc_orders.specs.OrderTexts.{order_fault_text, order_stop}
 
@@ -30,8 +33,8 @@ pub order_all : (P : Course → Type 0) → ((passes : Text → Bool) → P (ref
 order_all P refused_so (Ok order) next behind = behind order
 order_all P refused_so (Err fault) next behind = refused_so (exactly (ended (order_fault_text fault)))
 
--- and where that holds behind a file that is read, of the course that reads the order's file where it is named
+-- and where that holds behind a file that is read, of the course that reads the order's file where it is asked for
 pub asked_all : (P : Course → Type 0) → ((passes : Text → Bool) → P (refuses passes)) → ((s : Source) (next : Text → Course) → ((text : Text) → P (next text)) → P (reads s next))
-    → (name : Option Text) (edges : ℕ) (next : Option (List ℕ) → Course) → ((order : Option (List ℕ)) → P (next order)) → P (asked_course name edges next)
-asked_all P refused_so reads_so None edges next behind = behind None
-asked_all P refused_so reads_so (Some name) edges next behind = reads_so _ _ (λ text. order_all P refused_so (order_of edges text) (λ order. next (Some order)) (λ order. behind (Some order)))
+    → (order : AskedOrder) (edges : ℕ) (next : GivenOrder → Course) → ((given : GivenOrder) → P (next given)) → P (asked_course order edges next)
+asked_all P refused_so reads_so (in_file name) edges next behind = reads_so _ _ (λ text. order_all P refused_so (order_of edges text) (λ order. next (Read order)) (λ order. behind (Read order)))
+asked_all P refused_so reads_so (shuffled_from number) edges next behind = behind (Shuffled number)

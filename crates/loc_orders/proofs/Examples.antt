@@ -1,5 +1,5 @@
 -- Examples, computed: the order texts of the four edges of a square, and the lines that refuse some of them.
-use Rattle.std.proofs.Common.{◌≡◌, List, [], ◌∷◌, Ok, Err, refl, codes}
+use Rattle.std.proofs.Common.{◌≡◌, [], ◌∷◌, Ok, Err, refl, codes}
 use Rattle.std.specs.Fmt.{digits}
 use Rattle.loc_trapdag.specs.Orders.{order_of}
 use Rattle.loc_trapdag.specs.declared.order.OrderFault.TheVariants.{NotNumber, OutOfRange, Twice, Missing}

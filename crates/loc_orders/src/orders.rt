@@ -1,17 +1,21 @@
 //! The order's file.
 
-ghost use Rattle.std.specs.Prelude.{◌≤◌, IfOk, IfSome, List, Option, ℕ, length, option_map};
+ghost use Rattle.std.specs.Prelude.{◌≤◌, IfOk, List, ℕ, length};
+ghost use Rattle.loc_spec_asked.specs.Orders.{asked_order};
 ghost use Rattle.loc_io.specs.Streams.{Stream};
 ghost use Rattle.loc_course.specs.Courses.{Course};
 ghost use Rattle.loc_course.specs.Following.{Moment, moment};
 ghost use Rattle.loc_course.specs.Stops.{GoesOn};
 ghost use Rattle.loc_maps.specs.MapCourses.{limit};
 ghost use Rattle.loc_trapdag.specs.Orders.{IsOrder, order_of};
-ghost use Rattle.loc_orders.specs.OrderCourses.{asked_course, order_course, order_in};
+ghost use Rattle.loc_orders.specs.OrderCourses.{IsGivenOrder, asked_course, order_course, order_in};
+ghost use Rattle.loc_orders.specs.declared.given.GivenOrder.{GivenOrder};
 
+use crate::given::GivenOrder;
 use crate::lines::order_stop_of;
 use loc_course::{Stop, read_source};
 use loc_io::Shelf;
+use loc_spec_asked::EdgeOrder;
 use loc_trapdag::Order;
 use std::alloc::Global;
 
@@ -39,18 +43,18 @@ fn read_order<F: Shelf>(alloc: Global, shelf: &mut F, name: &str, edges: u32) ->
     read_order_in(alloc, &text, edges)
 }
 
-/// Reads the file of an order of so many edges, where one is named.
+/// Reads the file of an order of so many edges, where one is asked for.
 pub fn read_order_file<F: Shelf>(
     alloc: Global,
     shelf: &mut F,
-    name: Option<&str>,
+    order: EdgeOrder<'_>,
     edges: u32,
-) -> Result<Option<Order>, Stop>
-    ensures goes_on { (next : Option (List ℕ) → Course) (o : Stream) (k : ℕ) → GoesOn (asked_course (option_map (λ s. s.now) name.entry) edges next) (moment (F.meaning shelf.old) o k) next (moment (F.meaning shelf.new) o k) result }
-    ensures permutation { IfOk result (λ order. IfSome order (IsOrder edges)) }
+) -> Result<GivenOrder, Stop>
+    ensures goes_on { (next : GivenOrder → Course) (o : Stream) (k : ℕ) → GoesOn (asked_course (asked_order order.entry) edges next) (moment (F.meaning shelf.old) o k) next (moment (F.meaning shelf.new) o k) result }
+    ensures permutation { IfOk result (IsGivenOrder edges) }
 {
-    match name {
-        Some(name) => Ok(Some(read_order(alloc, shelf, name, edges)?)),
-        None => Ok(None),
+    match order {
+        EdgeOrder::File(name) => Ok(GivenOrder::Read(read_order(alloc, shelf, name, edges)?)),
+        EdgeOrder::Shuffled(number) => Ok(GivenOrder::Shuffled(number)),
     }
 }

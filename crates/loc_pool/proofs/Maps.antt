@@ -1,6 +1,7 @@
 -- What the words on maps say of one another.
-use Rattle.std.proofs.Common.{ℕ, zero, suc, Some, length, ◌≡◌, ◌≢◌, Bool, true, false, cond, ◌||◌, List, [], ◌∷◌, ◌++◌, refl, sym, ap, ◌∙◌, true≢false}
+use Rattle.std.proofs.Common.{ℕ, zero, suc, Some, length, ◌≡◌, ◌≢◌, true, false, cond, ◌||◌, List, [], ◌∷◌, ◌++◌, refl, sym, ap, ◌∙◌, true≢false}
 use Rattle.std.specs.List.{AllByRecursion}
+use Rattle.std.proofs.lemmas.Bool.{or_parts, or_right}
 use Rattle.std.specs.Prelude.{slice_get}
 use Rattle.loc_pool.specs.declared.Link.{Link}
 use Rattle.loc_pool.specs.Rows.{AreNames, no_link}
@@ -35,10 +36,6 @@ cut d (c ∷ cs) l h = (elim (same c.0 l) as (λ b. same c.0 l ≡ b → Cut d (
     gone = ap (λ b. cond b cs (c ∷ without cs l)) e ∙ ap (λ ds. c ∷ ds) k.gone;
   }
 ]) refl
-
-not_first : (b d : Bool) → (b || d) ≡ false → (b ≡ false) × (d ≡ false)
-not_first true d e = absurd (cc e)
-not_first false d e = (refl, e)
 
 pub links-put : {A : Type 0} → (cs : Map A) (l : Link) (x : A) → links (put cs l x) ≡ links cs
 unfolding links put
@@ -79,22 +76,18 @@ pub value_or-append : {A : Type 0} → (d : A) (cs : Map A) (l : Link) (x : A) �
 unfolding has value_or
 value_or-append d [] l x e = ap (λ b. cond b x d) (same-refl l)
 value_or-append d (c ∷ cs) l x e =
-    let t = not_first (same c.0 l) (has cs l) e in
+    let t = or_parts (same c.0 l) (has cs l) e in
     ap (λ b. cond b c.1 (value_or d (cs ++ (l, x) ∷ []) l)) t.0 ∙ value_or-append d cs l x t.1
 
-or_true : (b c : Bool) → c ≡ true → (b || c) ≡ true
-or_true true c e = refl
-or_true false c e = e
-
 pub has-last : {A : Type 0} → (cs : Map A) (l : Link) (x : A) → has (cs ++ (l, x) ∷ []) l ≡ true
-has-last cs l x = has-append cs l x l ∙ or_true (has cs l) (same l l) (same-refl l)
+has-last cs l x = has-append cs l x l ∙ or_right (has cs l) (same l l) (same-refl l)
 
 -- a link that stands at some place has a value
 pub has-place : {A : Type 0} → (cs : Map A) (l : Link) (i : ℕ) → slice_get (links cs) i ≡ Some l → has cs l ≡ true
 unfolding has links
 has-place [] l i e = cc
 has-place (c ∷ cs) l zero e = let h : c.0 ≡ l = cc in ap (λ b. b || has cs l) (ap (λ m. same m l) h ∙ same-refl l)
-has-place (c ∷ cs) l (suc i) e = or_true (same c.0 l) (has cs l) (has-place cs l i e)
+has-place (c ∷ cs) l (suc i) e = or_right (same c.0 l) (has cs l) (has-place cs l i e)
 
 pub first-has : {A : Type 0} → (cs : Map A) (l : Link) (ls : List Link) → links cs ≡ l ∷ ls → has cs l ≡ true
 first-has cs l ls e = has-place cs l 0 (ap (λ ks. slice_get ks 0) e)
@@ -121,7 +114,7 @@ stands_nowhere : {A : Type 0} → (cs : Map A) (l : Link) → has cs l ≡ false
 unfolding has links
 stands_nowhere [] l e = tt
 stands_nowhere (c ∷ cs) l e =
-    let t = not_first (same c.0 l) (has cs l) e in
+    let t = or_parts (same c.0 l) (has cs l) e in
     ((λ i. let s : same c.0 l ≡ true = ap (λ m. same c.0 m) (sym i) ∙ same-refl c.0 in absurd (cc (s, t.0))), stands_nowhere cs l t.1)
 
 -- a link that has no value may be added

@@ -2,6 +2,7 @@
 use Rattle.std.proofs.Common.{◌≡◌, ℕ, List, Bool, Option, length, sym, subst}
 use Rattle.loc_spec_text.specs.Bytes.{Text}
 use Rattle.loc_spec_asked.specs.declared.Index.{Index}
+use Rattle.loc_spec_asked.specs.Orders.{AskedOrder}
 use Rattle.loc_rings.specs.Values.{Feature}
 use Rattle.loc_course.specs.Courses.{Course, Stopped}
 use Rattle.loc_course.specs.Following.{Follows, Moment}
@@ -15,7 +16,7 @@ abbrev pub BehindLayer : LayerFile → List Feature → Moment → Moment → Ty
 BehindLayer file layer old mid = (next : List Feature → Course) (last : Moment) (end : Option Stopped) → Follows (next layer) mid last end → Follows (layer_course file next) old last end
 
 -- a query behind a layer whose edges are so many
-pub behind_layer : (index : Index) (order : Option Text) (faces : Bool) (file : LayerFile) (points : Text) (layer : List Feature) (edges : ℕ) (old mid last : Moment) (end : Option Stopped)
+pub behind_layer : (index : Index) (order : AskedOrder) (faces : Bool) (file : LayerFile) (points : Text) (layer : List Feature) (edges : ℕ) (old mid last : Moment) (end : Option Stopped)
     → BehindLayer file layer old mid → edges ≡ length (table_in layer).ends
     → Follows (asked_course order edges (λ _. accepted_course file.scale layer (points_course index faces file.scale points layer))) mid last end
     → Follows (query_course index order faces file points) old last end
@@ -24,7 +25,7 @@ behind_layer index order faces file points layer edges old mid last end behind m
     (subst (λ (k : ℕ). Follows (asked_course order k (λ _. accepted_course file.scale layer (points_course index faces file.scale points layer))) mid last end) many follows)
 
 -- and behind the order of its edges, by the index that is asked for
-pub behind_order : (asked index : Index) (order : Option Text) (faces : Bool) (file : LayerFile) (points : Text) (layer : List Feature) (edges : ℕ) (old mid new last : Moment) (end : Option Stopped)
+pub behind_order : (asked index : Index) (order : AskedOrder) (faces : Bool) (file : LayerFile) (points : Text) (layer : List Feature) (edges : ℕ) (old mid new last : Moment) (end : Option Stopped)
     → asked ≡ index → BehindLayer file layer old mid → edges ≡ length (table_in layer).ends
     → ((next : Course) (last : Moment) (end : Option Stopped) → Follows next new last end → Follows (asked_course order edges (λ _. next)) mid last end)
     → Follows (accepted_course file.scale layer (points_course index faces file.scale points layer)) new last end

@@ -1,5 +1,5 @@
 -- The headline, by what the told files come to.
-use Rattle.std.proofs.Common.{◌≡◌, ◌⊎◌, ℕ, ◌*◌, ◌<◌, ◌≤◌, Bool, true, false, List, length, Option, Some, None, Result, Ok, Err, refl, sym, subst, inl, inr, arith, le_trans, mul-le-mul_right}
+use Rattle.std.proofs.Common.{◌≡◌, ◌⊎◌, ℕ, ◌*◌, ◌<◌, ◌≤◌, Bool, true, false, List, length, Option, None, Result, Ok, Err, refl, sym, subst, inl, inr, arith, le_trans, mul-le-mul_right}
 use Rattle.std.specs.Prelude.{IsTrue, codes, not}
 use Rattle.std.specs.Io.KnownBytes.{Appends}
 use Rattle.std.proofs.lemmas.Bool.{cases_lt}
@@ -7,6 +7,7 @@ use Rattle.loc_io.specs.Streams.{Stream}
 use Rattle.loc_io.specs.Meaning.{Told, holds}
 use Rattle.loc_spec_plane.specs.Covers.{cover_sum}
 use Rattle.loc_spec_asked.specs.declared.Index.{Index}
+use Rattle.loc_spec_asked.specs.Orders.{AskedOrder, in_file, shuffled_from}
 use Rattle.loc_spec_text.specs.Bytes.{Text, lines}
 use Rattle.loc_spec_text.specs.Points.{ended}
 use Rattle.loc_spec_text.proofs.LineLaws.{lines-front}
@@ -37,17 +38,17 @@ use Rattle.loc_cover.specs.Legends.{most_members}
 
 -- what holds of refusals, of files that are read, and behind an accepted layer holds of a query
 query_all : (P : Course → Type 0) → ((passes : Text → Bool) → P (refuses passes)) → ((s : Source) (next : Text → Course) → ((text : Text) → P (next text)) → P (reads_from s next))
-    → (index : Index) (order : Option Text) (faces : Bool) (file : LayerFile) (points : Text) → ((layer : List Feature) → P (points_course index faces file.scale points layer)) → P (query_course index order faces file points)
+    → (index : Index) (order : AskedOrder) (faces : Bool) (file : LayerFile) (points : Text) → ((layer : List Feature) → P (points_course index faces file.scale points layer)) → P (query_course index order faces file points)
 query_all P refused_so reads_so index order faces file points behind = reads_so _ _ (λ text. layer_all P refused_so file.form (layer_of file.form file.scale text) (λ l. asked_layer index order faces file.scale points l)
     (λ l. asked_all P refused_so reads_so order (edge_count l) (λ _. accepted_course file.scale l (points_course index faces file.scale points l))
     (λ _. accepted_all P refused_so file.scale l (points_course index faces file.scale points l) (behind l))))
 
 -- a query makes no file
-pub query_makes_none : (index : Index) (order : Option Text) (faces : Bool) (file : LayerFile) (points : Text) → MakesNone (query_course index order faces file points)
+pub query_makes_none : (index : Index) (order : AskedOrder) (faces : Bool) (file : LayerFile) (points : Text) → MakesNone (query_course index order faces file points)
 query_makes_none index order faces file points = query_all MakesNone (λ passes name maker. maker) (λ s next none name maker. none maker.0 name maker.1) index order faces file points (λ layer name maker. maker)
 
 -- and no line of its points is refused
-pub query_refuses_behind : (index : Index) (order : Option Text) (faces : Bool) (file : LayerFile) (points line : Text) → MayRefuseBehind (query_course index order faces file points) line → line ≡ ended (codes "points: too long")
+pub query_refuses_behind : (index : Index) (order : AskedOrder) (faces : Bool) (file : LayerFile) (points line : Text) → MayRefuseBehind (query_course index order faces file points) line → line ≡ ended (codes "points: too long")
 query_refuses_behind index order faces file points line = query_all (λ c. MayRefuseBehind c line → line ≡ ended (codes "points: too long")) (λ passes by. absurd by) (λ s next is by. is by.0 by.1) index order faces file points here
   where
     here : (layer : List Feature) → MayRefuseBehind (points_course index faces file.scale points layer) line → line ≡ ended (codes "points: too long")
@@ -58,16 +59,16 @@ query_refuses_behind index order faces file points line = query_all (λ c. MayRe
 abbrev FailsSo : ℕ → Text → Type 0
 FailsSo edges text = (limit < length text) ⊎ ((length text ≤ limit) × (fault : OrderFault) × (order_of edges text ≡ Err fault))
 
-order_cases : (told : Text → Told) (order : Option Text) (edges : ℕ) → IsOrderTold told order
-    → IsInOrder told order edges ⊎ ((name text : Text) × (order ≡ Some name) × (told name ≡ holds text) × FailsSo edges text)
-order_cases told None edges is_told = inl tt
-order_cases told (Some name) edges is_told = elim (long_or_short limit is_told.0) [
+order_cases : (told : Text → Told) (order : AskedOrder) (edges : ℕ) → IsOrderTold told order
+    → IsInOrder told order edges ⊎ ((name text : Text) × (order ≡ in_file name) × (told name ≡ holds text) × FailsSo edges text)
+order_cases told (shuffled_from number) edges is_told = inl tt
+order_cases told (in_file name) edges is_told = elim (long_or_short limit is_told.0) [
   | inl long ↦ inr (name, is_told.0, refl, is_told.1, inl long.0)
   | inr short ↦ by_read short.0 (order_of edges is_told.0) refl
 ]
   where
     by_read : length is_told.0 ≤ limit → (r : Result (List ℕ) OrderFault) → order_of edges is_told.0 ≡ r
-        → IsInOrder told (Some name) edges ⊎ ((other text : Text) × (Some name ≡ Some other) × (told other ≡ holds text) × FailsSo edges text)
+        → IsInOrder told (in_file name) edges ⊎ ((other text : Text) × (in_file name ≡ in_file other) × (told other ≡ holds text) × FailsSo edges text)
     by_read few (Ok order) reads = inl (is_told.0, is_told.1, few, order, reads)
     by_read few (Err fault) reads = inr (name, is_told.0, refl, is_told.1, inr (few, fault, reads))
 
@@ -75,7 +76,7 @@ order_cases told (Some name) edges is_told = elim (long_or_short limit is_told.0
 not_done : (o by : Outcome) (before : Option Text) (new : Moment) → o ≡ by → (EndsSo by before new None → ⊥) → EndsSo o before new None → ⊥
 not_done o by before new is none ends = none (subst (λ (x : Outcome). EndsSo x before new None) is ends)
 
-module _ (told : Text → Told) (index : Index) (order : Option Text) (faces : Bool) (file : LayerFile) (points layer text : Text) (is : told file.name ≡ holds layer) (also : told points ≡ holds text) where
+module _ (told : Text → Told) (index : Index) (order : AskedOrder) (faces : Bool) (file : LayerFile) (points layer text : Text) (is : told file.name ≡ holds layer) (also : told points ≡ holds text) where
   -- where a query was done, its layer is accepted, its order is one of the edges, and its points are not too long
   abbrev WasAccepted : Type 0
   WasAccepted = (features : List Feature) × IsAccepted file layer features × IsInOrder told order (edge_count features) × (length text ≤ limit)
@@ -102,7 +103,7 @@ module _ (told : Text → Told) (index : Index) (order : Option Text) (faces : B
       by_conflict features few reads o true has = absurd (not_done _ _ before new (rows.conflict told index order faces file points layer is features few reads o has) (λ e. e) ends)
       by_conflict features few reads o false has = by_covers features few reads o (subst (λ (b : Bool). IsTrue (not b)) (sym has) refl)
 
-      by_failure : (features : List Feature) → length layer ≤ limit → layer_of file.form file.scale layer ≡ Ok features → (name text : Text) → order ≡ Some name → told name ≡ holds text → FailsSo (edge_count features) text → WasAccepted
+      by_failure : (features : List Feature) → length layer ≤ limit → layer_of file.form file.scale layer ≡ Ok features → (name text : Text) → order ≡ in_file name → told name ≡ holds text → FailsSo (edge_count features) text → WasAccepted
       by_failure features few reads name text named holds_it (inl long) = absurd (not_done _ _ before new (rows.order_long told index order faces file points layer is features few reads name text named holds_it long) (λ e. e) ends)
       by_failure features few reads name text named holds_it (inr fails) = absurd (not_done _ _ before new (rows.order_line told index order faces file points layer is features few reads name text fails.1 named holds_it fails.0 fails.2) (λ e. e) ends)
 
@@ -135,7 +136,7 @@ module _ (told : Text → Told) (index : Index) (order : Option Text) (faces : B
           (λ _. accepted_course file.scale features (points_course index faces file.scale points features))
           (λ _. accepted_all (λ (c : Course). WithinSteps told c k) (λ passes. tt) file.scale features (points_course index faces file.scale points features) (by_points features most))
 
-module _ (index : Index) (order : Option Text) (faces : Bool) (file : LayerFile) (points : Text) (old new : Moment) (n n' : Stream) (status : ℕ) (s : Sentences (query_course index order faces file points) old new n n' status) where
+module _ (index : Index) (order : AskedOrder) (faces : Bool) (file : LayerFile) (points : Text) (old new : Moment) (n n' : Stream) (status : ℕ) (s : Sentences (query_course index order faces file points) old new n n' status) where
   none_failed : Steady old.shelf.read_faults new.shelf.read_faults → Steady old.out.faults new.out.faults → NoneFailed (query_course index order faces file points) old new
   none_failed reads out = record { reads = reads; out = out; files = λ name maker. absurd (query_makes_none index order faces file points name maker) }
 

@@ -1,16 +1,16 @@
 -- The refusals of a query and its output, as rows: what the told files come to.
-use Rattle.std.proofs.Common.{◌≡◌, ℕ, ◌<◌, ◌≤◌, Bool, List, [], ◌∷◌, ◌++◌, length, map, take, Option, Some, None, Result, Ok, Err, refl, ◌∙◌, ap, arith, true, codes}
+use Rattle.std.proofs.Common.{◌≡◌, ℕ, ◌<◌, ◌≤◌, Bool, List, length, take, Result, Ok, Err, refl, ◌∙◌, ap, arith, true, codes}
 use Rattle.std.specs.Prelude.{nat_lt}
-use Rattle.std.specs.List.{flat_map}
 use Rattle.std.proofs.lemmas.Bool.{cond-true, cond-false, false_from_ne_true}
 use Rattle.std.proofs.lemmas.Bool.Decides.{Decides-ltb}
 use Rattle.loc_io.specs.Meaning.{Told, holds}
 use Rattle.loc_spec_plane.specs.Covers.{cover_sum}
 use Rattle.loc_spec_asked.specs.declared.Index.{Index}
-use Rattle.loc_spec_text.specs.Answered.{Answered, answered, with_answer}
+use Rattle.loc_spec_asked.specs.Orders.{AskedOrder, in_file, shuffled_from}
+use Rattle.loc_spec_text.specs.Answered.{Answered, answered}
 use Rattle.loc_spec_text.specs.Bytes.{Text, ended_lines, lines}
 use Rattle.loc_spec_text.specs.Points.{ended}
-use Rattle.loc_spec_text.proofs.AnsweredLaws.{all_of, all_answered, joined}
+use Rattle.loc_spec_text.proofs.AnsweredLaws.{all_answered, joined}
 use Rattle.loc_rings.specs.Values.{Feature}
 use Rattle.loc_csvform.specs.Layer.{LayerRead, layer_of}
 use Rattle.loc_csvform.specs.declared.faults.LayerFault.{LayerFault}
@@ -42,16 +42,16 @@ short : (s : Source) (o : Text → Outcome) (told : Told) (text : Text) → told
 short s o told text is few = ap (by_text s o) is
     ∙ cond-false (nat_lt s.limit (length text)) (refusal (exactly s.too_long)) (o text) (false_from_ne_true (nat_lt s.limit (length text)) (λ e. omega (arith, (Decides-ltb s.limit (length text)).0 e, few)))
 
--- a named order's file, and a course behind one that is an order
+-- an order's file, and a course behind one that is an order
 abbrev order_source : Text → Source
 order_source name = source name limit (ended (codes "order: too long"))
 
-in_order : (told : Text → Told) (order : Option Text) (edges : ℕ) (next : Course) → IsInOrder told order edges → outcome told (asked_course order edges (λ _. next)) ≡ outcome told next
-in_order told None edges next o = refl
-in_order told (Some name) edges next o = short (order_source name) (λ text. outcome told (order_in (order_of edges text) (λ _. next))) (told name) o.0 o.1 o.2
+in_order : (told : Text → Told) (order : AskedOrder) (edges : ℕ) (next : Course) → IsInOrder told order edges → outcome told (asked_course order edges (λ _. next)) ≡ outcome told next
+in_order told (shuffled_from number) edges next o = refl
+in_order told (in_file name) edges next o = short (order_source name) (λ text. outcome told (order_in (order_of edges text) (λ _. next))) (told name) o.0 o.1 o.2
     ∙ ap (λ (r : Result (List ℕ) OrderFault). outcome told (order_in r (λ _. next))) o.4
 
-module _ (told : Text → Told) (index : Index) (order : Option Text) (faces : Bool) (file : LayerFile) (points layer : Text) (is : told file.name ≡ holds layer) where
+module _ (told : Text → Told) (index : Index) (order : AskedOrder) (faces : Bool) (file : LayerFile) (points layer : Text) (is : told file.name ≡ holds layer) where
   abbrev behind : LayerRead → Outcome
   behind r = outcome told (layer_in file.form r (λ l. asked_layer index order faces file.scale points l))
 
@@ -83,13 +83,13 @@ module _ (told : Text → Told) (index : Index) (order : Option Text) (faces : B
     abbrev by_order : Text → Outcome
     by_order text = outcome told (order_in (order_of (edge_count features) text) (λ _. behind_order))
 
-    named : (name : Text) → order ≡ Some name → outcome told (query_course index order faces file points) ≡ by_text (order_source name) by_order (told name)
-    named name is_named = read few (Ok features) reads ∙ ap (λ (o : Option Text). outcome told (asked_layer index o faces file.scale points features)) is_named
+    named : (name : Text) → order ≡ in_file name → outcome told (query_course index order faces file points) ≡ by_text (order_source name) by_order (told name)
+    named name is_named = read few (Ok features) reads ∙ ap (λ (o : AskedOrder). outcome told (asked_layer index o faces file.scale points features)) is_named
 
-    pub order_long : (name text : Text) → order ≡ Some name → told name ≡ holds text → limit < length text → outcome told (query_course index order faces file points) ≡ refusal (exactly (ended (codes "order: too long")))
+    pub order_long : (name text : Text) → order ≡ in_file name → told name ≡ holds text → limit < length text → outcome told (query_course index order faces file points) ≡ refusal (exactly (ended (codes "order: too long")))
     order_long name text is_named also more = named name is_named ∙ long (order_source name) by_order (told name) text also more
 
-    pub order_line : (name text : Text) (fault : OrderFault) → order ≡ Some name → told name ≡ holds text → length text ≤ limit → order_of (edge_count features) text ≡ Err fault
+    pub order_line : (name text : Text) (fault : OrderFault) → order ≡ in_file name → told name ≡ holds text → length text ≤ limit → order_of (edge_count features) text ≡ Err fault
         → outcome told (query_course index order faces file points) ≡ refusal (exactly (ended (order_fault_text fault)))
     order_line name text fault is_named also less faulty = named name is_named ∙ (short (order_source name) by_order (told name) text also less
         ∙ ap (λ (r : Result (List ℕ) OrderFault). outcome told (order_in r (λ _. behind_order))) faulty)

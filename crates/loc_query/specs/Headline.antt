@@ -1,11 +1,12 @@
 -- The headline of the program, in the words of its user: what a query whose files are told answers. The words: `IsAccepted`, `IsOrderTold`, `IsInOrder`,
 -- `edge_count`, `steps_in`, `Headline`.
-use Rattle.std.specs.Prelude.{◌≡◌, ◌⊎◌, ℕ, ◌+◌, ◌*◌, ◌<◌, ◌≤◌, Bool, List, length, Option, Some, None, Ok, Err, IsTrue, ⊤, codes}
+use Rattle.std.specs.Prelude.{◌≡◌, ◌⊎◌, ℕ, ◌+◌, ◌*◌, ◌<◌, ◌≤◌, Bool, List, length, Ok, Err, IsTrue, ⊤, codes}
 use Rattle.std.specs.Io.KnownBytes.{Appends}
 use Rattle.loc_io.specs.Streams.{Stream}
 use Rattle.loc_io.specs.Meaning.{Told, holds}
 use Rattle.loc_spec_plane.specs.Covers.{cover_sum}
 use Rattle.loc_spec_asked.specs.declared.Index.{Index}
+use Rattle.loc_spec_asked.specs.Orders.{AskedOrder, in_file, shuffled_from}
 use Rattle.loc_spec_text.specs.Bytes.{Text, lines}
 use Rattle.loc_spec_text.specs.Points.{ended}
 use Rattle.loc_rings.specs.Values.{Feature}
@@ -32,15 +33,15 @@ pub record IsAccepted (file : LayerFile) (layer : Text) (features : List Feature
   pub apart : Accepts features
   pub few_covers : cover_sum (table_in features) ≤ most_members
 
--- the text of the order's file is told, if one is named
-abbrev pub IsOrderTold : (Text → Told) → Option Text → Type 0
-IsOrderTold told None = ⊤
-IsOrderTold told (Some name) = (text : Text) × (told name ≡ holds text)
+-- the text of the order's file is told, if that of a file is asked for
+abbrev pub IsOrderTold : (Text → Told) → AskedOrder → Type 0
+IsOrderTold told (in_file name) = (text : Text) × (told name ≡ holds text)
+IsOrderTold told (shuffled_from number) = ⊤
 
--- the text of the order's file, if one is named, is told and within the limit, and has each of so many edges in one line
-abbrev pub IsInOrder : (Text → Told) → Option Text → ℕ → Type 0
-IsInOrder told None edges = ⊤
-IsInOrder told (Some name) edges = (text : Text) × (told name ≡ holds text) × (length text ≤ limit) × (order : List ℕ) × (order_of edges text ≡ Ok order)
+-- the text of the order's file, if that of a file is asked for, is told and within the limit, and has each of so many edges in one line
+abbrev pub IsInOrder : (Text → Told) → AskedOrder → ℕ → Type 0
+IsInOrder told (in_file name) edges = (text : Text) × (told name ≡ holds text) × (length text ≤ limit) × (order : List ℕ) × (order_of edges text ≡ Ok order)
+IsInOrder told (shuffled_from number) edges = ⊤
 
 -- the edges of a layer
 abbrev pub edge_count : List Feature → ℕ
@@ -52,7 +53,7 @@ steps_in index (Ok features) = steps_by index (table_in features)
 steps_in index (Err fault) = 0
 
 -- The texts of the layer, of the order and of the points are those told of their files. With `faces` the answers name the number of each open face. An answer may want memory: the status is 5 then, and nothing is on out.
-pub record Headline (index : Index) (order : Option Text) (faces : Bool) (file : LayerFile) (points : Text) (old new : Moment) (n n' : Stream) (status : ℕ) : Type 0 where
+pub record Headline (index : Index) (order : AskedOrder) (faces : Bool) (file : LayerFile) (points : Text) (old new : Moment) (n n' : Stream) (status : ℕ) : Type 0 where
   -- With status 0 the layer is accepted, the order is one of its edges, the points are within the limit, and out has grown by exactly the defined answers.
   pub done : (layer text : Text) → old.shelf.told file.name ≡ holds layer → old.shelf.told points ≡ holds text → IsOrderTold old.shelf.told order → status ≡ 0
       → (features : List Feature) × IsAccepted file layer features × IsInOrder old.shelf.told order (edge_count features) × (length text ≤ limit) × Appends old.out.written new.out.written (output_of faces file.scale features text)
@@ -67,11 +68,11 @@ pub record Headline (index : Index) (order : Option Text) (faces : Bool) (file :
   pub layer_fault : (layer : Text) (fault : LayerFault) → old.shelf.told file.name ≡ holds layer → length layer ≤ limit → layer_of file.form file.scale layer ≡ Err fault → Steady old.shelf.read_faults new.shelf.read_faults
       → ((status ≡ 1) × (new.out.written ≡ old.out.written) × Wrote n n' (ended (layer_fault_text file.form fault))) ⊎ ((status ≡ 5) × (new.out.written ≡ old.out.written))
   -- or it reads, and the order is too long,
-  pub order_long : (layer text name : Text) (features : List Feature) → order ≡ Some name → old.shelf.told file.name ≡ holds layer → length layer ≤ limit → layer_of file.form file.scale layer ≡ Ok features
+  pub order_long : (layer text name : Text) (features : List Feature) → order ≡ in_file name → old.shelf.told file.name ≡ holds layer → length layer ≤ limit → layer_of file.form file.scale layer ≡ Ok features
       → old.shelf.told name ≡ holds text → limit < length text → Steady old.shelf.read_faults new.shelf.read_faults
       → ((status ≡ 1) × (new.out.written ≡ old.out.written) × Wrote n n' (ended (codes "order: too long"))) ⊎ ((status ≡ 5) × (new.out.written ≡ old.out.written))
   -- or is at fault,
-  pub order_fault : (layer text name : Text) (features : List Feature) (fault : OrderFault) → order ≡ Some name → old.shelf.told file.name ≡ holds layer → length layer ≤ limit → layer_of file.form file.scale layer ≡ Ok features
+  pub order_fault : (layer text name : Text) (features : List Feature) (fault : OrderFault) → order ≡ in_file name → old.shelf.told file.name ≡ holds layer → length layer ≤ limit → layer_of file.form file.scale layer ≡ Ok features
       → old.shelf.told name ≡ holds text → length text ≤ limit → order_of (edge_count features) text ≡ Err fault → Steady old.shelf.read_faults new.shelf.read_faults
       → ((status ≡ 1) × (new.out.written ≡ old.out.written) × Wrote n n' (ended (order_fault_text fault))) ⊎ ((status ≡ 5) × (new.out.written ≡ old.out.written))
   -- or two edges of the layer conflict, and the line names two that do,

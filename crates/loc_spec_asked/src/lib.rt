@@ -8,3 +8,10 @@ pub enum Index {
     Tree,
     Trap,
 }
+
+/// In which order the edges of a layer are added to a map of trapezoids: that of the file of this name, or one that is shuffled from a number.
+#[derive(Clone, Copy, PartialEq, Eq, Debug)]
+pub enum EdgeOrder<'a> {
+    File(&'a str),
+    Shuffled(u64),
+}

@@ -1,15 +1,15 @@
 -- What the line of a sweep holds while the edges that begin at a corner come to it.
 use Rattle.std.proofs.Common.{◌≡◌, ℕ, ◌+◌, ◌-◌, ◌<◌, ◌≤◌, Bool, true, false, not, ◌&&◌, ◌||◌, List, length, get_or, refl, sym, ◌∙◌, ap, subst, ◌⊎◌, inl, inr, arith}
 use Rattle.std.specs.Prelude.{nat_lt, ◌==◌}
-use Rattle.std.proofs.lemmas.Bool.{and_from, and_parts, and_left, and_right, or_cases, or_from, both_ways, cases_lt, cases_order, eq-eqb, eqb-true, ne_eqb, false_from_ne_true, le-ltb, lt-ltb, ltb-true, not_from_false, not-true}
+use Rattle.std.proofs.lemmas.Bool.{and_from, and_parts, and_left, and_right, or_from, both_ways, cases_lt, cases_order, eq-eqb, ne_eqb, false_from_ne_true, le-ltb, lt-ltb, ltb-true, not_from_false, not-true}
 use Rattle.std.proofs.lemmas.List.Elements.{All-get_or}
 use Rattle.std.proofs.lemmas.Option.{slice_get_within, get_or_from_slice_get}
 use Rattle.loc_spec_plane.specs.Points.{touch}
 use Rattle.loc_spec_plane.specs.Lists.{is_in}
-use Rattle.loc_spec_plane.specs.Tables.{Table, IsTable, corner, edge, lo_of, hi_of, pair_before}
+use Rattle.loc_spec_plane.specs.Tables.{Table, IsTable, corner, edge, lo_of, hi_of}
 use Rattle.loc_spec_plane.specs.Places.{alive_at, is_edge}
-use Rattle.loc_laws_order.proofs.Sets.{or_none}
-use Rattle.loc_laws_order.proofs.TableOrder.{edge_up, different, rises}
+use Rattle.loc_laws_order.proofs.Booleans.{or_none}
+use Rattle.loc_laws_order.proofs.TableOrder.{edge_up, different, lo_rises}
 use Rattle.loc_edges.specs.Ending.{IsBeginning}
 use Rattle.loc_edges.proofs.Hits.{hits-touch}
 use Rattle.loc_status.specs.Lists.{is_chain_at}
@@ -64,13 +64,6 @@ none_came t c first m line in_range = record {
     alone true y = refl
     alone false true = refl
     alone false false = refl
-
--- an edge with a greater number begins at the same corner or a later one
-pub lo_rises : (t : Table) → IsTable t → (d e : ℕ) → d < e → e < length t.ends → lo_of t d ≤ lo_of t e
-lo_rises t ok d e less fits = elim (or_cases (nat_lt (lo_of t d) (lo_of t e)) ((lo_of t d == lo_of t e) && nat_lt (hi_of t d) (hi_of t e)) (rises pair_before (0, 0) t.ends d e ok.edges_rise less fits)) [
-  | inl before ↦ (let under : lo_of t d < lo_of t e = ltb-true (lo_of t d) (lo_of t e) before in omega arith)
-  | inr beside ↦ (let same : lo_of t d ≡ lo_of t e = eqb-true (lo_of t d) (lo_of t e) (and_parts (lo_of t d == lo_of t e) (nat_lt (hi_of t d) (hi_of t e)) beside).0 in omega arith)
-]
 
 module _ (t : Table) (ok : IsTable t) (c first past : ℕ) (beginning : IsBeginning t c first past) where
   -- an edge between the two numbers begins there

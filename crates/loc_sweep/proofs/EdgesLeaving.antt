@@ -11,7 +11,8 @@ use Rattle.loc_spec_plane.specs.Places.{alive, is_edge, neighbours_rise}
 use Rattle.loc_laws_order.proofs.ListLaws.{is_in-get}
 use Rattle.loc_laws_order.proofs.AliveAt.{alive_between}
 use Rattle.loc_laws_order.proofs.Kept.{is_in-filter, is_in-range}
-use Rattle.loc_laws_order.proofs.Sets.{number_swap, or_assoc, or_none}
+use Rattle.loc_laws_order.proofs.Sets.{number_swap}
+use Rattle.loc_laws_order.proofs.Booleans.{or_assoc, or_none}
 use Rattle.loc_status.specs.Lists.{is_chain_at}
 use Rattle.loc_status.specs.Meaning.{StatusMeaning, KeepsSealed, Removes}
 use Rattle.loc_sweep.specs.Course.{Leaves}

@@ -1,15 +1,13 @@
 -- Two edges by their numbers, the lesser first.
-use Rattle.std.proofs.Common.{◌≡◌, ℕ, ◌<◌, ◌≤◌, true, false, not, ◌||◌, length, refl, sym, ◌∙◌, ap, subst, ◌⊎◌, inl, inr, arith}
+use Rattle.std.proofs.Common.{◌≡◌, ℕ, ◌<◌, ◌≤◌, true, false, not, length, refl, sym, ◌∙◌, ap, subst, ◌⊎◌, inl, inr, arith}
 use Rattle.std.specs.Prelude.{min, max}
-use Rattle.std.proofs.lemmas.Bool.{and_left, and_from, both_ways, cases_eq, cases_lt}
-use Rattle.loc_spec_plane.specs.Points.{Edge, same_point, same_edge, touch, cross, conflict}
+use Rattle.std.proofs.lemmas.Bool.{both_ways, cases_eq, cases_lt}
+use Rattle.loc_spec_plane.specs.Points.{Edge, touch, conflict}
 use Rattle.loc_spec_plane.specs.Tables.{Table, edge}
 use Rattle.loc_geom.specs.Answers.{IsMeeting}
 use Rattle.loc_geom.specs.declared.kinds.Meeting.{Meeting}
 use Rattle.loc_geom.specs.declared.kinds.Meeting.TheVariants.{Apart, Touch, Cross}
-use Rattle.loc_geom.proofs.Symmetry.{touch_swap, conflict_swap}
-use Rattle.loc_laws_order.proofs.Sides.{same_point_refl}
-use Rattle.loc_laws_order.proofs.Tests.{touch-conflict}
+use Rattle.loc_laws_order.proofs.Tests.{conflict_none, conflict_swap, touch-conflict, touch_swap}
 use Rattle.loc_sweep.specs.Swept.{AreInConflict}
 
 -- of two numbers one is the lesser and the other the greater
@@ -18,10 +16,6 @@ in_order a b = elim (cases_lt a b) [
   | inl less ↦ inl (omega arith, omega arith, omega arith)
   | inr more ↦ inr (omega arith, omega arith, omega arith)
 ]
-
--- an edge does not conflict with itself
-pub not_with_itself : (e : Edge) → conflict e e ≡ false
-not_with_itself e = and_left (not (same_edge e e)) (touch e e || cross e e) (ap not (and_from (same_point e.lo e.lo) (same_point e.hi e.hi) (same_point_refl e.lo) (same_point_refl e.hi)))
 
 -- two edges that do not conflict one way round do not the other way round
 pub apart_in_order : (t : Table) (a b : ℕ) → not (conflict (edge t (min a b)) (edge t (max a b))) ≡ true → not (conflict (edge t a) (edge t b)) ≡ true
@@ -34,7 +28,7 @@ apart_in_order t a b apart = elim (in_order a b) [
 pub in_conflict : (t : Table) (a b : ℕ) (meeting : Meeting) → a < length t.ends → b < length t.ends → conflict (edge t (min a b)) (edge t (max a b)) ≡ true → IsMeeting (edge t (min a b)) (edge t (max a b)) meeting → AreInConflict t (min a b) (max a b) meeting
 in_conflict t a b meeting fits_a fits_b meets how = record {
   in_order = (let up : min a b ≤ max a b = omega arith in elim (cases_eq (min a b) (max a b)) [
-    | inl same ↦ absurd (both_ways (conflict (edge t (min a b)) (edge t (max a b))) (subst (λ n. conflict (edge t (min a b)) (edge t n) ≡ false) same (not_with_itself (edge t (min a b)))) meets)
+    | inl same ↦ absurd (both_ways (conflict (edge t (min a b)) (edge t (max a b))) (subst (λ n. conflict (edge t (min a b)) (edge t n) ≡ false) same (conflict_none (edge t (min a b)))) meets)
     | inr differ ↦ omega arith
   ]);
   in_range = omega arith;

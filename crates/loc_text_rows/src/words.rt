@@ -1,8 +1,8 @@
 //! Lists of words from outside: the commands that they are, or that they are none, with ample memory.
 
 use loc_words::{
-    Ask, Build, Check, Command, Face, Form, Gen, Index, Kind, Query, Trial, Verify, WordsFault,
-    command_of, usage_text,
+    Ask, Build, Check, Command, EdgeOrder, Face, Form, Gen, Index, Kind, Query, Trial, Verify,
+    WordsFault, command_of, usage_text,
 };
 use std::alloc::{AllocError, Global};
 use std::process::Abort;
@@ -15,8 +15,7 @@ const QUERY: Query<'static> = Query {
     scale: 0,
     form: Form::Lines,
     index: Index::Tree,
-    order: None,
-    shuffle: 1,
+    order: EdgeOrder::Shuffled(1),
     faces: false,
 };
 
@@ -53,15 +52,15 @@ static COMMANDS: [(&str, Command<'static>); 28] = [
     ("query a b --faces --scale 0", Command::Query(Query { faces: true, ..QUERY })),
     ("query a b --scale 0 --index scan --faces", Command::Query(Query { index: Index::Scan, faces: true, ..QUERY })),
     ("query a b --scale 0 --index trap", Command::Query(BY_TRAPEZOIDS)),
-    ("query a b --scale 0 --index trap --order c", Command::Query(Query { order: Some("c"), ..BY_TRAPEZOIDS })),
-    ("query a b --scale 0 --order==f --index=trap", Command::Query(Query { order: Some("=f"), ..BY_TRAPEZOIDS })),
+    ("query a b --scale 0 --index trap --order c", Command::Query(Query { order: EdgeOrder::File("c"), ..BY_TRAPEZOIDS })),
+    ("query a b --scale 0 --order==f --index=trap", Command::Query(Query { order: EdgeOrder::File("=f"), ..BY_TRAPEZOIDS })),
     (
         "query a b --shuffle 7 --scale 0 --index trap --faces",
-        Command::Query(Query { shuffle: 7, faces: true, ..BY_TRAPEZOIDS }),
+        Command::Query(Query { order: EdgeOrder::Shuffled(7), faces: true, ..BY_TRAPEZOIDS }),
     ),
     (
         "query a b --scale 0 --index trap --shuffle=18446744073709551615",
-        Command::Query(Query { shuffle: 18_446_744_073_709_551_615, ..BY_TRAPEZOIDS }),
+        Command::Query(Query { order: EdgeOrder::Shuffled(18_446_744_073_709_551_615), ..BY_TRAPEZOIDS }),
     ),
     ("check a --scale 3", Command::Check(Check { layer: "a", scale: 3, form: Form::Lines })),
     ("check a --form=csv --scale=3", Command::Check(Check { layer: "a", scale: 3, form: Form::Csv })),

@@ -49,7 +49,6 @@ fn run_course<F: Shelf, O: Sink, N: Sink, L: Ledger>(
                 Scale::new(asked.scale),
                 asked.index,
                 asked.order,
-                asked.shuffle,
                 asked.faces,
                 shelf,
                 out,

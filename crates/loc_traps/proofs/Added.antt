@@ -1,12 +1,14 @@
 -- The map after an edge is added.
 use Rattle.std.proofs.Common.{◌≡◌, ℕ, ◌+◌, ◌*◌, ◌-◌, ◌<◌, ◌≤◌, Bool, true, false, not, ◌&&◌, ◌||◌, List, [], ◌∷◌, ◌++◌, length, refl, sym, ◌∙◌, ap, subst, inl, inr, arith}
 use Rattle.std.specs.Prelude.{Option, None, if◌then◌else◌, ◌==◌}
-use Rattle.std.proofs.lemmas.Bool.{cases_Bool, both_ways, eq-eqb, eqb-true, false_from_ne_true}
+use Rattle.std.proofs.lemmas.Bool.{cases_Bool, both_ways, eq-eqb}
 use Rattle.std.proofs.lemmas.List.{length_push, take_all}
 use Rattle.std.proofs.lemmas.List.Folds.{list_any-append, list_any_at}
 use Rattle.loc_spec_plane.specs.declared.Trap.{Trap}
 use Rattle.loc_spec_plane.specs.Tables.{Table, lo_of, hi_of}
 use Rattle.loc_spec_plane.specs.Traps.{is_trap}
+use Rattle.loc_laws_order.proofs.Booleans.{or_none}
+use Rattle.loc_laws_order.proofs.Sets.{number_swap}
 use Rattle.loc_laws_traps.specs.Sets.{IsCalmSet, with_edge, behind_left, before_right, is_cut, is_lowest_at, is_highest_at}
 use Rattle.loc_laws_traps.specs.Maps.{IsMap, AreFresh, Names, Renames}
 use Rattle.loc_laws_traps.proofs.Corners.{is_first_by, same_set}
@@ -29,18 +31,8 @@ cut_by_none : (splits : List Split) (i : ℕ) → ((j : ℕ) → j < length spli
 cut_by_none splits i off = subst (λ (s : List Split). is_cut_by s i ≡ false) (take_all (length splits) splits (omega arith)) (not_before splits (length splits) (omega arith) i off)
 
 -- the set with the edge, as a list
-same_test : (a b : ℕ) → (a == b) ≡ (b == a)
-same_test a b = elim (cases_Bool (a == b)) [
-  | inl yes_one ↦ yes_one ∙ sym (eq-eqb b a (sym (eqb-true a b yes_one)))
-  | inr off ↦ off ∙ sym (false_from_ne_true (b == a) (λ h. both_ways (a == b) off (eq-eqb a b (sym (eqb-true b a h)))))
-]
-
-or_false : (b : Bool) → (b || false) ≡ b
-or_false true = refl
-or_false false = refl
-
 pub set_is : (added : List ℕ) (e : ℕ) → with_edge (among added) e ≡ among (added ++ e ∷ [])
-set_is added e = same_set (with_edge (among added) e) (among (added ++ e ∷ [])) (λ d. sym (list_any-append (λ m. m == d) added (e ∷ []) ∙ ap (λ b. among added d || b) (or_false (e == d) ∙ same_test e d)))
+set_is added e = same_set (with_edge (among added) e) (among (added ++ e ∷ [])) (λ d. sym (list_any-append (λ m. m == d) added (e ∷ []) ∙ ap (λ b. among added d || b) (or_none (e == d) ∙ number_swap e d)))
 
 module _ (t : Table) (m : MapMeaning) (is_map : IsMapOf t m) (e : ℕ) (set : IsCalmSet t (with_edge (among m.added) e)) (is_new_one : among m.added e ≡ false) (from last : ℕ) (overs unders : List Start) (cuts : List Cut)
     (w : IsWalk t m.added m.rows m.is_live e from last overs unders cuts) (splits : List Split) (numbered : IsNumbered m.rows (lo_of t e) (hi_of t e) (length overs - 1) (length unders - 1) (behind_left (row_of m.rows from).left (lo_of t e)) cuts splits)

@@ -8,6 +8,7 @@ use Rattle.std.proofs.Math.ListN.{get_or-append}
 use Rattle.std.proofs.Math.Seq.{get_or-append_right, take-append_seam}
 use Rattle.std.proofs.lemmas.List.Folds.{list_any-append}
 use Rattle.loc_spec_plane.specs.declared.Trap.{Trap}
+use Rattle.loc_laws_order.proofs.Booleans.{and_none, and_true, or_none}
 use Rattle.loc_laws_traps.specs.Maps.{Renames}
 use Rattle.loc_traps.specs.declared.map.Split.{Split}
 use Rattle.loc_traps.specs.Meaning.{live_of, live_count}
@@ -30,18 +31,6 @@ and_not_or true true c = refl
 and_not_or true false c = refl
 and_not_or false b c = refl
 
-and_true : (a : Bool) → (a && true) ≡ a
-and_true true = refl
-and_true false = refl
-
-and_false : (a : Bool) → (a && false) ≡ false
-and_false true = refl
-and_false false = refl
-
-or_false : (a : Bool) → (a || false) ≡ a
-or_false true = refl
-or_false false = refl
-
 module _ (old : List Bool) (splits : List Split) (j : ℕ) (less : j < length splits) where
   abbrev cut : ℕ
   cut = (split_of splits j).cut
@@ -49,7 +38,7 @@ module _ (old : List Bool) (splits : List Split) (j : ℕ) (less : j < length sp
   more_cut : (i : ℕ) → is_cut_by (take (j + 1) splits) i ≡ (is_cut_by (take j splits) i || (cut == i))
   more_cut i =
       ap (λ (s : List Split). is_cut_by s i) (take_more splits j (record { cut = 0; before = None; above = 0; below = 0; behind = None }) less)
-      ∙ (list_any-append (λ (s : Split). s.cut == i) (take j splits) (split_of splits j ∷ []) ∙ ap (λ b. is_cut_by (take j splits) i || b) (or_false (cut == i)))
+      ∙ (list_any-append (λ (s : Split). s.cut == i) (take j splits) (split_of splits j ∷ []) ∙ ap (λ b. is_cut_by (take j splits) i || b) (or_none (cut == i)))
 
   pub bury_more : (now : List Bool) → cut < length now → ((i : ℕ) → live_of now i ≡ (live_of old i && not (is_cut_by (take j splits) i))) → (i : ℕ) → live_of (set now cut false) i ≡ (live_of old i && not (is_cut_by (take (j + 1) splits) i))
   bury_more now real so_far i =
@@ -58,7 +47,7 @@ module _ (old : List Bool) (splits : List Split) (j : ℕ) (less : j < length sp
       at_row : (i : ℕ) → live_of (set now cut false) i ≡ ((live_of old i && not (is_cut_by (take j splits) i)) && not (cut == i))
       at_row i = elim (cases_eq cut i) [
         | inl same ↦ subst (λ k. get_or (set now cut false) k false ≡ ((live_of old i && not (is_cut_by (take j splits) i)) && not (cut == i))) same
-            (get_or-set_same now cut false false real ∙ sym (ap (λ b. (live_of old i && not (is_cut_by (take j splits) i)) && not b) (eq-eqb cut i same) ∙ and_false (live_of old i && not (is_cut_by (take j splits) i))))
+            (get_or-set_same now cut false false real ∙ sym (ap (λ b. (live_of old i && not (is_cut_by (take j splits) i)) && not b) (eq-eqb cut i same) ∙ and_none (live_of old i && not (is_cut_by (take j splits) i))))
         | inr other ↦ (let off : i ≢ cut = λ same. other (sym same) in
             rw get_or-set_other (so_far i ∙ sym (ap (λ b. (live_of old i && not (is_cut_by (take j splits) i)) && not b) (ne_eqb cut i other) ∙ and_true (live_of old i && not (is_cut_by (take j splits) i)))))
       ]

@@ -6,7 +6,7 @@ use Rattle.std.proofs.lemmas.Bool.{and_from, and_parts, eq-eqb, eqb-true, lt-ltb
 use Rattle.loc_spec_plane.specs.Lists.{is_in}
 use Rattle.loc_spec_plane.specs.Tables.{Table, edge_numbers, ends_at, hi_of, lo_of}
 use Rattle.loc_spec_plane.specs.Places.{is_edge}
-use Rattle.loc_laws_rays.proofs.Parity.{same-from_both}
+use Rattle.loc_laws_order.proofs.Booleans.{same-from_both}
 use Rattle.loc_edges.specs.Ending.{IsBeginning}
 use Rattle.loc_cover.proofs.Gathered.{any_range}
 use Rattle.loc_sweep.specs.Line.{ending_at}

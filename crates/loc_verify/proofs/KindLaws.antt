@@ -32,31 +32,27 @@ no_marks [] h = refl
 no_marks (m ∷ ms) h = absurd (h (λ none. cc))
 
 module _ (c : Content) where
-  corners_are : length (table_in c).corners ≡ length c.corners
-  unfolding table_in
-  corners_are = refl
-
   pub lone_there : (n : ℕ) → IsLeastFailing (length (table_in c).corners) (λ n. IsTrue (list_any (ends_at (table_in c) n) (edge_numbers (table_in c)))) (Some n) → IsLeastOf c 0 (lone n)
-  lone_there n found = least_at c 0 n refl refl refl (subst (λ k. n < k) corners_are found.0, fails _ found.1) (λ m less h. passes _ h.1 (found.2 m less))
+  lone_there n found = least_at c 0 n refl refl refl (subst (λ k. n < k) (laws.as_many_corners c) found.0, fails _ found.1) (λ m less h. passes _ h.1 (found.2 m less))
 
   pub uneven_there : (n f : ℕ) → IsLeastUneven (table_in c) (Some (n, f)) → IsLeastOf c 2 (uneven n f)
-  uneven_there n f found = least_of c (uneven n f) refl (subst (λ k. n < k) corners_are found.0, found.1) (laws.least_uneven c n f (λ m g before h. elim before [
+  uneven_there n f found = least_of c (uneven n f) refl (subst (λ k. n < k) (laws.as_many_corners c) found.0, found.1) (laws.least_uneven c n f (λ m g before h. elim before [
     | inl less ↦ passes (is_odd_at (table_in c) m g) (found.3 m less g) h.1
     | inr same ↦ both_ways (is_odd_at (table_in c) n g) (found.2 g same.1) (subst (λ k. is_odd_at (table_in c) k g ≡ true) same.0 h.1)
   ]))
 
   module _ (floors : FloorLists) (are : AreFloors (table_in c) floors) (stored : List (Option ℕ)) (stored_is : stored ≡ c.floors) where
     floor_at : (n : ℕ) → n < length c.corners → IsFloor (table_in c) (corner (table_in c) n) (get_or floors.of_corner n None)
-    floor_at n fits = are.of_corner n (subst (λ k. n < k) (sym corners_are) fits)
+    floor_at n fits = are.of_corner n (subst (λ k. n < k) (sym (laws.as_many_corners c)) fits)
 
     same_floor : (n : ℕ) → n < length c.corners → get_or stored n None ≡ get_or floors.of_corner n None → IsFloor (table_in c) (corner (table_in c) n) (floor_of_corner c n)
     same_floor n fits same = subst (IsFloor (table_in c) (corner (table_in c) n)) (sym same ∙ ap (λ fs. get_or fs n None) stored_is) (floor_at n fits)
 
     within : (n : ℕ) → n < length floors.of_corner → n < length c.corners
-    within n fits = subst (λ k. n < k) (are.as_many_corners ∙ corners_are) fits
+    within n fits = subst (λ k. n < k) (are.as_many_corners ∙ laws.as_many_corners c) fits
 
     pub floors_right : IsLeastFailing (length floors.of_corner) (λ n. get_or stored n None ≡ get_or floors.of_corner n None) None → (n : ℕ) → n < length c.corners → IsFloor (table_in c) (corner (table_in c) n) (floor_of_corner c n)
-    floors_right all n fits = same_floor n fits (all n (subst (λ k. n < k) (sym (are.as_many_corners ∙ corners_are)) fits))
+    floors_right all n fits = same_floor n fits (all n (subst (λ k. n < k) (sym (are.as_many_corners ∙ laws.as_many_corners c)) fits))
 
     pub floor_there : (n : ℕ) → IsLeastFailing (length floors.of_corner) (λ n. get_or stored n None ≡ get_or floors.of_corner n None) (Some n) → IsLeastOf c 4 (wrong_floor n)
     floor_there n found = least_at c 4 n refl refl refl

@@ -9,7 +9,8 @@ use Rattle.std.proofs.lemmas.List.Sums.{sum_by-append}
 use Rattle.loc_spec_plane.specs.declared.Mark.{Mark}
 use Rattle.loc_spec_plane.specs.Lists.{exactly_one, is_rising, odd_many}
 use Rattle.loc_spec_plane.specs.Tables.{Table, IsTable, edge_numbers, ends_at, has_odd, hi_of, lo_of, mark_before}
-use Rattle.loc_laws_rays.proofs.Parity.{and_true, exactly_one_assoc, exactly_one_comm, exactly_one-false, exactly_one_same, never, odd_many-append, odd_many-exactly_one, odd_many-take_more}
+use Rattle.loc_laws_rays.proofs.Parity.{exactly_one_assoc, exactly_one_comm, exactly_one-false, exactly_one_same, never, odd_many-append, odd_many-exactly_one, odd_many-take_more}
+use Rattle.loc_laws_order.proofs.Booleans.{and_true}
 use Rattle.loc_cover.specs.Exchanges.{is_marked_odd}
 use Rattle.loc_edges.specs.Ending.{IsBeginning}
 use Rattle.loc_verify.specs.Least.{IsLeastOdd, has_odd_from, is_odd_at, is_odd_in}

@@ -5,10 +5,9 @@ use Rattle.std.proofs.lemmas.Bool.{and_parts, eq-eqb, eqb-true, ltb-true, or_cas
 use Rattle.std.proofs.lemmas.Option.{slice_get-get_or}
 use Rattle.std.proofs.lemmas.List.Folds.{list_any-append, list_any_at}
 use Rattle.loc_spec_plane.specs.Lists.{is_in}
-use Rattle.loc_spec_plane.specs.Tables.{Table, IsTable, NoConflict, corner, edge, hi_of, lo_of, pair_before}
+use Rattle.loc_spec_plane.specs.Tables.{Table, IsTable, NoConflict, corner, edge, hi_of, lo_of}
 use Rattle.loc_spec_plane.specs.Places.{IsJustBelow, IsVersion, alive_at, is_edge, lower_of}
 use Rattle.loc_spec_plane.specs.Covers.{cover_above}
-use Rattle.loc_laws_order.proofs.TableOrder.{rises}
 use Rattle.loc_status.specs.Lists.{IsNextBelow}
 use Rattle.loc_status.proofs.Ends as ends
 use Rattle.loc_status.proofs.AtCorner.{alive_at_corner}
@@ -149,11 +148,3 @@ module _ (t : Table) (c : ℕ) (Holds : ℕ → Type 0) where
     pub among_all : (least : Option ℕ) → IsLeastAmong list least → IsLeastFrom t c Holds least
     among_all None seen = λ e within begins. seen e (listed e within begins) begins
     among_all (Some n) seen = let m = (member t ok c fits list version n seen.0).0 in (m, seen.1, seen.2, λ e less begins. seen.3 e (listed e (omega (arith, m, less)) begins) begins less)
-
--- ---- corner after corner
--- an edge with a lesser number begins no later
-pub begins_before : (t : Table) → IsTable t → (d e : ℕ) → d < e → e < length t.ends → lo_of t d ≤ lo_of t e
-begins_before t ok d e less fits = elim (or_cases (nat_lt (lo_of t d) (lo_of t e)) ((lo_of t d == lo_of t e) && nat_lt (hi_of t d) (hi_of t e)) (rises pair_before (0, 0) t.ends d e ok.edges_rise less fits)) [
-  | inl before ↦ (let under : lo_of t d < lo_of t e = ltb-true (lo_of t d) (lo_of t e) before in omega (arith, under))
-  | inr beside ↦ (let same : lo_of t d ≡ lo_of t e = eqb-true (lo_of t d) (lo_of t e) (and_parts (lo_of t d == lo_of t e) (nat_lt (hi_of t d) (hi_of t e)) beside).0 in omega (arith, same))
-]

@@ -4,7 +4,7 @@ use Rattle.std.specs.Prelude.{Option, Some, None, is_some}
 use Rattle.std.proofs.lemmas.Bool.{cases_order, true≢false}
 use Rattle.loc_spec_plane.specs.Tables.{Table, IsTable, lo_of}
 use Rattle.loc_verify.specs.Least.{IsLeastFailing, IsLeastFrom}
-use Rattle.loc_verify.proofs.Wrong.{begins_before}
+use Rattle.loc_laws_order.proofs.TableOrder.{lo_rises}
 
 module _ (t : Table) (ok : IsTable t) (c : ℕ) (Holds : ℕ → Type 0) (earlier : (e : ℕ) → e < length t.ends → lo_of t e < c → Holds e) where
   -- the first corner with a wrong one has the least
@@ -14,7 +14,7 @@ module _ (t : Table) (ok : IsTable t) (c : ℕ) (Holds : ℕ → Type 0) (earlie
     found.0,
     found.2,
     λ m less.
-        (let rise : lo_of t m ≤ lo_of t n = begins_before t ok m n less found.0 in
+        (let rise : lo_of t m ≤ lo_of t n = lo_rises t ok m n less found.0 in
         let begins = found.1 in
         elim (cases_order (lo_of t m) c) [
           | inl here ↦ found.3 m less here

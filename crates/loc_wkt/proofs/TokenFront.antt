@@ -1,6 +1,6 @@
 -- The longest token at the front of a text.
 use Rattle.std.proofs.Common.{◌≡◌, ℕ, zero, suc, ◌<◌, ◌≤◌, List, [], ◌∷◌, Bool, true, false, ◌⊎◌, inl, inr, ◌&&◌, ◌||◌, not, ◌==◌, refl, sym, ◌∙◌, ap, subst, arith, one-add, max, ne_eqb, length, take, get_or}
-use Rattle.std.proofs.lemmas.Bool.{cases_lt}
+use Rattle.std.proofs.lemmas.Bool.{and_right, cases_lt, or_right}
 use Rattle.std.proofs.lemmas.Bool.Decides.{nat_tests}
 use Rattle.std.proofs.lemmas.List.{length-take-le, get_or-take}
 use Rattle.std.proofs.lemmas.List.Sums.{prefix_len-le-length, prefix_len_passes, prefix_len_stops}
@@ -13,14 +13,6 @@ use Rattle.loc_spec_text.specs.Tokens.{is_token, is_word}
 use Rattle.loc_wkt.specs.TokenList.{longest}
 use Rattle.loc_wkt.proofs.TokenSteps.{no_digit, start_stops}
 use Rattle.loc_wkt.proofs.TokenLongest.{IsLongestTo, longest-is, longest-holds}
-
-and_no : (a b : Bool) → b ≡ false → (a && b) ≡ false
-and_no true b h = h
-and_no false b h = refl
-
-or_yes : (a b : Bool) → b ≡ true → (a || b) ≡ true
-or_yes true b h = refl
-or_yes false b h = h
 
 -- the front that passes does pass
 pub front_passes : (p : ℕ → Bool) (text : List ℕ) → list_all p (take (prefix_len p text) text) ≡ true
@@ -35,7 +27,7 @@ front_passes p (b ∷ text) = at (p b) refl (front_passes p text)
 no_word : (text : List ℕ) (k : ℕ) → prefix_len is_ascii_alphabetic text < k → k ≤ length text → is_word (take k text) ≡ false
 no_word text k h k_le = let w : ℕ = prefix_len is_ascii_alphabetic text in
     let inside : w < length (take k text) = rw (length-take-le k text k_le) h in
-    and_no (not (length (take k text) == 0)) (list_all is_ascii_alphabetic (take k text)) (list_all_at is_ascii_alphabetic (take k text) w 0 inside
+    and_right (not (length (take k text) == 0)) (list_all is_ascii_alphabetic (take k text)) (list_all_at is_ascii_alphabetic (take k text) w 0 inside
     (ap is_ascii_alphabetic (get_or-take k text w 0 h) ∙ prefix_len_stops is_ascii_alphabetic text 0 (omega arith)))
 
 -- a letter begins no number
@@ -66,11 +58,11 @@ pub token_word : (text : List ℕ) (w : ℕ) → w ≡ prefix_len is_ascii_alpha
 token_word text w e h = e ∙ longest-is is_token text (prefix_len is_ascii_alphabetic text) (word_longest text (omega arith))
 
 number_passes : (text : List ℕ) → is_number text ≡ true → is_token text ≡ true
-number_passes text h = rw (h, or_yes (is_word text) true refl) refl
+number_passes text h = rw (h, or_right (is_word text) true refl) refl
 
 pub byte_passes : (text : List ℕ) → 0 < length text → is_white (get_or text 0 0) ≡ false → is_token (take 1 text) ≡ true
 byte_passes [] h white = absurd (omega arith)
-byte_passes (b ∷ text) h white = or_yes (is_word (b ∷ []) || is_number (b ∷ [])) _ (rw white refl)
+byte_passes (b ∷ text) h white = or_right (is_word (b ∷ []) || is_number (b ∷ [])) _ (rw white refl)
 
 -- and else the longest number, or one byte where none begins
 pub token_other : (text : List ℕ) (n : ℕ) → prefix_len is_ascii_alphabetic text < 1 → n ≡ longest is_number text → 0 < length text → is_white (get_or text 0 0) ≡ false → max n 1 ≡ longest is_token text

@@ -3,6 +3,7 @@ mod Cuts
 mod Distinct
 mod Made
 mod Named
+mod NamedRows
 mod Numbers
 mod Options
 mod Places

@@ -5,8 +5,8 @@ use Rattle.std.specs.List.{list_all}
 use Rattle.std.specs.Int.{IsInRange}
 use Rattle.std.specs.Result.{OkIff, result_ok}
 use Rattle.std.specs.Str.Parse.{IsNumeral, ParsesUnsigned, digits_value, without_leading_plus}
-use Rattle.std.proofs.lemmas.Bool.{and_parts, cases_Bool, ne_eqb, leb-true, le-leb, lt-ltb, ltb-true}
-use Rattle.std.proofs.lemmas.Str.Parse.{IsDigitsTest, numerals_by_value}
+use Rattle.std.proofs.lemmas.Bool.{and_parts, cases_Bool, ne_eqb, le-leb, lt-ltb, ltb-true}
+use Rattle.std.proofs.lemmas.Str.Parse.{numerals_by_value}
 use Rattle.loc_spec_text.specs.Bytes.{Text}
 use Rattle.loc_spec_text.proofs.DigitLaws.{ascii_digits, digit_range}
 use Rattle.loc_words.specs.Words.{number_word}

@@ -8,6 +8,7 @@ use Rattle.std.specs.Str.Parse.{digits_value}
 use Rattle.loc_spec_text.specs.Bytes.{Text}
 use Rattle.loc_spec_asked.specs.declared.Index.{Index}
 use Rattle.loc_spec_asked.specs.declared.Index.TheVariants.{Scan, Tree, Trap}
+use Rattle.loc_spec_asked.specs.Orders.{AskedOrder, asked_order, in_file, shuffled_from}
 use Rattle.loc_spec_text.specs.declared.Form.{Form}
 use Rattle.loc_spec_text.specs.declared.Form.TheVariants.{Lines, Csv}
 use Rattle.loc_gen.specs.declared.kinds.Kind.{Kind}
@@ -19,15 +20,14 @@ use Rattle.loc_words.specs.declared.row.OptionRow.{OptionRow as Declared}
 use Rattle.loc_words.specs.declared.command.Command.{Command}
 use Rattle.loc_words.specs.declared.command.Command.TheVariants.{Query, Check, Build, Ask, Verify, Face, Gen, Trial}
 
--- what a query says; the order of the edges is that of a file, or shuffled from a number
+-- what a query says
 pub record AskedQuery : Type 0 where
   pub layer : Text
   pub points : Text
   pub scale : ℕ
   pub form : Form
   pub index : Index
-  pub order : Option Text
-  pub shuffle : ℕ
+  pub order : AskedOrder
   pub faces : Bool
 
 -- what a check says
@@ -85,7 +85,7 @@ pub data Asked : Type 0 where
 
 -- what a command says
 abbrev pub asked_by : Command → Asked
-asked_by (Query q) = query (record { layer = q.layer.now; points = q.points.now; scale = q.scale; form = q.form; index = q.index; order = option_map (λ s. s.now) q.order; shuffle = q.shuffle; faces = q.faces })
+asked_by (Query q) = query (record { layer = q.layer.now; points = q.points.now; scale = q.scale; form = q.form; index = q.index; order = asked_order q.order; faces = q.faces })
 asked_by (Check c) = check (record { layer = c.layer.now; scale = c.scale; form = c.form })
 asked_by (Build b) = build (record { layer = b.layer.now; index = b.index.now; scale = b.scale; form = b.form })
 asked_by (Ask a) = ask (record { index = a.index.now; points = a.points.now })
@@ -144,12 +144,12 @@ abbrev pub index_or_tree : Option Text → Option Index
 index_or_tree None = Some Tree
 index_or_tree (Some word) = index_word word
 
--- the order's file and the number of the shuffle, by their words: they stand only beside trap, and not together; the number is 1 where it is left out
-abbrev pub order_and_shuffle : Index → Option Text → Option Text → Option (Option Text × ℕ)
-order_and_shuffle index None None = Some (None, 1)
-order_and_shuffle Trap (Some file) None = Some (Some file, 1)
-order_and_shuffle Trap None (Some number) = option_map (λ n. (None, n)) (number_word number)
-order_and_shuffle index order shuffle = None
+-- the order of the edges, by its words: they stand only beside trap, and not together; it is shuffled from 1 where it is left out
+abbrev pub order_by_words : Index → Option Text → Option Text → Option AskedOrder
+order_by_words index None None = Some (shuffled_from 1)
+order_by_words Trap (Some name) None = Some (in_file name)
+order_by_words Trap None (Some number) = option_map shuffled_from (number_word number)
+order_by_words index order shuffle = None
 
 -- a kind of generated layer by its name
 abbrev pub kind_word : Text → Option Kind
@@ -209,13 +209,13 @@ generated_given given = option_and_then (λ kind. option_and_then (λ n. option_
 abbrev pub index_given : List Entry → Option Index
 index_given given = index_or_tree (value_in given (codes "index"))
 
--- the index, the order's file and the number of the shuffle, of what was given
-abbrev pub order_given : List Entry → Option (Index × Option Text × ℕ)
-order_given given = option_and_then (λ index. option_map (λ order. (index, order.0, order.1)) (order_and_shuffle index (value_in given (codes "order")) (value_in given (codes "shuffle")))) (index_given given)
+-- the index and the order of the edges, of what was given
+abbrev pub order_given : List Entry → Option (Index × AskedOrder)
+order_given given = option_and_then (λ index. option_map (λ order. (index, order)) (order_by_words index (value_in given (codes "order")) (value_in given (codes "shuffle")))) (index_given given)
 
 -- the query of what was given
 abbrev pub query_from : List Entry → Option Asked
-query_from given = option_and_then (λ file. option_and_then (λ points. option_map (λ by. query (record { layer = file.0; points = points; scale = file.1; form = file.2; index = by.0; order = by.1; shuffle = by.2; faces = stands given (codes "faces") }))
+query_from given = option_and_then (λ file. option_and_then (λ points. option_map (λ by. query (record { layer = file.0; points = points; scale = file.1; form = file.2; index = by.0; order = by.1; faces = stands given (codes "faces") }))
     (order_given given)) (value_in given (codes "points"))) (layer_given given)
 
 -- the check of what was given

@@ -1,12 +1,14 @@
 //! The command that words are.
-ghost use Rattle.std.specs.Prelude.{◌≡◌, ◌≤◌, IfErr, IfOk, IfSome, None, Some, map, option_and_then, option_map, string_bytes};
+ghost use Rattle.std.specs.Prelude.{◌≡◌, ◌≤◌, ◌∷◌, [], IfErr, IfOk, IfSome, None, Some, find, if◌then◌else◌, map, option_and_then, option_map, string_bytes};
+ghost use Rattle.std.specs.Str.{bytes_eq};
+ghost use Rattle.loc_spec_asked.specs.Orders.{asked_order};
 ghost use Rattle.loc_words.specs.Apps.{given_by};
 ghost use Rattle.loc_words.specs.Words as spec;
 
 use crate::parser::{Given, read_row};
 use crate::row::{CommandRow, OptionKind, OptionRow};
-use crate::values::{kind_of, number_of, read_index, read_order_and_shuffle, read_scale_and_form};
-use crate::{Form, Index, Kind, WordsFault};
+use crate::values::{kind_of, number_of, read_index, read_order, read_scale_and_form};
+use crate::{EdgeOrder, Form, Index, Kind, WordsFault};
 use std::alloc::{AllocError, Global};
 
 /// A command with its values.
@@ -39,8 +41,7 @@ pub struct Query<'a> {
     pub scale: u8,
     pub form: Form,
     pub index: Index,
-    pub order: Option<&'a str>,
-    pub shuffle: u64,
+    pub order: EdgeOrder<'a>,
     pub faces: bool,
 }
 
@@ -198,27 +199,22 @@ fn generated_given<'a>(given: &Given<'a>) -> Option<(Kind, u64, u64)>
     Some((kind, n, shift))
 }
 
-// The index, the order's file and the number of the shuffle, of what was given.
-fn order_given<'a>(given: &Given<'a>) -> Option<(Index, Option<&'a str>, u64)>
-    ensures { option_map (λ by. (by.0, option_map (λ s. s.now) by.1, by.2)) result ≡ spec.order_given (given_by given.now) }
+// The index and the order of the edges, of what was given.
+fn order_given<'a>(given: &Given<'a>) -> Option<(Index, EdgeOrder<'a>)>
+    ensures { option_map (λ by. (by.0, asked_order by.1)) result ≡ spec.order_given (given_by given.now) }
 {
     let index = read_index(given.value("index"))?;
-    let (order, shuffle) = read_order_and_shuffle(
-        index,
-        given.value("order"),
-        given.value("shuffle"),
-    )?;
-    Some((index, order, shuffle))
+    let order = read_order(index, given.value("order"), given.value("shuffle"))?;
+    Some((index, order))
 }
 
-fn query_from<'a>(given: Option<Given<'a>>) -> Option<Command<'a>>
+fn query_from<'a>(given: &Given<'a>) -> Option<Command<'a>>
     ensures scale { IfSome result spec.HasScale }
-    ensures value { option_map spec.asked_by result ≡ option_and_then spec.query_from (option_map given_by given.entry) }
+    ensures value { option_map spec.asked_by result ≡ spec.query_from (given_by given.now) }
 {
-    let given = given?;
-    let (layer, scale, form) = layer_given(&given)?;
+    let (layer, scale, form) = layer_given(given)?;
     let points = given.value("points")?;
-    let (index, order, shuffle) = order_given(&given)?;
+    let (index, order) = order_given(given)?;
     let faces = given.stands("faces");
     Some(Command::Query(Query {
         layer,
@@ -227,25 +223,23 @@ fn query_from<'a>(given: Option<Given<'a>>) -> Option<Command<'a>>
         form,
         index,
         order,
-        shuffle,
         faces,
     }))
 }
 
-fn check_from<'a>(given: Option<Given<'a>>) -> Option<Command<'a>>
+fn check_from<'a>(given: &Given<'a>) -> Option<Command<'a>>
     ensures scale { IfSome result spec.HasScale }
-    ensures value { option_map spec.asked_by result ≡ option_and_then spec.check_from (option_map given_by given.entry) }
+    ensures value { option_map spec.asked_by result ≡ spec.check_from (given_by given.now) }
 {
-    let (layer, scale, form) = layer_given(&given?)?;
+    let (layer, scale, form) = layer_given(given)?;
     Some(Command::Check(Check { layer, scale, form }))
 }
 
-fn build_from<'a>(given: Option<Given<'a>>) -> Option<Command<'a>>
+fn build_from<'a>(given: &Given<'a>) -> Option<Command<'a>>
     ensures scale { IfSome result spec.HasScale }
-    ensures value { option_map spec.asked_by result ≡ option_and_then spec.build_from (option_map given_by given.entry) }
+    ensures value { option_map spec.asked_by result ≡ spec.build_from (given_by given.now) }
 {
-    let given = given?;
-    let (layer, scale, form) = layer_given(&given)?;
+    let (layer, scale, form) = layer_given(given)?;
     let index = given.value("index")?;
     Some(Command::Build(Build {
         layer,
@@ -255,31 +249,28 @@ fn build_from<'a>(given: Option<Given<'a>>) -> Option<Command<'a>>
     }))
 }
 
-fn ask_from<'a>(given: Option<Given<'a>>) -> Option<Command<'a>>
+fn ask_from<'a>(given: &Given<'a>) -> Option<Command<'a>>
     ensures scale { IfSome result spec.HasScale }
-    ensures value { option_map spec.asked_by result ≡ option_and_then spec.ask_from (option_map given_by given.entry) }
+    ensures value { option_map spec.asked_by result ≡ spec.ask_from (given_by given.now) }
 {
-    let given = given?;
     let index = given.value("index")?;
     let points = given.value("points")?;
     Some(Command::Ask(Ask { index, points }))
 }
 
-fn verify_from<'a>(given: Option<Given<'a>>) -> Option<Command<'a>>
+fn verify_from<'a>(given: &Given<'a>) -> Option<Command<'a>>
     ensures scale { IfSome result spec.HasScale }
-    ensures value { option_map spec.asked_by result ≡ option_and_then spec.verify_from (option_map given_by given.entry) }
+    ensures value { option_map spec.asked_by result ≡ spec.verify_from (given_by given.now) }
 {
-    let given = given?;
     let index = given.value("index")?;
     Some(Command::Verify(Verify { index }))
 }
 
-fn face_from<'a>(given: Option<Given<'a>>) -> Option<Command<'a>>
+fn face_from<'a>(given: &Given<'a>) -> Option<Command<'a>>
     ensures scale { IfSome result spec.HasScale }
-    ensures value { option_map spec.asked_by result ≡ option_and_then spec.face_from (option_map given_by given.entry) }
+    ensures value { option_map spec.asked_by result ≡ spec.face_from (given_by given.now) }
 {
-    let given = given?;
-    let (layer, scale, form) = layer_given(&given)?;
+    let (layer, scale, form) = layer_given(given)?;
     let point = given.value("point")?;
     Some(Command::Face(Face {
         layer,
@@ -289,20 +280,19 @@ fn face_from<'a>(given: Option<Given<'a>>) -> Option<Command<'a>>
     }))
 }
 
-fn gen_from<'a>(given: Option<Given<'a>>) -> Option<Command<'a>>
+fn gen_from<'a>(given: &Given<'a>) -> Option<Command<'a>>
     ensures scale { IfSome result spec.HasScale }
-    ensures value { option_map spec.asked_by result ≡ option_and_then spec.gen_from (option_map given_by given.entry) }
+    ensures value { option_map spec.asked_by result ≡ spec.gen_from (given_by given.now) }
 {
-    let (kind, n, shift) = generated_given(&given?)?;
+    let (kind, n, shift) = generated_given(given)?;
     Some(Command::Gen(Gen { kind, n, shift }))
 }
 
-fn trial_from<'a>(given: Option<Given<'a>>) -> Option<Command<'a>>
+fn trial_from<'a>(given: &Given<'a>) -> Option<Command<'a>>
     ensures scale { IfSome result spec.HasScale }
-    ensures value { option_map spec.asked_by result ≡ option_and_then spec.trial_from (option_map given_by given.entry) }
+    ensures value { option_map spec.asked_by result ≡ spec.trial_from (given_by given.now) }
 {
-    let given = given?;
-    let (kind, n, shift) = generated_given(&given)?;
+    let (kind, n, shift) = generated_given(given)?;
     let index = read_index(given.value("index"))?;
     Some(Command::Trial(Trial {
         kind,
@@ -310,6 +300,41 @@ fn trial_from<'a>(given: Option<Given<'a>>) -> Option<Command<'a>>
         shift,
         index,
     }))
+}
+
+// The row of the command of this name.
+fn row_named(name: &str) -> Option<&'static CommandRow<'static>>
+    ensures { option_map (λ row. spec.row_of row.now) result ≡ find (λ row. bytes_eq name.now row.name) (spec.query_row ∷ spec.check_row ∷ spec.build_row ∷ spec.ask_row ∷ spec.verify_row ∷ spec.face_row ∷ spec.gen_row ∷ spec.trial_row ∷ []) }
+{
+    match name {
+        "query" => Some(&QUERY),
+        "check" => Some(&CHECK),
+        "build" => Some(&BUILD),
+        "ask" => Some(&ASK),
+        "verify" => Some(&VERIFY),
+        "face" => Some(&FACE),
+        "gen" => Some(&GEN),
+        "trial" => Some(&TRIAL),
+        _ => None,
+    }
+}
+
+// The command of this name that is made of what was given for its row.
+fn command_from<'a>(name: &str, given: &Given<'a>) -> Option<Command<'a>>
+    ensures scale { IfSome result spec.HasScale }
+    ensures value { let said = given_by given.now in option_map spec.asked_by result ≡ (if bytes_eq name.now spec.query_row.name then spec.query_from said else if bytes_eq name.now spec.check_row.name then spec.check_from said else if bytes_eq name.now spec.build_row.name then spec.build_from said else if bytes_eq name.now spec.ask_row.name then spec.ask_from said else if bytes_eq name.now spec.verify_row.name then spec.verify_from said else if bytes_eq name.now spec.face_row.name then spec.face_from said else if bytes_eq name.now spec.gen_row.name then spec.gen_from said else if bytes_eq name.now spec.trial_row.name then spec.trial_from said else None) }
+{
+    match name {
+        "query" => query_from(given),
+        "check" => check_from(given),
+        "build" => build_from(given),
+        "ask" => ask_from(given),
+        "verify" => verify_from(given),
+        "face" => face_from(given),
+        "gen" => gen_from(given),
+        "trial" => trial_from(given),
+        _ => None,
+    }
 }
 
 // The command of this name that the words behind it are.
@@ -321,16 +346,12 @@ fn command_named<'a>(
     ensures scale { IfOk result (λ command. IfSome command spec.HasScale) }
     ensures value { IfOk result (λ command. option_map spec.asked_by command ≡ spec.command_named name.now (map string_bytes words.now)) }
 {
-    match name {
-        "query" => Ok(query_from(read_row(alloc, &QUERY, words)?)),
-        "check" => Ok(check_from(read_row(alloc, &CHECK, words)?)),
-        "build" => Ok(build_from(read_row(alloc, &BUILD, words)?)),
-        "ask" => Ok(ask_from(read_row(alloc, &ASK, words)?)),
-        "verify" => Ok(verify_from(read_row(alloc, &VERIFY, words)?)),
-        "face" => Ok(face_from(read_row(alloc, &FACE, words)?)),
-        "gen" => Ok(gen_from(read_row(alloc, &GEN, words)?)),
-        "trial" => Ok(trial_from(read_row(alloc, &TRIAL, words)?)),
-        _ => Ok(None),
+    let Some(row) = row_named(name) else {
+        return Ok(None);
+    };
+    match read_row(alloc, row, words)? {
+        Some(given) => Ok(command_from(name, &given)),
+        None => Ok(None),
     }
 }
 

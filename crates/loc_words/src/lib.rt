@@ -15,7 +15,7 @@ mod words;
 pub use command::{Ask, Build, Check, Command, Face, Gen, Query, Trial, Verify, command_of};
 pub use fault::WordsFault;
 pub use loc_gen::Kind;
-pub use loc_spec_asked::Index;
+pub use loc_spec_asked::{EdgeOrder, Index};
 pub use loc_spec_text::Form;
 pub use parser::clap_takes_commands;
 pub use row::OptionKind;

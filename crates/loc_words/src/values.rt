@@ -2,9 +2,10 @@
 ghost use Rattle.std.specs.Prelude.{◌≡◌, ◌≤◌, IfSome, option_map};
 ghost use Rattle.std.specs.Char.{is_ascii_digit};
 ghost use Rattle.std.specs.List.{list_all};
-ghost use Rattle.loc_words.specs.Words.{form_word, index_or_tree, index_word, kind_word, number_word, order_and_shuffle, scale_word, scale_and_form};
+ghost use Rattle.loc_spec_asked.specs.Orders.{asked_order};
+ghost use Rattle.loc_words.specs.Words.{form_word, index_or_tree, index_word, kind_word, number_word, order_by_words, scale_word, scale_and_form};
 
-use crate::{Form, Index, Kind};
+use crate::{EdgeOrder, Form, Index, Kind};
 
 const MOST_DIGITS: usize = 20;
 
@@ -90,18 +91,18 @@ pub(crate) fn read_index(index: Option<&str>) -> Option<Index>
     }
 }
 
-/// The order's file and the number of the shuffle, 1 where it is left out, of their words: they stand only beside trap, and not together.
-pub(crate) fn read_order_and_shuffle<'a>(
+/// The order of the edges, shuffled from 1 where it is left out, of its words: they stand only beside trap, and not together.
+pub(crate) fn read_order<'a>(
     index: Index,
     order: Option<&'a str>,
     shuffle: Option<&str>,
-) -> Option<(Option<&'a str>, u64)>
-    ensures { option_map (λ values. (option_map (λ s. s.now) values.0, values.1)) result ≡ order_and_shuffle index (option_map (λ s. s.now) order.entry) (option_map (λ s. s.now) shuffle.entry) }
+) -> Option<EdgeOrder<'a>>
+    ensures { option_map asked_order result ≡ order_by_words index (option_map (λ s. s.now) order.entry) (option_map (λ s. s.now) shuffle.entry) }
 {
     match (index, order, shuffle) {
-        (_, None, None) => Some((None, FIRST_SHUFFLE)),
-        (Index::Trap, Some(file), None) => Some((Some(file), FIRST_SHUFFLE)),
-        (Index::Trap, None, Some(number)) => Some((None, number_of(number)?)),
+        (_, None, None) => Some(EdgeOrder::Shuffled(FIRST_SHUFFLE)),
+        (Index::Trap, Some(name), None) => Some(EdgeOrder::File(name)),
+        (Index::Trap, None, Some(number)) => Some(EdgeOrder::Shuffled(number_of(number)?)),
         _ => None,
     }
 }

@@ -1,4 +1,4 @@
-use Rattle.loc_geom.proofs.Symmetry.{touch_swap, conflict_swap}
+use Rattle.loc_laws_order.proofs.Tests.{conflict_swap, touch_swap}
 use Rattle.loc_geom.proofs.laws.conflict_symmetry.Goals as goal
 
 pub returns-clause-both : goal.returns-clause-both

@@ -1,0 +1,66 @@
+-- The row that a name has, and the command of its name that words are.
+use Rattle.std.proofs.Common.{◌≡◌, ◌∙◌, Bool, true, false, List, [], ◌∷◌, map, find, if◌then◌else◌, Option, Some, None, option_and_then, ap, refl, sym}
+use Rattle.std.specs.List.{list_all}
+use Rattle.std.specs.Str.{bytes_eq}
+use Rattle.std.proofs.lemmas.Bool.{and_parts}
+use Rattle.std.proofs.lemmas.Option.{same_Some}
+use Rattle.loc_spec_text.specs.Bytes.{Text}
+use Rattle.loc_words.specs.Rows.{CommandRow, Entry, given_of, is_row}
+use Rattle.loc_words.specs.Words.{Asked, query_row, check_row, build_row, ask_row, verify_row, face_row, gen_row, trial_row, query_from, check_from, build_from, ask_from, verify_from, face_from, gen_from, trial_from}
+
+-- a row, and what is made of what is given for it
+abbrev pub Making : Type 0
+Making = CommandRow × (List Entry → Option Asked)
+
+-- all commands
+abbrev pub commands : List Making
+commands = (query_row, query_from) ∷ (check_row, check_from) ∷ (build_row, build_from) ∷ (ask_row, ask_from) ∷ (verify_row, verify_from) ∷ (face_row, face_from) ∷ (gen_row, gen_from) ∷ (trial_row, trial_from) ∷ []
+
+-- the row of this name
+abbrev pub row_in : List Making → Text → Option CommandRow
+row_in all name = find (λ row. bytes_eq name row.name) (map (λ by. by.0) all)
+
+-- what is made, under this name, of what is given
+abbrev pub made_in : List Making → Text → List Entry → Option Asked
+made_in [] name given = None
+made_in (by ∷ all) name given = if bytes_eq name by.0.name then by.1 given else made_in all name given
+
+-- what is made of the words behind this name
+abbrev pub named_in : List Making → Text → List Text → Option Asked
+named_in [] name words = None
+named_in (by ∷ all) name words = if bytes_eq name by.0.name then option_and_then by.1 (given_of by.0 words) else named_in all name words
+
+-- the first command, if it has the name, or else a later one
+first_or_later : (here : Bool) (first row : CommandRow) (by later : List Entry → Option Asked) (rows : Option CommandRow) (named : Option Asked) (words : List Text) → (if here then Some first else rows) ≡ Some row
+    → (rows ≡ Some row → named ≡ option_and_then later (given_of row words))
+    → (if here then option_and_then by (given_of first words) else named) ≡ option_and_then (λ given. if here then by given else later given) (given_of row words)
+first_or_later true first row by later rows named words is rest = ap (λ r. option_and_then by (given_of r words)) (same_Some first row is)
+first_or_later false first row by later rows named words is rest = rest is
+
+-- the words behind a name are read by its row
+pub by_row : (all : List Making) (name : Text) (words : List Text) (row : CommandRow) → row_in all name ≡ Some row → named_in all name words ≡ option_and_then (made_in all name) (given_of row words)
+by_row [] name words row is = absurd (cc is)
+by_row (by ∷ all) name words row is = first_or_later (bytes_eq name by.0.name) by.0 row by.1 (made_in all name) (row_in all name) (named_in all name words) words is (by_row all name words row)
+
+-- with no row no words are a command
+pub no_row : (all : List Making) (name : Text) (words : List Text) → row_in all name ≡ None → named_in all name words ≡ None
+no_row [] name words is = refl
+no_row (by ∷ all) name words is = not_first (bytes_eq name by.0.name) (no_row all name words) is
+  where
+    not_first : (here : Bool) → (row_in all name ≡ None → named_in all name words ≡ None) → (if here then Some by.0 else row_in all name) ≡ None
+        → (if here then option_and_then by.1 (given_of by.0 words) else named_in all name words) ≡ None
+    not_first true rest none = absurd (cc none)
+    not_first false rest none = rest none
+
+-- the row that is found has what all rows have
+pub found_holds : (p test : CommandRow → Bool) (rows : List CommandRow) (row : CommandRow) → list_all p rows ≡ true → find test rows ≡ Some row → p row ≡ true
+found_holds p test [] row each is = absurd (cc is)
+found_holds p test (first ∷ rows) row each is = let parts = and_parts (p first) (list_all p rows) each in of_both (test first) parts.0 (found_holds p test rows row parts.1) is
+  where
+    of_both : (here : Bool) → p first ≡ true → (find test rows ≡ Some row → p row ≡ true) → (if here then Some first else find test rows) ≡ Some row → p row ≡ true
+    of_both true holds rest is = ap p (sym (same_Some first row is)) ∙ holds
+    of_both false holds rest is = rest is
+
+-- the row of a name can be read
+pub is_read : (name : Text) (row : CommandRow) → row_in commands name ≡ Some row → is_row row ≡ true
+is_read name row is = found_holds is_row (λ row. bytes_eq name row.name) (map (λ by. by.0) commands) row refl is
