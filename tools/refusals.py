@@ -42,7 +42,8 @@ class Piece(NamedTuple):
 
 
 class Case(NamedTuple):
-    """A layer that is refused, the note that refuses it, the source that it was made of, and whether that may have more decimals."""
+    """A layer that is refused, the note that refuses it, the source that it was made of, where that is known, and whether that may have
+    more decimals."""
     path: str
     scale: int
     form: str
@@ -54,14 +55,16 @@ class Case(NamedTuple):
         """The layer as the tools are told of it."""
         return f"{shlex.quote(str(self.path))} {{}} --scale {self.scale}" + (" --form csv" if self.form == "csv" else "")
 
-    def out(self, word):
-        return shlex.quote(os.path.splitext(os.path.basename(str(self.path)))[0] + f"_{word}" + (".csv" if self.form == "csv" else ".wkt"))
+    def out(self, word, form=None):
+        """A name for a file that is made of the layer."""
+        name = os.path.splitext(os.path.basename(str(self.path)))[0]
+        return shlex.quote(f"{name}_{word}" + (".csv" if (form or self.form) == "csv" else ".wkt"))
 
     def command(self, tool, more=""):
         return f"tools/{tool} {self.words().format(self.out('mended'))}{more}"
 
     def import_command(self, more):
-        return f"tools/import {shlex.quote(self.source)} {self.out('new')} {more}".rstrip()
+        return f"tools/import {shlex.quote(str(self.source or self.path))} {self.out('new', 'csv')} {more}".rstrip()
 
 
 def is_conflict(run):
@@ -69,7 +72,7 @@ def is_conflict(run):
     return run.status == REFUSED and CONFLICT.fullmatch(run.note) is not None
 
 
-def explained(path, scale, form, note, source="SOURCE", has_finer=True):
+def explained(path, scale, form, note, source=None, has_finer=True):
     """The lines that explain a note with which `locate` refused a layer."""
     case = Case(path, scale, form, note, source, has_finer)
     return [f"refused: {note}"] + lines_of(case)
@@ -164,7 +167,7 @@ def of_place(case, number, fault):
                         f"mend: iconv -f latin1 -t utf-8 {shlex.quote(str(case.path))} >{case.out('utf8')}"]
     if fault == "id too long":
         return lines + [f"what: the id has {len(piece.name.encode('utf-8', 'surrogateescape'))} bytes, and at most {LONGEST_ID} are read",
-                        "mend: name another column of the source: " + case.import_command("--id COLUMN")]
+                        "mend: take another column as the id: " + case.import_command("--id COLUMN")]
     return lines + of_text(case, piece, fault)
 
 
@@ -230,6 +233,8 @@ def of_numbers(case, piece, number, fault):
         return lines + ["mend: a number is past 10^18 itself: look whether the coordinates are right"]
     if needed is not None and needed <= most:
         lines.append(f"mend: say --scale {needed}, which holds all numbers as they are written")
+        if fault == "out of range":
+            return lines
     elif fault == "out of range":
         lines.append(f"what: the largest scale at which all numbers are in range is {most}, and some have more decimals: round them")
     return lines + [f"mend: {case.import_command(f'--scale {min(case.scale, most)}')}, which rounds"]
@@ -403,7 +408,7 @@ def mends(case, edges, sizes, kinds):
         lines.append(f"mend: {case.command('mend', more)}"
                      + ("" if len(small) == len(sizes) else f", for {len(small)} of them"))
     if "rounding" in kinds and case.has_finer:
-        lines.append(f"mend: or take more decimals, if the source has them: {case.import_command('--scale auto')}")
+        lines.append("mend: or take more decimals, if the source of the layer has them: tools/import SOURCE ... --scale auto")
     if len(small) < len(sizes):
         lines.append(f"mend: for polygons that truly overlap, leave a few out: tools/faults {case.words().format('').replace('  ', ' ')} "
                      f"--drop {case.out('rest')}")
