@@ -22,10 +22,12 @@ MOST_EDGES = 400_000
 # More digits of a distance than the scale has, before it is rounded up.
 MORE_DIGITS = 4
 # A conflict is small where it is at most the extent of the layer divided by this.
-SMALL = 1000
+SMALL = 100
 # A conflict of at most so many units of the scale comes from rounding.
 UNITS_OF_ROUNDING = 2
 LONGEST_SHOWN = 60
+# How many groups of sizes are told at most.
+MOST_SIZES = 5
 
 PLACED = re.compile(r"layer (line|row) ([0-9]+): (.*)", re.DOTALL)
 CONFLICT = re.compile(r"layer: edges (.*) and (.*) (cross|touch)")
@@ -186,15 +188,16 @@ def of_text(case, piece, fault):
         return of_rings(case, piece, int(of_ring[1]), of_ring[2])
     start = f"what: the text begins {cut(piece.text.strip(WHITE))!r}"
     if fault == "dimension":
-        return [start, "cause: the points have heights or measures", "mend: " + case.import_command(f"--scale {case.scale}") + ", which drops them"]
+        return [start, "cause: the points have heights or measures", "mend by dropping them: " + case.import_command(f"--scale {case.scale}")]
     if fault == "tag" and piece.text.upper().lstrip(WHITE).startswith(("CURVE", "MULTISURFACE")):
-        return [start, "cause: the polygon has curved sides", "mend: " + case.import_command("") + ", which makes them straight"]
+        return [start, "cause: the polygon has curved sides", "mend by making them straight: " + case.import_command("")]
     if case.form == "lines" and (fault == "tag" or '"' in piece.text):
         return [start, "cause: the layer is a CSV, which is read as lines; or the line is no POLYGON and no MULTIPOLYGON",
                 "mend: say --form csv, or leave out what is no polygon"]
     if fault == "tag":
         return [start, "cause: the row is no POLYGON and no MULTIPOLYGON, or a number of the coordinate system stands before it",
-                "mend: " + case.import_command("") + ", which leaves out points and lines; in PostGIS ST_AsText in place of ST_AsEWKT"]
+                "mend by leaving out points and lines: " + case.import_command(""),
+                "mend in PostGIS: say ST_AsText in place of ST_AsEWKT"]
     if re.fullmatch("[0-9A-Fa-f]{20,}", piece.text.strip(WHITE)):
         return [start, "cause: this is the geometry in the bytes of PostGIS", "mend: ST_AsText(geom) in place of geom"]
     return [start, "cause: the text is cut off, or was written by hand", "mend: write the layer again: " + case.import_command("")]
@@ -237,7 +240,7 @@ def of_numbers(case, piece, number, fault):
             return lines
     elif fault == "out of range":
         lines.append(f"what: the largest scale at which all numbers are in range is {most}, and some have more decimals: round them")
-    return lines + [f"mend: {case.import_command(f'--scale {min(case.scale, most)}')}, which rounds"]
+    return lines + [f"mend by rounding: {case.import_command(f'--scale {min(case.scale, most)}')}"]
 
 
 def of_rings(case, piece, number, fault):
@@ -247,13 +250,13 @@ def of_rings(case, piece, number, fault):
     if fault == "short":
         return [f"what: ring {number} has {len(points)} points, and a ring has at least four, of which the last equals the first",
                 "cause: the text was written or cut by hand, or a small ring collapsed where it was rounded",
-                f"mend: {case.import_command(f'--scale {case.scale}')}, which drops rings that collapse"]
+                f"mend by dropping rings that collapse: {case.import_command(f'--scale {case.scale}')}"]
     first, last = points[0], points[-1]
     ends = [[grid_value(word, case.scale) for word in point] for point in (first, last)]
     far = distance(squares(*ends), case.scale)
     return [f"what: ring {number} begins at {' '.join(first)} and ends at {' '.join(last)}, {far} away",
             "cause: the ring was not closed where it was drawn, or its last point is missing",
-            f"mend: {case.import_command(f'--scale {case.scale} --close')}, which draws the missing side; look at the feature first"]
+            f"mend by drawing the missing side, if that is right: {case.import_command(f'--scale {case.scale} --close')}"]
 
 
 def squares(p, q):
@@ -359,8 +362,10 @@ def of_pair(case, layer, edges, owners, found, large):
 
 
 def sizes_told(sizes, scale):
-    """How many conflicts there are up to each power of ten, and the largest."""
+    """How many conflicts there are up to each power of ten, or of a thousand where these are many, and the largest."""
     counts = Counter(len(str(large)) if large else 0 for large in sizes)
+    if len(counts) > MOST_SIZES:
+        counts = Counter(-(-len(str(large)) // 3) * 3 if large else 0 for large in sizes)
     parts = []
     for digits in sorted(counts):
         bound = written(10 ** digits, scale + MORE_DIGITS) if digits else "0"
@@ -405,11 +410,11 @@ def mends(case, edges, sizes, kinds):
     if small:
         within = max(max(small), UNITS_OF_ROUNDING * 10 ** MORE_DIGITS)
         more = f" --within {written(within, case.scale + MORE_DIGITS, digits=2)}"
-        lines.append(f"mend: {case.command('mend', more)}"
-                     + ("" if len(small) == len(sizes) else f", for {len(small)} of them"))
+        of_them = "" if len(small) == len(sizes) else f" {len(small)} of them"
+        lines.append(f"mend{of_them}: {case.command('mend', more)}")
     if "rounding" in kinds and case.has_finer:
-        lines.append("mend: or take more decimals, if the source of the layer has them: tools/import SOURCE ... --scale auto")
+        lines.append("mend by more decimals, if the source of the layer has them: tools/import SOURCE OUT.csv --scale auto")
     if len(small) < len(sizes):
-        lines.append(f"mend: for polygons that truly overlap, leave a few out: tools/faults {case.words().format('').replace('  ', ' ')} "
-                     f"--drop {case.out('rest')}")
+        lines.append("mend by leaving out a few polygons, if they truly overlap: "
+                     f"tools/faults {case.words().replace(' {}', '')} --drop {case.out('rest')}")
     return lines
