@@ -201,6 +201,23 @@ def grid_value(written, scale):
     return -value if mantissa[0] == "-" else value
 
 
+def rounded(written, scale):
+    """The value of a number times 10^scale, rounded to a whole number, halves away from zero; None where that is out of range."""
+    mantissa, _, exponent = written.lower().partition("e")
+    whole, _, decimals = mantissa.lstrip("+-").partition(".")
+    digits = (whole + decimals).lstrip("0")
+    zeros = scale + small_int(exponent) - len(decimals)
+    if len(digits) + zeros > 19:
+        return None if digits else 0
+    if zeros >= 0:
+        value = int(digits or "0") * 10 ** zeros
+    else:
+        value = int(digits[:zeros] or "0") + (-zeros <= len(digits) and digits[zeros] >= "5")
+    if value > LARGEST:
+        return None
+    return -value if mantissa[0] == "-" else value
+
+
 def small_int(written):
     """The value of an exponent; one that no text is long enough to make up for stands as plus or minus 10^12."""
     digits = written.lstrip("+-").lstrip("0")
