@@ -57,11 +57,20 @@ class Layer(NamedTuple):
 
 def read_layer(path, scale, form="lines"):
     """The layer in a file; form is `lines` or `csv`."""
+    return layer_of(read_text(path), scale, form)
+
+
+def read_text(path):
+    """The text of a layer's file, with its byte order mark where it has one; bytes that are no UTF-8 are kept as surrogates."""
     with open(path, "rb") as file:
         content = file.read(LONGEST_TEXT + 1)
     if len(content) > LONGEST_TEXT:
         raise LayerFault("layer: too long")
-    text = content.removeprefix(b"\xef\xbb\xbf").decode("utf-8", "surrogateescape")
+    return content.decode("utf-8", "surrogateescape")
+
+
+def layer_of(text, scale, form):
+    text = text.removeprefix("\ufeff")
     return read_records(text, scale) if form == "csv" else read_lines(text, scale)
 
 
@@ -78,11 +87,7 @@ def read_lines(text, scale):
 
 
 def read_records(text, scale):
-    csv.field_size_limit(2 ** 31 - 1)
-    try:
-        records = [record for record in csv.reader(io.StringIO(text, newline="")) if record]
-    except csv.Error as error:
-        raise LayerFault(f"layer: {error}") from None
+    records = records_of(text)
     names = [name.lower() for name in records[0]] if records else []
     if "wkt" not in names:
         raise LayerFault("layer: no wkt column")
@@ -96,6 +101,15 @@ def read_records(text, scale):
         features.append(Feature(name, number, [] if blank else placed(f"row {number}", record[column], scale)))
         room.take(features[-1], f"row {number}")
     return Layer(features, scale, records, column)
+
+
+def records_of(text):
+    """The records of a CSV, without its blank lines."""
+    csv.field_size_limit(2 ** 31 - 1)
+    try:
+        return [record for record in csv.reader(io.StringIO(text.removeprefix("\ufeff"), newline="")) if record]
+    except csv.Error as error:
+        raise LayerFault(f"layer: {error}") from None
 
 
 class Room:
