@@ -135,7 +135,7 @@ def field(record, at, otherwise):
 
 def named(name):
     """A feature's id as it is shown."""
-    return quoted(cut(name).encode("utf-8", "surrogateescape").decode("utf-8", "replace"))
+    return quoted(cut(name))
 
 
 def decimals(scale):
@@ -143,6 +143,8 @@ def decimals(scale):
 
 
 def cut(text):
+    """A text as it is shown: without its end where it is long, and with a mark for each byte that is no UTF-8."""
+    text = text[:LONGEST_SHOWN + 1].encode("utf-8", "surrogateescape").decode("utf-8", "replace")
     return text if len(text) <= LONGEST_SHOWN else text[:LONGEST_SHOWN - 3] + "..."
 
 
