@@ -1,16 +1,23 @@
-"""Layers of geometry texts, read exactly as docs/FORMATS.md says; tools/view and tools/faults share this reader.
+"""Layers of geometry texts, read exactly as docs/FORMATS.md says; the tools share this reader.
 
 Coordinates are whole numbers, the written values times 10^scale. What is at fault raises `LayerFault`, whose words are the note that
-`locate` writes. The limits of `locate` on the number of features and points, and on the length of the text, are not tested here.
+`locate` writes. That holds of the limits of `locate` too, on the length of the text and on the numbers of features and points: a layer
+that is past one of them is refused as soon as that is seen.
 """
 import csv
 import io
 import re
+from argparse import RawDescriptionHelpFormatter
 from typing import NamedTuple
+
+import endings
 
 WHITE = " \t\r\n"
 LARGEST = 10 ** 18
 LONGEST_ID = 200
+LONGEST_TEXT = 2 ** 28
+MOST_FEATURES = 2 ** 18
+MOST_POINTS = 2 ** 20
 
 NUMBER = re.compile(r"[-+]?(?:[0-9]+(?:\.[0-9]*)?|\.[0-9]+)(?:[eE][-+]?[0-9]+)?")
 FIRST_WORD = re.compile(r"[ \t\r\n]*([A-Za-z]+)[ \t\r\n]*([A-Za-z]*)")
@@ -50,8 +57,20 @@ class Layer(NamedTuple):
 
 def read_layer(path, scale, form="lines"):
     """The layer in a file; form is `lines` or `csv`."""
+    return layer_of(read_text(path), scale, form)
+
+
+def read_text(path):
+    """The text of a layer's file, with its byte order mark where it has one; bytes that are no UTF-8 are kept as surrogates."""
     with open(path, "rb") as file:
-        text = file.read().removeprefix(b"\xef\xbb\xbf").decode("utf-8", "surrogateescape")
+        content = file.read(LONGEST_TEXT + 1)
+    if len(content) > LONGEST_TEXT:
+        raise LayerFault("layer: too long")
+    return content.decode("utf-8", "surrogateescape")
+
+
+def layer_of(text, scale, form):
+    text = text.removeprefix("\ufeff")
     return read_records(text, scale) if form == "csv" else read_lines(text, scale)
 
 
@@ -59,28 +78,53 @@ def read_lines(text, scale):
     lines = text.split("\n")
     if lines[-1] == "":
         lines.pop()
-    features = []
+    features, room = [], Room()
     for number, line in enumerate(lines, 1):
         if line.strip(WHITE):
             features.append(Feature(str(number), number, placed(f"line {number}", line, scale)))
+            room.take(features[-1], f"line {number}")
     return Layer(features, scale, lines, -1)
 
 
 def read_records(text, scale):
-    csv.field_size_limit(2 ** 31 - 1)
-    records = [record for record in csv.reader(io.StringIO(text, newline="")) if record]
+    records = records_of(text)
     names = [name.lower() for name in records[0]] if records else []
     if "wkt" not in names:
         raise LayerFault("layer: no wkt column")
     column = names.index("wkt")
-    features = []
+    features, room = [], Room()
     for number, record in enumerate(records[1:], 1):
         if len(record) != len(names):
             raise LayerFault(f"layer row {number}: fields")
         name = checked_id(record[names.index("id")], number) if "id" in names else str(number)
         blank = not record[column].strip(WHITE)
         features.append(Feature(name, number, [] if blank else placed(f"row {number}", record[column], scale)))
+        room.take(features[-1], f"row {number}")
     return Layer(features, scale, records, column)
+
+
+def records_of(text):
+    """The records of a CSV, without its blank lines."""
+    csv.field_size_limit(2 ** 31 - 1)
+    try:
+        return [record for record in csv.reader(io.StringIO(text.removeprefix("\ufeff"), newline="")) if record]
+    except csv.Error as error:
+        raise LayerFault(f"layer: {error}") from None
+
+
+class Room:
+    """How many features and ring points may still come."""
+
+    def __init__(self):
+        self.features, self.points = MOST_FEATURES, MOST_POINTS
+
+    def take(self, feature, place):
+        self.features -= 1
+        self.points -= sum(map(len, feature.rings))
+        if self.features < 0:
+            raise LayerFault(f"layer {place}: too many features")
+        if self.points < 0:
+            raise LayerFault(f"layer {place}: too many points")
 
 
 def checked_id(name, number):
@@ -157,6 +201,23 @@ def grid_value(written, scale):
     return -value if mantissa[0] == "-" else value
 
 
+def rounded(written, scale):
+    """The value of a number times 10^scale, rounded to a whole number, halves away from zero; None where that is out of range."""
+    mantissa, _, exponent = written.lower().partition("e")
+    whole, _, decimals = mantissa.lstrip("+-").partition(".")
+    digits = (whole + decimals).lstrip("0")
+    zeros = scale + small_int(exponent) - len(decimals)
+    if len(digits) + zeros > 19:
+        return None if digits else 0
+    if zeros >= 0:
+        value = int(digits or "0") * 10 ** zeros
+    else:
+        value = int(digits[:zeros] or "0") + (-zeros <= len(digits) and digits[zeros] >= "5")
+    if value > LARGEST:
+        return None
+    return -value if mantissa[0] == "-" else value
+
+
 def small_int(written):
     """The value of an exponent; one that no text is long enough to make up for stands as plus or minus 10^12."""
     digits = written.lstrip("+-").lstrip("0")
@@ -211,10 +272,14 @@ def quoted(name):
     return '"' + name.replace('"', '""') + '"'
 
 
+def names(layer, numbers):
+    """The quoted names of features, given by their numbers from 0."""
+    return " ".join(quoted(layer.features[number].name) for number in numbers)
+
+
 def parser(description):
-    """The words that both tools take."""
-    import argparse
-    words = argparse.ArgumentParser(description=description, formatter_class=argparse.RawDescriptionHelpFormatter)
+    """The words that the tools take: a layer, its scale and its form."""
+    words = endings.Words(description=description, formatter_class=RawDescriptionHelpFormatter)
     words.add_argument("layer")
     words.add_argument("--scale", type=int, required=True, choices=range(16), metavar="K")
     words.add_argument("--form", choices=("lines", "csv"), default="lines")

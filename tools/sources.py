@@ -1,0 +1,156 @@
+"""Layers out of files and databases, as rows of geometry texts and attributes: a CSV with a column `wkt`, lines of geometry texts, or
+whatever GDAL reads."""
+import csv
+import io
+import os
+import re
+import shutil
+import subprocess
+import threading
+from contextlib import contextmanager
+from typing import NamedTuple
+
+import endings
+from endings import READ_FAILED, REFUSED, Ending
+
+GEOMETRY = "wkt"
+ZIPPED = {".zip": "/vsizip/", ".kmz": "/vsizip/", ".gz": "/vsigzip/"}
+# GDAL's own index of the points of an OpenStreetMap file refuses the negative ids of files that were edited.
+SETTINGS = {"OSM_USE_CUSTOM_INDEXING": "NO"}
+# What begins a file of geometry texts, and how many characters are looked at for it.
+FIRST_TEXT = re.compile(r"\s*(?:MULTI)?(?:POLYGON|SURFACE|CURVEPOLYGON)\s*(?:Z|M|ZM)?\s*[(]", re.IGNORECASE)
+LOOKED_AT = 1000
+LISTED = re.compile(r"[0-9]+: (.*?)(?: \(title: .*\))?(?: \(([^()]*(?:\(any\))?)\))?")
+
+
+class Source(NamedTuple):
+    """A layer: its name, the names of its attributes, and its rows, each a geometry text and the list of the attributes."""
+    name: str
+    header: list
+    rows: object
+
+
+@contextmanager
+def opened(path, layer):
+    """The layer of a source. `Ending` where it cannot be read."""
+    if os.path.isfile(path) and layer is None:
+        with endings.reading(), open(path, encoding="utf-8-sig", errors="surrogateescape", newline="") as file:
+            source = of_lines(path, file) or (of_records(os.path.basename(path), file, path) if path.lower().endswith(".csv") else None)
+            if source:
+                yield source
+                return
+    need_gdal(path)
+    full = full_name(path)
+    name = chosen_layer(full, path, layer)
+    with exported(full, name, path) as file:
+        yield of_records(name, file, path) or Source(name, [], iter(()))
+
+
+def of_lines(path, file):
+    """A file of geometry texts, one in a line, or None where the file does not begin with one. A blank line is a row without geometry."""
+    start = file.read(LOOKED_AT)
+    file.seek(0)
+    if not FIRST_TEXT.match(start):
+        return None
+    return Source(os.path.basename(path), [], ((line, []) for line in file))
+
+
+def of_records(name, file, path):
+    """A CSV with a header that has a column `wkt`, or None where it has no such column."""
+    csv.field_size_limit(2 ** 31 - 1)
+    reader = csv.reader(file)
+    try:
+        header = next((record for record in reader if record), [])
+    except csv.Error as error:
+        raise Ending(REFUSED, f"{path} line {reader.line_num}: {error}") from None
+    names = [column.strip().lower() for column in header]
+    if GEOMETRY not in names:
+        return None
+    at = names.index(GEOMETRY)
+    return Source(name, header[:at] + header[at + 1:], rows_of(reader, at, len(header), path))
+
+
+def rows_of(reader, at, width, path):
+    """The rows behind the header. GDAL writes a row without the last, empty field where a layer has no attributes."""
+    try:
+        for record in reader:
+            if not record:
+                continue
+            if len(record) > width:
+                raise Ending(REFUSED, f"{path} line {reader.line_num}: {len(record)} fields, but the header has {width}")
+            record += [""] * (width - len(record))
+            yield record[at], record[:at] + record[at + 1:]
+    except csv.Error as error:
+        raise Ending(REFUSED, f"{path} line {reader.line_num}: {error}") from None
+
+
+def need_gdal(path):
+    for command in ("ogrinfo", "ogr2ogr"):
+        if not shutil.which(command):
+            raise Ending(READ_FAILED, f"{path} is no CSV with a column `wkt`, and {command} is not installed, which reads other layers: "
+                                      "it is in Debian's package gdal-bin")
+
+
+def full_name(path):
+    """The name under which GDAL reads a source; it does not look into a packed file by itself."""
+    ending = os.path.splitext(path)[1].lower()
+    if not os.path.exists(path) and ":" not in path and not path.startswith("/vsi"):
+        raise Ending(READ_FAILED, f"read failed: {path}: No such file or directory")
+    return ZIPPED.get(ending, "") + path if os.path.isfile(path) else path
+
+
+def environment():
+    return {**os.environ, **{name: value for name, value in SETTINGS.items() if name not in os.environ}, "LC_ALL": "C.UTF-8"}
+
+
+def fault_of(notes):
+    """The first error that GDAL tells, in one line."""
+    lines = [line.strip() for line in notes.splitlines() if line.strip()]
+    told = [line for line in lines if line.startswith(("ERROR", "FAILURE")) and not line.endswith("FAILURE:")]
+    return (told or lines or ["it says no cause"])[0]
+
+
+def chosen_layer(full, path, layer):
+    """The name of the layer that is meant: the one that is named, or the only one, or the only one that may hold polygons."""
+    done = subprocess.run(["ogrinfo", "-ro", "-so", full], capture_output=True, env=environment(), stdin=subprocess.DEVNULL)
+    output, notes = (part.decode("utf-8", "replace") for part in (done.stdout, done.stderr))
+    if done.returncode:
+        raise Ending(READ_FAILED, f"GDAL cannot read {path}: {fault_of(notes or output)}")
+    found = [LISTED.fullmatch(line) for line in output.splitlines()]
+    layers = [(match[1], match[2] or "unknown") for match in found if match]
+    names = [name for name, _ in layers]
+    listed = ", ".join(map(repr, names))
+    if layer is not None:
+        if names and layer not in names:
+            raise Ending(REFUSED, f"{path} has no layer {layer!r}, but {listed}")
+        return layer
+    if not names:
+        raise Ending(REFUSED, f"{path} has no layer")
+    for kinds in ([""], ["polygon"], ["polygon", "unknown", "collection", "surface", "geometry"]):
+        fitting = [name for name, kind in layers if any(word in kind.lower() for word in kinds)]
+        if len(fitting) == 1:
+            return fitting[0]
+    raise Ending(REFUSED, f"{path} has {len(names)} layers, name one by --layer: {listed}")
+
+
+@contextmanager
+def exported(full, name, path):
+    """The lines that GDAL writes of a layer as CSV. Where GDAL fails, that is told behind the last of them."""
+    words = ["ogr2ogr", "-f", "CSV", "/vsistdout/", full, name, "-lco", "GEOMETRY=AS_WKT", "-nlt", "CONVERT_TO_LINEAR", "-dim", "XY"]
+    process = subprocess.Popen(words, stdin=subprocess.DEVNULL, stdout=subprocess.PIPE, stderr=subprocess.PIPE, env=environment())
+    notes = []
+    listener = threading.Thread(target=lambda: notes.extend(process.stderr), daemon=True)
+    listener.start()
+    try:
+        yield lines_of(process, listener, notes, path)
+    finally:
+        process.kill()
+        process.wait()
+
+
+def lines_of(process, listener, notes, path):
+    with endings.reading():
+        yield from io.TextIOWrapper(process.stdout, encoding="utf-8", errors="surrogateescape", newline="")
+    listener.join()
+    if process.wait():
+        raise Ending(READ_FAILED, f"GDAL cannot read {path}: {fault_of(b''.join(notes).decode('utf-8', 'replace'))}")
