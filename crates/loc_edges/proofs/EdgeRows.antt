@@ -13,9 +13,9 @@ use Rattle.loc_laws_order.proofs.Tests.{same_edge_decides}
 use Rattle.loc_laws_order.proofs.TableOrder.{rises}
 use Rattle.loc_edges.specs.Tagged.{segments_in, features_of}
 use Rattle.loc_edges.proofs.MarkRows.{features_of-append}
-use Rattle.loc_edges.proofs.Orders.{edges_by_before}
+use Rattle.loc_laws_noding.proofs.Orders.{edges_by_before}
 use Rattle.loc_edges.proofs.RowLists.{map_alike}
-use Rattle.loc_edges.proofs.SortedSet.{irrefl, any-dedup, rising-dedup, sorted_set-dedup}
+use Rattle.loc_laws_noding.proofs.SortedSet.{irrefl, any-dedup, rising-dedup, sorted_set-dedup}
 use Rattle.loc_edges.proofs.Tagged.{is_sorted}
 
 -- ---- equal neighbours dropped from a list that grows

@@ -1,29 +1,19 @@
 -- The edges of a layer are its sorted segments, and the ends of its edges are the ends of its segments.
-use Rattle.std.proofs.Common.{◌≡◌, Bool, ◌||◌, true, List, [], ◌∷◌, refl, sym, ◌∙◌, ap}
-use Rattle.std.specs.List.{list_any, flat_map}
+use Rattle.std.proofs.Common.{◌≡◌, ◌||◌, List, sym, ◌∙◌, ap}
 use Rattle.std.proofs.lemmas.List.{map-id}
 use Rattle.std.proofs.lemmas.List.Concat.{flat_map_single}
-use Rattle.loc_spec_plane.specs.Points.{Point, Edge, before, edge_before}
-use Rattle.loc_spec_plane.specs.Lists.{is_rising, sorted_set}
+use Rattle.loc_spec_plane.specs.Points.{Edge, before, edge_before}
+use Rattle.loc_spec_plane.specs.Lists.{sorted_set}
 use Rattle.loc_spec_plane.specs.Rings.{Rings}
 use Rattle.loc_spec_plane.specs.Tables.{layer_segments, layer_corners, pieces_of, whole}
-use Rattle.loc_laws_order.proofs.Booleans.{or_assoc}
-use Rattle.loc_edges.specs.Layers.{ends_of}
-use Rattle.loc_edges.proofs.Orders.{points_by_before, edges_by_before}
-use Rattle.loc_edges.proofs.SortedSet.{rising-sorted_set, any-sorted_set, same-sorted_set}
+use Rattle.loc_laws_noding.specs.Laws.{ends_of}
+use Rattle.loc_laws_noding.proofs.Layers.{any-ends_of}
+use Rattle.loc_laws_noding.proofs.Orders.{points_by_before, edges_by_before}
+use Rattle.loc_laws_noding.proofs.SortedSet.{any-sorted_set, same-sorted_set}
 
 -- where nothing is cut the pieces are the segments
 pub pieces_of-whole : (layer : List Rings) → sorted_set edge_before (layer_segments layer) ≡ pieces_of whole layer
 pieces_of-whole layer = ap (sorted_set edge_before) (sym (flat_map_single (λ (s : Edge). s) (layer_segments layer) ∙ map-id (layer_segments layer)))
-
--- the edges of a layer are in order
-pub pieces_rise : (layer : List Rings) → is_rising edge_before (pieces_of whole layer) ≡ true
-pieces_rise layer = rising-sorted_set edges_by_before (flat_map whole (layer_segments layer))
-
--- some end passes where some edge has an end that passes
-pub any-ends_of : (p : Point → Bool) (es : List Edge) → list_any p (ends_of es) ≡ list_any (λ (e : Edge). p e.lo || p e.hi) es
-any-ends_of p [] = refl
-any-ends_of p (e ∷ es) = ap (λ b. p e.lo || (p e.hi || b)) (any-ends_of p es) ∙ or_assoc (p e.lo) (p e.hi) (list_any (λ (e : Edge). p e.lo || p e.hi) es)
 
 -- the distinct ends of the distinct segments are the distinct ends of the segments
 pub corners_from_edges : (layer : List Rings) → sorted_set before (ends_of (pieces_of whole layer)) ≡ layer_corners layer

@@ -1,10 +1,11 @@
 -- The segments of a layer with their features, as one more feature comes, and sorted.
-use Rattle.std.proofs.Common.{◌≡◌, ℕ, suc, ◌+◌, ◌-◌, ◌<◌, not, List, [], ◌∷◌, ◌++◌, length, get_or, map, refl, sym, ◌∙◌, ap, inl, inr, arith, append-nil, length-append}
+use Rattle.std.proofs.Common.{◌≡◌, ℕ, suc, ◌+◌, ◌-◌, ◌<◌, not, List, [], ◌∷◌, ◌++◌, length, get_or, map, refl, sym, ◌∙◌, ap, ap₂, inl, inr, arith, append-nil, length-append}
 use Rattle.std.specs.Prelude.{◌&&◌, All, filter}
 use Rattle.std.specs.List.Sorted.{IsPermutation, IsSorted, IsSortedBy, IsSortedByKey, IsStableByKey}
 use Rattle.std.specs.Ordering.{is_lt}
 use Rattle.std.proofs.lemmas.Bool.{cases_lt, both_ways, false_from_ne_true}
-use Rattle.std.proofs.lemmas.List.{append_assoc, length-map, get_or-map, get_or_append_left, get_or-append_right}
+use Rattle.std.proofs.lemmas.List.{append_assoc, length-map, map-id, get_or-map, get_or_append_left, get_or-append_right}
+use Rattle.std.proofs.lemmas.List.Concat.{flat_map_single}
 use Rattle.std.proofs.lemmas.List.Elements.{filter_agree}
 use Rattle.std.proofs.lemmas.List.Sorted.{IsPermutation-map, list_any-IsPermutation}
 use Rattle.loc_spec_plane.specs.Points.{Edge, same_edge, edge_before}
@@ -12,10 +13,10 @@ use Rattle.loc_spec_plane.specs.Lists.{sorted_set}
 use Rattle.loc_spec_plane.specs.Rings.{Rings, segments}
 use Rattle.loc_spec_plane.specs.Tables.{layer_segments, pieces_of, whole}
 use Rattle.loc_laws_order.proofs.Tests.{same_edge_decides}
-use Rattle.loc_edges.specs.Tagged.{tagged_by, tagged_from, segments_in, features_of}
+use Rattle.loc_edges.specs.Tagged.{tagged_by, tagged_from, tagged_pieces, segments_in, features_of}
 use Rattle.loc_edges.proofs.Layers.{pieces_of-whole}
-use Rattle.loc_edges.proofs.Orders.{edge_cmp, edges_by_before}
-use Rattle.loc_edges.proofs.SortedSet.{is_less, less, from_less, same-sorted_set, tie_is}
+use Rattle.loc_laws_noding.proofs.Orders.{edge_cmp, edges_by_before}
+use Rattle.loc_laws_noding.proofs.SortedSet.{is_less, less, from_less, same-sorted_set, tie_is}
 
 -- one more feature
 pub tagged_more : (a : ℕ) (layer : List Rings) (r : Rings) → tagged_from a (layer ++ r ∷ []) ≡ tagged_from a layer ++ tagged_by (a + length layer) (segments r)
@@ -37,6 +38,11 @@ segments_in-tagged_by a (s ∷ ss) = ap (λ es. s ∷ es) (segments_in-tagged_by
 segments_in-tagged : (a : ℕ) (layer : List Rings) → segments_in (tagged_from a layer) ≡ layer_segments layer
 segments_in-tagged a [] = refl
 segments_in-tagged a (r ∷ rs) = segments_in-append (tagged_by a (segments r)) (tagged_from (a + 1) rs) ∙ (ap (λ es. es ++ segments_in (tagged_from (a + 1) rs)) (segments_in-tagged_by a (segments r)) ∙ ap (λ es. segments r ++ es) (segments_in-tagged (a + 1) rs))
+
+-- where nothing is cut the segments are the pieces
+pub tagged_pieces-whole : (a : ℕ) (layer : List Rings) → tagged_from a layer ≡ tagged_pieces whole a layer
+tagged_pieces-whole a [] = refl
+tagged_pieces-whole a (r ∷ rs) = ap₂ (λ ss ts. tagged_by a ss ++ ts) (sym (flat_map_single (λ (s : Edge). s) (segments r) ∙ map-id (segments r))) (tagged_pieces-whole (a + 1) rs)
 
 -- the features are those of the layer
 pub features_fit : (a : ℕ) (layer : List Rings) → All (λ (t : Edge × ℕ). t.1 < a + length layer) (tagged_from a layer)

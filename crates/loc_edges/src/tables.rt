@@ -5,7 +5,8 @@ ghost use Rattle.loc_spec_plane.specs.Points.{before, edge_before};
 ghost use Rattle.loc_spec_plane.specs.Lists.{is_rising, sorted_set};
 ghost use Rattle.loc_spec_plane.specs.Rings.{Rings};
 ghost use Rattle.loc_spec_plane.specs.Tables.{layer_corners, pieces_of, whole};
-ghost use Rattle.loc_edges.specs.Layers.{layer_rings, ends_of};
+ghost use Rattle.loc_laws_noding.specs.Laws.{ends_of};
+ghost use Rattle.loc_edges.specs.Layers.{layer_rings};
 
 use crate::grouped::distinct_edges;
 use crate::sorted::{sorted_points, sorted_segments};

@@ -83,7 +83,7 @@ module _ {X : Type 0} {R : X → X → Ordering} {comes_before : X → X → Boo
   one_decides x y = (λ h. (let parts = and_parts _ _ h in same_from_neither x y (not-true _ parts.0) (not-true _ parts.1)), λ e. subst (λ z. (not (comes_before x z) && not (comes_before z x)) ≡ true) e (and_from _ _ (not_from_false _ (irrefl x)) (not_from_false _ (irrefl x))))
 
   -- a rising list with the members of xs is its sorted set
-  is-sorted_set : (xs ys : List X) → is_rising comes_before ys ≡ true → ((p : X → Bool) → list_any p ys ≡ list_any p xs) → ys ≡ sorted_set comes_before xs
+  pub is-sorted_set : (xs ys : List X) → is_rising comes_before ys ≡ true → ((p : X → Bool) → list_any p ys ≡ list_any p xs) → ys ≡ sorted_set comes_before xs
   is-sorted_set xs ys up same = one_rising _ one_decides comes_before order.asym ys (sorted_set comes_before xs) up (rising-sorted_set xs) (λ x. same _ ∙ sym (any-sorted_set _ xs))
 
   -- lists with the same members have one sorted set

@@ -1,7 +1,7 @@
 use Rattle.std.proofs.Common.{◌∙◌, ap}
 use Rattle.loc_spec_plane.specs.Points.{before}
 use Rattle.loc_spec_plane.specs.Lists.{sorted_set}
-use Rattle.loc_edges.specs.Layers.{ends_of}
+use Rattle.loc_laws_noding.specs.Laws.{ends_of}
 use Rattle.loc_edges.proofs.Layers.{corners_from_edges}
 use Rattle.loc_edges.proofs.tables.corners_between.Goals as goal
 

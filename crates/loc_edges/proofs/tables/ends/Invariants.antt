@@ -1,5 +1,5 @@
 use Rattle.std.proofs.Common.{◌≡◌, take}
-use Rattle.loc_edges.specs.Layers.{ends_of}
+use Rattle.loc_laws_noding.specs.Laws.{ends_of}
 use Rattle.loc_edges.proofs.tables.ends.Given as goal
 
 -- the ends of the edges before have been put there
