@@ -1,8 +1,11 @@
 -- The edges of a layer are its sorted segments, and the ends of its edges are the ends of its segments.
-use Rattle.std.proofs.Common.{◌≡◌, ◌||◌, List, sym, ◌∙◌, ap}
-use Rattle.std.proofs.lemmas.List.{map-id}
-use Rattle.std.proofs.lemmas.List.Concat.{flat_map_single}
-use Rattle.loc_spec_plane.specs.Points.{Edge, before, edge_before}
+use Rattle.std.proofs.Common.{◌≡◌, ℕ, ◌+◌, ◌-◌, ◌<◌, Bool, ◌||◌, true, false, List, [], ◌∷◌, ◌++◌, length, get_or, take, refl, sym, ◌∙◌, ap, inl, inr, arith}
+use Rattle.std.specs.List.{list_any}
+use Rattle.std.proofs.lemmas.Bool.{cases_Bool, or_left, true≢false}
+use Rattle.std.proofs.lemmas.List.{append_assoc, get_or-take, length-take-le, map-id, take_more}
+use Rattle.std.proofs.lemmas.List.Concat.{flat_map-append, flat_map_single}
+use Rattle.std.proofs.lemmas.List.Folds.{list_any-append, list_any_at}
+use Rattle.loc_spec_plane.specs.Points.{Point, Edge, before, edge_before}
 use Rattle.loc_spec_plane.specs.Lists.{sorted_set}
 use Rattle.loc_spec_plane.specs.Rings.{Rings}
 use Rattle.loc_spec_plane.specs.Tables.{layer_segments, layer_corners, pieces_of, whole}
@@ -23,3 +26,25 @@ corners_from_edges layer =
     any-ends_of p (sorted_set edge_before (layer_segments layer))
     ∙ (any-sorted_set edges_by_before (λ (e : Edge). p e.lo || p e.hi) (layer_segments layer)
     ∙ sym (any-ends_of p (layer_segments layer))))
+
+-- ---- ends, as they are gathered
+-- the ends of one edge more, whose lower end may stand there already
+pub ends_more : (edges : List Edge) (n : ℕ) (e : Edge) (again : Bool) (points lower grown : List Point) → n < length edges → e ≡ get_or edges n e → (again ≡ true → (0 < n) × ((d : Edge) → (get_or edges n d).lo ≡ (get_or edges (n - 1) d).lo)) → (again ≡ false → lower ≡ points ++ e.lo ∷ []) → (again ≡ true → lower ≡ points)
+    → grown ≡ lower ++ e.hi ∷ [] → ((test : Point → Bool) → list_any test points ≡ list_any test (ends_of (take n edges))) → (test : Point → Bool) → list_any test grown ≡ list_any test (ends_of (take (n + 1) edges))
+ends_more edges n e again points lower grown fits is begun new old grown_is so_far test = elim (cases_Bool again) [
+  | inl here ↦ (let known : test e.lo ≡ true → before_them ≡ true = λ low. any-ends_of test (take n edges) ∙ list_any_at (λ (d : Edge). test d.lo || test d.hi) (take n edges) (n - 1) e (omega (arith, (begun here).0, length-take-le n edges (omega (arith, fits))))
+      (or_left _ _ (ap (λ (d : Edge). test d.lo) (get_or-take n edges (n - 1) e (omega (arith, (begun here).0))) ∙ (ap test (sym ((begun here).1 e)) ∙ (ap (λ (d : Edge). test d.lo) (sym is) ∙ low)))) in
+      ap (list_any test) (grown_is ∙ ap (λ ps. ps ++ e.hi ∷ []) (old here)) ∙ (list_any-append test points (e.hi ∷ []) ∙ (ap (λ b. b || (test e.hi || false)) (so_far test) ∙ (absorb before_them (test e.lo) (test e.hi || false) known ∙ sym all))))
+  | inr fresh ↦ ap (list_any test) (grown_is ∙ (ap (λ ps. ps ++ e.hi ∷ []) (new fresh) ∙ append_assoc points (e.lo ∷ []) (e.hi ∷ []))) ∙ (list_any-append test points (e.lo ∷ e.hi ∷ []) ∙ (ap (λ b. b || (test e.lo || (test e.hi || false))) (so_far test) ∙ sym all))
+]
+  where
+    before_them : Bool
+    before_them = list_any test (ends_of (take n edges))
+
+    all : list_any test (ends_of (take (n + 1) edges)) ≡ (before_them || (test e.lo || (test e.hi || false)))
+    all = ap (λ es. list_any test (ends_of es)) (take_more edges n e fits ∙ ap (λ d. take n edges ++ d ∷ []) (sym is)) ∙ (ap (list_any test) (flat_map-append (λ (d : Edge). d.lo ∷ d.hi ∷ []) (take n edges) (e ∷ [])) ∙ list_any-append test (ends_of (take n edges)) (e.lo ∷ e.hi ∷ []))
+
+    absorb : (a low high : Bool) → (low ≡ true → a ≡ true) → (a || high) ≡ (a || (low || high))
+    absorb true low high h = refl
+    absorb false true high h = absurd (true≢false (sym (h refl)))
+    absorb false false high h = refl

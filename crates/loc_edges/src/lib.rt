@@ -15,6 +15,7 @@ mod tables;
 mod views;
 
 pub use floors::Floors;
+pub use grouped::distinct_edges;
 pub use loc_spec_plane::Mark;
 pub use ranks::{Placing, Ranks};
 pub use rows::Rows;

@@ -20,6 +20,7 @@ pub(crate) fn sorted_points(mut points: Vec<Point>) -> Vec<Point>
 {
     points.sort_unstable();
     points.dedup();
+    points.shrink_to_fit();
     points
 }
 

@@ -7,4 +7,4 @@ use Rattle.loc_laws_noding.proofs.Orders.{points_by_before}
 use Rattle.loc_edges.proofs.sorted.sorted_points.Goals as goal
 
 pub returns : goal.returns
-returns c = dedup_is same_point _ _ c.dedup.ensures.filtered ∙ sorted_set-dedup points_by_before same_point same_point_decides _ _ c.sort_unstable.ensures.permutation c.sort_unstable.ensures.sorted
+returns c = c.shrink_to_fit.ensures.items ∙ (dedup_is same_point _ _ c.dedup.ensures.filtered ∙ sorted_set-dedup points_by_before same_point same_point_decides _ _ c.sort_unstable.ensures.permutation c.sort_unstable.ensures.sorted)
