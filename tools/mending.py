@@ -325,17 +325,20 @@ def mend(layer, bound):
         net = Net(edges, square, bounds, fixed)
         mend_net(net, conflicts)
         changed = shapes.changed(owners, net)
-        lost = shapes.lost(changed, net)
-        if not lost:
+        if not stiffen(shapes.lost(changed, net), shapes, square, bounds, fixed):
             break
-        stiffen(lost, shapes, square, bounds, fixed)
     return outcome(shapes, owners, net, changed, len(conflicts))
 
 
 def stiffen(rings, shapes, square, bounds, fixed):
-    for number in {shapes.number_of[ordered(*side)] for ring in rings for side in zip(ring, ring[1:]) if side[0] != side[1]}:
+    """Makes rings stiffer; whether any was not yet as stiff as can be. One that is and still encloses nothing did not before: its sides
+    lie on one another."""
+    sides = {ordered(*side) for ring in rings for side in zip(ring, ring[1:]) if side[0] != side[1]}
+    soft = [number for number in map(shapes.number_of.get, sides) if bounds.get(number, 1)]
+    for number in soft:
         bounds[number] = 0 if number in bounds else min(square, ROUNDED)
     fixed.update(point for ring in rings for point in ring)
+    return bool(soft)
 
 
 def outcome(shapes, owners, net, changed, conflicts):
