@@ -135,10 +135,16 @@ def field(record, at, otherwise):
 
 def named(name):
     """A feature's id as it is shown."""
-    return quoted(cut(name).encode("utf-8", "surrogateescape").decode("utf-8", "replace"))
+    return quoted(cut(name))
+
+
+def decimals(scale):
+    return f"{scale} decimal{'' if scale == 1 else 's'}"
 
 
 def cut(text):
+    """A text as it is shown: without its end where it is long, and with a mark for each byte that is no UTF-8."""
+    text = text[:LONGEST_SHOWN + 1].encode("utf-8", "surrogateescape").decode("utf-8", "replace")
     return text if len(text) <= LONGEST_SHOWN else text[:LONGEST_SHOWN - 3] + "..."
 
 
@@ -228,7 +234,7 @@ def of_numbers(case, piece, number, fault):
     most = next((scale for scale in range(LARGEST_SCALE, -1, -1)
                  if not any(layer_text.rounded(each, scale) is None for each in words)), None)
     if fault == "off grid":
-        lines += [f"what: {off_grid} of {len(words)} numbers have more than {case.scale} decimals",
+        lines += [f"what: {off_grid} of {len(words)} numbers have more than {decimals(case.scale)}",
                   "cause: the tool that wrote the layer writes all digits that it has, and the scale is smaller"]
     else:
         lines.append(f"cause: the number times 10^{case.scale} is past 10^18")
@@ -375,7 +381,7 @@ def sizes_told(sizes, scale):
 
 def at_scales(edges, scale, here):
     """How many conflicts there are at this scale and at smaller ones."""
-    parts, looked_at = [f"{here} conflicts at {scale} decimals"], 0
+    parts, looked_at = [f"{here} conflict{'' if here == 1 else 's'} at {decimals(scale)}"], 0
     for smaller in range(scale - 1, -1, -1):
         looked_at += len(edges)
         if looked_at > MOST_EDGES:
@@ -384,7 +390,7 @@ def at_scales(edges, scale, here):
         rounded = rounded_edges(edges, 10 ** (scale - smaller))
         parts.append(f"{len(conflicts.all_conflicts(rounded))} at {smaller}")
         if 2 * len(rounded) < len(edges):
-            parts.append("and at fewer more than half of the edges collapse")
+            parts.append("where more than half of the edges collapse")
             break
     return ", ".join(parts)
 
@@ -414,6 +420,8 @@ def mends(case, edges, sizes, kinds):
         lines.append(f"mend{of_them}: {case.command('mend', more)}")
     if "rounding" in kinds and case.has_finer:
         lines.append("mend by more decimals, if the source of the layer has them: tools/import SOURCE OUT.csv --scale auto")
+    if any(kind == "itself" and large * SMALL > extent for kind, large in zip(kinds, sizes)):
+        lines.append("mend of a polygon that crosses itself by much: PostGIS' ST_MakeValid(geom), before it is imported")
     if len(small) < len(sizes):
         lines.append("mend by leaving out a few polygons, if they truly overlap: "
                      f"tools/faults {case.words().replace(' {}', '')} --drop {case.out('rest')}")

@@ -104,10 +104,11 @@ def environment():
 
 
 def fault_of(notes):
-    """The first error that GDAL tells, in one line."""
-    lines = [line.strip() for line in notes.splitlines() if line.strip()]
-    told = [line for line in lines if line.startswith(("ERROR", "FAILURE")) and not line.endswith("FAILURE:")]
-    return (told or lines or ["it says no cause"])[0]
+    """The first error that GDAL tells, in one line, without its list of drivers."""
+    lines = [line.strip().removesuffix(" with the following drivers.") for line in notes.splitlines()]
+    lines = [line for line in lines if line and line != "FAILURE:" and not line.startswith(("-> ", "Warning"))]
+    at = next((at for at, line in enumerate(lines) if line.startswith("ERROR")), 0)
+    return " ".join(lines[at:at + 2]) or "it says no cause"
 
 
 def chosen_layer(full, path, layer):
@@ -115,7 +116,7 @@ def chosen_layer(full, path, layer):
     done = subprocess.run(["ogrinfo", "-ro", "-so", full], capture_output=True, env=environment(), stdin=subprocess.DEVNULL)
     output, notes = (part.decode("utf-8", "replace") for part in (done.stdout, done.stderr))
     if done.returncode:
-        raise Ending(READ_FAILED, f"GDAL cannot read {path}: {fault_of(notes or output)}")
+        raise Ending(READ_FAILED, f"GDAL cannot read {path}: {fault_of(output + notes)}")
     found = [LISTED.fullmatch(line) for line in output.splitlines()]
     layers = [(match[1], match[2] or "unknown") for match in found if match]
     names = [name for name, _ in layers]
