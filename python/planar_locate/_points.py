@@ -103,7 +103,7 @@ def units_of(values: "numpy.ndarray", scale: int, is_rounding: bool) -> "numpy.n
 
     if values.dtype.kind in "iu" and values.dtype != numpy.uint64:
         # within int64 and within the range of a point
-        inside = scale == 0 or bool((numpy.abs(values.astype(numpy.float64)) * 10.0 ** scale < 1e18).all())
+        inside = bool((numpy.abs(values.astype(numpy.float64)) * 10.0 ** scale < 1e18).all())
         return values.astype(numpy.int64) * 10 ** scale if inside and len(values) else None
     if values.dtype != numpy.float64:
         return None

@@ -27,7 +27,10 @@ class FramesTest(unittest.TestCase):
 
     def compare(self, points, polygons, how, predicate, **more):
         found = sjoin(points, polygons, 1, how, predicate, **more)
-        wanted = geopandas.sjoin(points, polygons, how, predicate, **more)
+        try:
+            wanted = geopandas.sjoin(points, polygons, how, predicate, **more)
+        except ImportError as error:
+            self.skipTest(str(error))
         self.assertIsInstance(found, geopandas.GeoDataFrame)
         self.assertEqual(list(found.columns), list(wanted.columns) + ["place"])
         by = [name for name in found.columns if name.startswith("index_")]
@@ -50,7 +53,7 @@ class FramesTest(unittest.TestCase):
     def test_places(self):
         found = sjoin(self.points, self.polygons, 1, "left")
         place = dict(zip(zip(found.geometry.x, found.geometry.y), found["place"]))
-        self.assertEqual((place[0, 0], place[1, 1], place[0.5, 1], place[4.5, 2]), ("corner 0", "face", "border 2", "face"))
+        self.assertEqual((place[0, 0], place[1, 1], place[0.5, 1], place[4.5, 2]), ("corner 0", "face", "border 3", "face"))
         self.assertEqual(list(found.index), sorted(found.index))
 
     def test_missing_geometry(self):
