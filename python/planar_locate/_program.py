@@ -1,0 +1,153 @@
+"""Finds the program and runs it."""
+from __future__ import annotations
+
+import os
+import shutil
+import subprocess
+import sys
+import threading
+from pathlib import Path
+from typing import Iterator, List, Optional, Sequence
+
+from ._errors import ProgramNotFound, error_of
+
+COMMAND = "planar-locate"
+SCRIPT = Path(__file__).resolve().parents[2] / "locate"
+# The points text of one run has at most so many bytes.
+LONGEST_POINTS = 2 ** 28
+# The lines with which the script of the repository says how far it is where it builds the program first.
+SAID_BY_SCRIPT = b"locate: "
+CHUNK = 2 ** 20
+
+
+def find_program() -> str:
+    """The name of the program: what the environment variable LOCATE names; else the script `locate` of the repository in which this
+    package stands; else the command `planar-locate` on the PATH.
+
+    Raises:
+        ProgramNotFound: there is none of these.
+    """
+    named = os.environ.get("LOCATE")
+    if named:
+        if not shutil.which(named):
+            raise ProgramNotFound(f"the environment variable LOCATE names {named}, which is no program")
+        return named
+    if SCRIPT.is_file() and os.access(SCRIPT, os.X_OK):
+        return str(SCRIPT)
+    found = shutil.which(COMMAND)
+    if not found:
+        raise ProgramNotFound(f"the program is not found: set LOCATE to its name, or put {COMMAND} on the PATH")
+    return found
+
+
+class Notes:
+    """The standard error of a process, collected while it runs."""
+
+    def __init__(self, process: "subprocess.Popen[bytes]"):
+        self._lines: List[bytes] = []
+        self._thread = threading.Thread(target=self._collect, args=[process.stderr], daemon=True)
+        self._thread.start()
+
+    def _collect(self, stream: Iterator[bytes]) -> None:
+        for line in stream:
+            if line.startswith(SAID_BY_SCRIPT):
+                sys.stderr.write(line.decode(errors="replace"))
+            else:
+                self._lines.append(line)
+
+    def text(self) -> str:
+        self._thread.join()
+        return b"".join(self._lines).decode("utf-8", "replace").rstrip("\n")
+
+
+def start(words: Sequence[object], stdin: int) -> "subprocess.Popen[bytes]":
+    name = find_program()
+    try:
+        return subprocess.Popen([name, *map(str, words)], stdin=stdin, stdout=subprocess.PIPE, stderr=subprocess.PIPE)
+    except OSError as error:
+        raise ProgramNotFound(f"{name} cannot be run: {error.strerror}") from None
+
+
+def run(words: Sequence[object], name: str) -> str:
+    """What the program writes on standard output; `name` is the file that errors name."""
+    with start(words, subprocess.DEVNULL) as process:
+        notes = Notes(process)
+        assert process.stdout
+        output = process.stdout.read()
+    if process.returncode:
+        raise error_of(process.returncode, notes.text(), name)
+    return output.decode()
+
+
+class Blocks:
+    """Blocks of the points text, each of whole lines, one after another; a block that is too much for a run is put back."""
+
+    def __init__(self, blocks: Iterator[bytes]):
+        self._blocks = blocks
+        self._next: Optional[bytes] = None
+        self.failure: Optional[BaseException] = None
+
+    def peek(self) -> Optional[bytes]:
+        """The next block, or None behind the last."""
+        if self._next is None:
+            self._next = next(self._blocks, None)
+        return self._next
+
+    def feed(self, process: "subprocess.Popen[bytes]") -> None:
+        """Writes to a process the blocks that one run may have. What goes wrong while points are taken ends the process."""
+        assert process.stdin
+        room = LONGEST_POINTS
+        try:
+            while True:
+                block = self.peek()
+                if block is None or len(block) > room:
+                    break
+                room -= len(block)
+                process.stdin.write(block)
+                self._next = None
+            process.stdin.close()
+        except OSError:
+            pass
+        except BaseException as failure:  # raised again where the answers are read
+            self.failure = failure
+            process.kill()
+
+
+def run_points(words: Sequence[object], blocks: Blocks, name: str) -> Iterator[bytes]:
+    """Answers for all blocks, in pieces of whole lines; a run of the program for each 2^28 bytes of the points text."""
+    while True:
+        yield from run_once(words, blocks, name)
+        if blocks.peek() is None:
+            return
+
+
+def run_once(words: Sequence[object], blocks: Blocks, name: str) -> Iterator[bytes]:
+    process = start(words, subprocess.PIPE)
+    notes = Notes(process)
+    feeder = threading.Thread(target=blocks.feed, args=[process], daemon=True)
+    feeder.start()
+    assert process.stdout
+    ended = False
+    try:
+        rest = b""
+        while True:
+            piece = process.stdout.read1(CHUNK)  # type: ignore[attr-defined]
+            if not piece:
+                break
+            end = piece.rfind(b"\n") + 1
+            if end:
+                yield rest + piece[:end]
+                rest = piece[end:]
+            else:
+                rest += piece
+        ended = True
+    finally:
+        if not ended:
+            process.kill()
+        status = process.wait()
+        feeder.join()
+        process.stdout.close()
+    if blocks.failure:
+        raise blocks.failure
+    if status:
+        raise error_of(status, notes.text(), name)
