@@ -7,7 +7,7 @@ import subprocess
 import sys
 import threading
 from pathlib import Path
-from typing import Iterator, List, Optional, Sequence
+from typing import IO, Iterator, List, Optional, Sequence
 
 from ._errors import ProgramNotFound, error_of
 
@@ -18,6 +18,8 @@ LONGEST_POINTS = 2 ** 28
 # The lines with which the script of the repository says how far it is where it builds the program first.
 SAID_BY_SCRIPT = b"locate: "
 CHUNK = 2 ** 20
+# Linux's number for making a pipe wider, which spares waiting; Python 3.9 has no name for it.
+SET_PIPE_SIZE = 1031
 
 
 def find_program() -> str:
@@ -79,6 +81,15 @@ def run(words: Sequence[object], name: str) -> str:
     return output.decode()
 
 
+def widen(pipe: IO[bytes]) -> None:
+    """Lets a pipe hold a megabyte, where the system can."""
+    try:
+        import fcntl
+        fcntl.fcntl(pipe, SET_PIPE_SIZE, CHUNK)
+    except (ImportError, OSError):
+        pass
+
+
 class Blocks:
     """Blocks of the points text, each of whole lines, one after another; a block that is too much for a run is put back."""
 
@@ -124,9 +135,11 @@ def run_points(words: Sequence[object], blocks: Blocks, name: str) -> Iterator[b
 def run_once(words: Sequence[object], blocks: Blocks, name: str) -> Iterator[bytes]:
     process = start(words, subprocess.PIPE)
     notes = Notes(process)
+    assert process.stdin and process.stdout
+    widen(process.stdin)
+    widen(process.stdout)
     feeder = threading.Thread(target=blocks.feed, args=[process], daemon=True)
     feeder.start()
-    assert process.stdout
     ended = False
     try:
         rest = b""
