@@ -33,7 +33,7 @@ def answered(points: pandas.DataFrame, index: str) -> pandas.DataFrame:
 
 
 def ask(index: str, points: str, folder: str) -> None:
-    # only `round_trip` reads a number as the float that is closest to it
+    # without `round_trip` long numbers may be read as a float that is not the closest
     table = dask.dataframe.read_csv(points, sep=" ", names=["x", "y"], blocksize=PARTITION, float_precision="round_trip")
     shape = pandas.DataFrame({"place": ["face"], "number": [1], "on": [""], "covered_by": [""]})
     table.map_partitions(answered, index, meta=shape).to_csv(str(Path(folder) / "answers-*.csv"), index=False)
