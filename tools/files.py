@@ -11,10 +11,11 @@ import endings
 
 
 def as_file(path, folder):
-    """The name of a regular file with the content of `path`: of a pipe a copy is made in `folder`, since it can be read only once."""
+    """The name of a file that can be read again and again, with the content of `path`: of a pipe a copy is made in `folder`."""
     with endings.reading():
         if not stat.S_ISFIFO(os.stat(path).st_mode):
-            return path
+            with open(path, "rb"):
+                return path
         copy = Path(folder) / "copy"
         with open(path, "rb") as source, open(copy, "wb") as file:
             shutil.copyfileobj(source, file)

@@ -1,12 +1,12 @@
 """Where the tools find the program `locate`, and how they run it.
 
-The program is the first of these: what the environment variable LOCATE names; the script `locate` at the top of the repository in which
-the tools stand; the command `planar-locate` on the PATH.
+The program is the first of these: what the environment variable LOCATE names; the one that the script `locate` runs, at the top of the
+repository in which the tools stand; the command `planar-locate` on the PATH.
 """
+import functools
 import os
 import shutil
 import subprocess
-import sys
 import threading
 from pathlib import Path
 from typing import NamedTuple
@@ -15,8 +15,6 @@ from endings import NO_MEMORY, READ_FAILED, WRITE_FAILED, Ending
 
 SCRIPT = Path(__file__).resolve().parent.parent / "locate"
 COMMAND = "planar-locate"
-# The lines with which the script says how far it is where it builds the program first.
-SAID_BY_SCRIPT = b"locate: "
 
 
 class Run(NamedTuple):
@@ -26,6 +24,7 @@ class Run(NamedTuple):
     note: str
 
 
+@functools.lru_cache(maxsize=None)
 def program():
     """The name of the program; `Ending` with status 3 where there is none."""
     named = os.environ.get("LOCATE")
@@ -34,11 +33,20 @@ def program():
             raise Ending(READ_FAILED, f"the environment variable LOCATE names {named}, which is no program")
         return named
     if os.access(SCRIPT, os.X_OK):
-        return str(SCRIPT)
+        return program_of_script()
     found = shutil.which(COMMAND)
     if not found:
         raise Ending(READ_FAILED, f"the program is not found: set LOCATE to its name, or put {COMMAND} on the PATH")
     return found
+
+
+def program_of_script():
+    """The program that the script runs. It is built first where it must be, and the script says on standard error how far that is."""
+    done = subprocess.run([SCRIPT, "--program"], stdin=subprocess.DEVNULL, stdout=subprocess.PIPE, text=True)
+    name = done.stdout.strip()
+    if done.returncode or not name:
+        raise Ending(READ_FAILED, f"{SCRIPT} has no program to run")
+    return name
 
 
 def start(words, **streams):
@@ -51,7 +59,7 @@ def start(words, **streams):
 
 
 class Notes:
-    """The notes of a process, collected while it runs. What the script says while it builds the program is passed on."""
+    """The notes of a process, collected while it runs."""
 
     def __init__(self, process):
         self.lines = []
@@ -59,11 +67,7 @@ class Notes:
         self.thread.start()
 
     def collect(self, stream):
-        for line in stream:
-            if line.startswith(SAID_BY_SCRIPT):
-                sys.stderr.write(line.decode(errors="replace"))
-            else:
-                self.lines.append(line.decode("utf-8", "replace").rstrip("\n"))
+        self.lines += [line.decode("utf-8", "replace").rstrip("\n") for line in stream]
 
     def text(self):
         """The note, once the process has ended."""

@@ -22,10 +22,12 @@ MOST_EDGES = 400_000
 # More digits of a distance than the scale has, before it is rounded up.
 MORE_DIGITS = 4
 # A conflict is small where it is at most the extent of the layer divided by this.
-SMALL = 1000
+SMALL = 100
 # A conflict of at most so many units of the scale comes from rounding.
 UNITS_OF_ROUNDING = 2
 LONGEST_SHOWN = 60
+# How many groups of sizes are told at most.
+MOST_SIZES = 5
 
 PLACED = re.compile(r"layer (line|row) ([0-9]+): (.*)", re.DOTALL)
 CONFLICT = re.compile(r"layer: edges (.*) and (.*) (cross|touch)")
@@ -42,7 +44,8 @@ class Piece(NamedTuple):
 
 
 class Case(NamedTuple):
-    """A layer that is refused, the note that refuses it, the source that it was made of, and whether that may have more decimals."""
+    """A layer that is refused, the note that refuses it, the source that it was made of, where that is known, and whether that may have
+    more decimals."""
     path: str
     scale: int
     form: str
@@ -54,14 +57,16 @@ class Case(NamedTuple):
         """The layer as the tools are told of it."""
         return f"{shlex.quote(str(self.path))} {{}} --scale {self.scale}" + (" --form csv" if self.form == "csv" else "")
 
-    def out(self, word):
-        return shlex.quote(os.path.splitext(os.path.basename(str(self.path)))[0] + f"_{word}" + (".csv" if self.form == "csv" else ".wkt"))
+    def out(self, word, form=None):
+        """A name for a file that is made of the layer."""
+        name = os.path.splitext(os.path.basename(str(self.path)))[0]
+        return shlex.quote(f"{name}_{word}" + (".csv" if (form or self.form) == "csv" else ".wkt"))
 
     def command(self, tool, more=""):
         return f"tools/{tool} {self.words().format(self.out('mended'))}{more}"
 
     def import_command(self, more):
-        return f"tools/import {shlex.quote(self.source)} {self.out('new')} {more}".rstrip()
+        return f"tools/import {shlex.quote(str(self.source or self.path))} {self.out('new', 'csv')} {more}".rstrip()
 
 
 def is_conflict(run):
@@ -69,7 +74,7 @@ def is_conflict(run):
     return run.status == REFUSED and CONFLICT.fullmatch(run.note) is not None
 
 
-def explained(path, scale, form, note, source="SOURCE", has_finer=True):
+def explained(path, scale, form, note, source=None, has_finer=True):
     """The lines that explain a note with which `locate` refused a layer."""
     case = Case(path, scale, form, note, source, has_finer)
     return [f"refused: {note}"] + lines_of(case)
@@ -130,10 +135,16 @@ def field(record, at, otherwise):
 
 def named(name):
     """A feature's id as it is shown."""
-    return quoted(cut(name).encode("utf-8", "surrogateescape").decode("utf-8", "replace"))
+    return quoted(cut(name))
+
+
+def decimals(scale):
+    return f"{scale} decimal{'' if scale == 1 else 's'}"
 
 
 def cut(text):
+    """A text as it is shown: without its end where it is long, and with a mark for each byte that is no UTF-8."""
+    text = text[:LONGEST_SHOWN + 1].encode("utf-8", "surrogateescape").decode("utf-8", "replace")
     return text if len(text) <= LONGEST_SHOWN else text[:LONGEST_SHOWN - 3] + "..."
 
 
@@ -164,7 +175,7 @@ def of_place(case, number, fault):
                         f"mend: iconv -f latin1 -t utf-8 {shlex.quote(str(case.path))} >{case.out('utf8')}"]
     if fault == "id too long":
         return lines + [f"what: the id has {len(piece.name.encode('utf-8', 'surrogateescape'))} bytes, and at most {LONGEST_ID} are read",
-                        "mend: name another column of the source: " + case.import_command("--id COLUMN")]
+                        "mend: take another column as the id: " + case.import_command("--id COLUMN")]
     return lines + of_text(case, piece, fault)
 
 
@@ -183,15 +194,16 @@ def of_text(case, piece, fault):
         return of_rings(case, piece, int(of_ring[1]), of_ring[2])
     start = f"what: the text begins {cut(piece.text.strip(WHITE))!r}"
     if fault == "dimension":
-        return [start, "cause: the points have heights or measures", "mend: " + case.import_command(f"--scale {case.scale}") + ", which drops them"]
+        return [start, "cause: the points have heights or measures", "mend by dropping them: " + case.import_command(f"--scale {case.scale}")]
     if fault == "tag" and piece.text.upper().lstrip(WHITE).startswith(("CURVE", "MULTISURFACE")):
-        return [start, "cause: the polygon has curved sides", "mend: " + case.import_command("") + ", which makes them straight"]
+        return [start, "cause: the polygon has curved sides", "mend by making them straight: " + case.import_command("")]
     if case.form == "lines" and (fault == "tag" or '"' in piece.text):
         return [start, "cause: the layer is a CSV, which is read as lines; or the line is no POLYGON and no MULTIPOLYGON",
                 "mend: say --form csv, or leave out what is no polygon"]
     if fault == "tag":
         return [start, "cause: the row is no POLYGON and no MULTIPOLYGON, or a number of the coordinate system stands before it",
-                "mend: " + case.import_command("") + ", which leaves out points and lines; in PostGIS ST_AsText in place of ST_AsEWKT"]
+                "mend by leaving out points and lines: " + case.import_command(""),
+                "mend in PostGIS: say ST_AsText in place of ST_AsEWKT"]
     if re.fullmatch("[0-9A-Fa-f]{20,}", piece.text.strip(WHITE)):
         return [start, "cause: this is the geometry in the bytes of PostGIS", "mend: ST_AsText(geom) in place of geom"]
     return [start, "cause: the text is cut off, or was written by hand", "mend: write the layer again: " + case.import_command("")]
@@ -222,7 +234,7 @@ def of_numbers(case, piece, number, fault):
     most = next((scale for scale in range(LARGEST_SCALE, -1, -1)
                  if not any(layer_text.rounded(each, scale) is None for each in words)), None)
     if fault == "off grid":
-        lines += [f"what: {off_grid} of {len(words)} numbers have more than {case.scale} decimals",
+        lines += [f"what: {off_grid} of {len(words)} numbers have more than {decimals(case.scale)}",
                   "cause: the tool that wrote the layer writes all digits that it has, and the scale is smaller"]
     else:
         lines.append(f"cause: the number times 10^{case.scale} is past 10^18")
@@ -230,9 +242,11 @@ def of_numbers(case, piece, number, fault):
         return lines + ["mend: a number is past 10^18 itself: look whether the coordinates are right"]
     if needed is not None and needed <= most:
         lines.append(f"mend: say --scale {needed}, which holds all numbers as they are written")
+        if fault == "out of range":
+            return lines
     elif fault == "out of range":
         lines.append(f"what: the largest scale at which all numbers are in range is {most}, and some have more decimals: round them")
-    return lines + [f"mend: {case.import_command(f'--scale {min(case.scale, most)}')}, which rounds"]
+    return lines + [f"mend by rounding: {case.import_command(f'--scale {min(case.scale, most)}')}"]
 
 
 def of_rings(case, piece, number, fault):
@@ -242,13 +256,13 @@ def of_rings(case, piece, number, fault):
     if fault == "short":
         return [f"what: ring {number} has {len(points)} points, and a ring has at least four, of which the last equals the first",
                 "cause: the text was written or cut by hand, or a small ring collapsed where it was rounded",
-                f"mend: {case.import_command(f'--scale {case.scale}')}, which drops rings that collapse"]
+                f"mend by dropping rings that collapse: {case.import_command(f'--scale {case.scale}')}"]
     first, last = points[0], points[-1]
     ends = [[grid_value(word, case.scale) for word in point] for point in (first, last)]
     far = distance(squares(*ends), case.scale)
     return [f"what: ring {number} begins at {' '.join(first)} and ends at {' '.join(last)}, {far} away",
             "cause: the ring was not closed where it was drawn, or its last point is missing",
-            f"mend: {case.import_command(f'--scale {case.scale} --close')}, which draws the missing side; look at the feature first"]
+            f"mend by drawing the missing side, if that is right: {case.import_command(f'--scale {case.scale} --close')}"]
 
 
 def squares(p, q):
@@ -354,8 +368,10 @@ def of_pair(case, layer, edges, owners, found, large):
 
 
 def sizes_told(sizes, scale):
-    """How many conflicts there are up to each power of ten, and the largest."""
+    """How many conflicts there are up to each power of ten, or of a thousand where these are many, and the largest."""
     counts = Counter(len(str(large)) if large else 0 for large in sizes)
+    if len(counts) > MOST_SIZES:
+        counts = Counter(-(-len(str(large)) // 3) * 3 if large else 0 for large in sizes)
     parts = []
     for digits in sorted(counts):
         bound = written(10 ** digits, scale + MORE_DIGITS) if digits else "0"
@@ -365,7 +381,7 @@ def sizes_told(sizes, scale):
 
 def at_scales(edges, scale, here):
     """How many conflicts there are at this scale and at smaller ones."""
-    parts, looked_at = [f"{here} conflicts at {scale} decimals"], 0
+    parts, looked_at = [f"{here} conflict{'' if here == 1 else 's'} at {decimals(scale)}"], 0
     for smaller in range(scale - 1, -1, -1):
         looked_at += len(edges)
         if looked_at > MOST_EDGES:
@@ -374,7 +390,7 @@ def at_scales(edges, scale, here):
         rounded = rounded_edges(edges, 10 ** (scale - smaller))
         parts.append(f"{len(conflicts.all_conflicts(rounded))} at {smaller}")
         if 2 * len(rounded) < len(edges):
-            parts.append("and at fewer more than half of the edges collapse")
+            parts.append("where more than half of the edges collapse")
             break
     return ", ".join(parts)
 
@@ -400,11 +416,13 @@ def mends(case, edges, sizes, kinds):
     if small:
         within = max(max(small), UNITS_OF_ROUNDING * 10 ** MORE_DIGITS)
         more = f" --within {written(within, case.scale + MORE_DIGITS, digits=2)}"
-        lines.append(f"mend: {case.command('mend', more)}"
-                     + ("" if len(small) == len(sizes) else f", for {len(small)} of them"))
+        of_them = "" if len(small) == len(sizes) else f" {len(small)} of them"
+        lines.append(f"mend{of_them}: {case.command('mend', more)}")
     if "rounding" in kinds and case.has_finer:
-        lines.append(f"mend: or take more decimals, if the source has them: {case.import_command('--scale auto')}")
+        lines.append("mend by more decimals, if the source of the layer has them: tools/import SOURCE OUT.csv --scale auto")
+    if any(kind == "itself" and large * SMALL > extent for kind, large in zip(kinds, sizes)):
+        lines.append("mend of a polygon that crosses itself by much: PostGIS' ST_MakeValid(geom), before it is imported")
     if len(small) < len(sizes):
-        lines.append(f"mend: for polygons that truly overlap, leave a few out: tools/faults {case.words().format('').replace('  ', ' ')} "
-                     f"--drop {case.out('rest')}")
+        lines.append("mend by leaving out a few polygons, if they truly overlap: "
+                     f"tools/faults {case.words().replace(' {}', '')} --drop {case.out('rest')}")
     return lines

@@ -18,6 +18,8 @@ POLYGON = r"\(\s*\([^()]*\)(?:\s*,\s*\([^()]*\))*\s*\)"
 ONE = re.compile(POLYGON + r"\s*")
 MANY = re.compile(rf"\(\s*(?:{POLYGON}|EMPTY)(?:\s*,\s*(?:{POLYGON}|EMPTY))*\s*\)\s*", re.IGNORECASE)
 PARTS = re.compile(POLYGON)
+# What a text that is empty holds.
+NOTHING = "no geometry"
 ONE_POLYGON = ("POLYGON", "TRIANGLE")
 MANY_POLYGONS = ("MULTIPOLYGON", "TIN", "POLYHEDRALSURFACE")
 KINDS = {"POINT": "points", "MULTIPOINT": "points", "LINESTRING": "lines", "MULTILINESTRING": "lines", "LINEARRING": "lines",
@@ -37,13 +39,13 @@ class Found(NamedTuple):
 def read_text(text):
     """The polygons of a geometry text, by the texts of their rings. Heights and measures are still in them."""
     if not text.strip():
-        return Found([], ["no geometry"])
+        return Found([], [NOTHING])
     head = HEAD.match(text)
     if not head:
         raise NoGeometry("it is no geometry text")
     kind, body = head[1].upper(), text[head.end():]
     if body.strip().upper() == "EMPTY":
-        return Found([], ["no geometry"])
+        return Found([], [NOTHING])
     if kind in ONE_POLYGON or kind in MANY_POLYGONS:
         if not (ONE if kind in ONE_POLYGON else MANY).fullmatch(body):
             raise NoGeometry("its parentheses are not those of a polygon")

@@ -1,4 +1,5 @@
-"""Layers out of files and databases, as rows of geometry texts and attributes: a CSV with a column `wkt`, or whatever GDAL reads."""
+"""Layers out of files and databases, as rows of geometry texts and attributes: a CSV with a column `wkt`, lines of geometry texts, or
+whatever GDAL reads."""
 import csv
 import io
 import os
@@ -16,6 +17,9 @@ GEOMETRY = "wkt"
 ZIPPED = {".zip": "/vsizip/", ".kmz": "/vsizip/", ".gz": "/vsigzip/"}
 # GDAL's own index of the points of an OpenStreetMap file refuses the negative ids of files that were edited.
 SETTINGS = {"OSM_USE_CUSTOM_INDEXING": "NO"}
+# What begins a file of geometry texts, and how many characters are looked at for it.
+FIRST_TEXT = re.compile(r"\s*(?:MULTI)?(?:POLYGON|SURFACE|CURVEPOLYGON)\s*(?:Z|M|ZM)?\s*[(]", re.IGNORECASE)
+LOOKED_AT = 1000
 LISTED = re.compile(r"[0-9]+: (.*?)(?: \(title: .*\))?(?: \(([^()]*(?:\(any\))?)\))?")
 
 
@@ -29,9 +33,9 @@ class Source(NamedTuple):
 @contextmanager
 def opened(path, layer):
     """The layer of a source. `Ending` where it cannot be read."""
-    if os.path.isfile(path) and path.lower().endswith(".csv") and layer is None:
+    if os.path.isfile(path) and layer is None:
         with endings.reading(), open(path, encoding="utf-8-sig", errors="surrogateescape", newline="") as file:
-            source = of_records(os.path.basename(path), file, path)
+            source = of_lines(path, file) or (of_records(os.path.basename(path), file, path) if path.lower().endswith(".csv") else None)
             if source:
                 yield source
                 return
@@ -40,6 +44,15 @@ def opened(path, layer):
     name = chosen_layer(full, path, layer)
     with exported(full, name, path) as file:
         yield of_records(name, file, path) or Source(name, [], iter(()))
+
+
+def of_lines(path, file):
+    """A file of geometry texts, one in a line, or None where the file does not begin with one. A blank line is a row without geometry."""
+    start = file.read(LOOKED_AT)
+    file.seek(0)
+    if not FIRST_TEXT.match(start):
+        return None
+    return Source(os.path.basename(path), [], ((line, []) for line in file))
 
 
 def of_records(name, file, path):
@@ -91,10 +104,11 @@ def environment():
 
 
 def fault_of(notes):
-    """The first error that GDAL tells, in one line."""
-    lines = [line.strip() for line in notes.splitlines() if line.strip()]
-    told = [line for line in lines if line.startswith(("ERROR", "FAILURE")) and not line.endswith("FAILURE:")]
-    return (told or lines or ["it says no cause"])[0]
+    """The first error that GDAL tells, in one line, without its list of drivers."""
+    lines = [line.strip().removesuffix(" with the following drivers.") for line in notes.splitlines()]
+    lines = [line for line in lines if line and line != "FAILURE:" and not line.startswith(("-> ", "Warning"))]
+    at = next((at for at, line in enumerate(lines) if line.startswith("ERROR")), 0)
+    return " ".join(lines[at:at + 2]) or "it says no cause"
 
 
 def chosen_layer(full, path, layer):
@@ -102,7 +116,7 @@ def chosen_layer(full, path, layer):
     done = subprocess.run(["ogrinfo", "-ro", "-so", full], capture_output=True, env=environment(), stdin=subprocess.DEVNULL)
     output, notes = (part.decode("utf-8", "replace") for part in (done.stdout, done.stderr))
     if done.returncode:
-        raise Ending(READ_FAILED, f"GDAL cannot read {path}: {fault_of(notes or output)}")
+        raise Ending(READ_FAILED, f"GDAL cannot read {path}: {fault_of(output + notes)}")
     found = [LISTED.fullmatch(line) for line in output.splitlines()]
     layers = [(match[1], match[2] or "unknown") for match in found if match]
     names = [name for name, _ in layers]
@@ -122,19 +136,22 @@ def chosen_layer(full, path, layer):
 
 @contextmanager
 def exported(full, name, path):
-    """What GDAL writes of a layer as CSV, as a text file. Where GDAL fails in the end, that is told."""
+    """The lines that GDAL writes of a layer as CSV. Where GDAL fails, that is told behind the last of them."""
     words = ["ogr2ogr", "-f", "CSV", "/vsistdout/", full, name, "-lco", "GEOMETRY=AS_WKT", "-nlt", "CONVERT_TO_LINEAR", "-dim", "XY"]
     process = subprocess.Popen(words, stdin=subprocess.DEVNULL, stdout=subprocess.PIPE, stderr=subprocess.PIPE, env=environment())
     notes = []
     listener = threading.Thread(target=lambda: notes.extend(process.stderr), daemon=True)
     listener.start()
     try:
-        with endings.reading():
-            yield io.TextIOWrapper(process.stdout, encoding="utf-8", errors="surrogateescape", newline="")
-        status = process.wait()
+        yield lines_of(process, listener, notes, path)
     finally:
         process.kill()
         process.wait()
+
+
+def lines_of(process, listener, notes, path):
+    with endings.reading():
+        yield from io.TextIOWrapper(process.stdout, encoding="utf-8", errors="surrogateescape", newline="")
     listener.join()
-    if status:
+    if process.wait():
         raise Ending(READ_FAILED, f"GDAL cannot read {path}: {fault_of(b''.join(notes).decode('utf-8', 'replace'))}")

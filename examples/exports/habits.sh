@@ -1,3 +1,4 @@
+# shellcheck shell=bash disable=SC2034,SC2154 # examples/exports/run reads this file: it has its own variables, and uses those of this one
 # What tools write when they are asked as one would ask them first, and what cures it. `habit_X` and `cure_X` write the file $1 from the
 # layers in the present folder; a line of the table names X, its tool, the scale and form of the habit, the note that comes, and the
 # scale and form of the cure.
@@ -16,6 +17,10 @@ other_bytes|gdal|15 csv|layer row 61: id not UTF-8|15 csv
 slivers|gdal|15 csv|layer: edges .* cross|9 csv
 coarse|gdal|6 csv|layer: edges .* cross|15 csv
 left_out|gdal|6 csv|layer: edges .* cross|6 csv
+snapped|gdal|6 csv|layer: edges .* cross|6 csv
+no_id|gdal|6 csv|layer row 1: fields|6 csv
+bare_name|gdal|6 csv|read failed|6 csv
+open_ring|gdal|0 csv|layer row 1: ring 1 open|0 csv
 unnamed|postgis|6 csv|layer: no wkt column|6 csv
 srid|postgis|6 csv|layer row 1: tag|6 csv
 binary|postgis|6 csv|layer row 1: syntax|6 csv
@@ -63,7 +68,6 @@ cure_heights() { as_wkt "$1" nc.shp -dim XY; }
 
 from_geopackage() {
     local column=$2
-    cp "$layers_of_sf/../gpkg/nc.gpkg" counties.gpkg
     as_wkt "$1" counties.gpkg -dialect sqlite -sql "select SnapToGrid($column, 1e-6) as geometry, NAME as id from \"nc.gpkg\""
 }
 habit_geometry_name() { from_geopackage "$1" geometry; }
@@ -87,6 +91,20 @@ cure_coarse() { "$recipes/gdal_as_written" naturalearth_lowres.shp name 15 "$1";
 
 habit_left_out() { "$recipes/gdal" naturalearth_lowres.shp name 6 "$1"; }
 cure_left_out() { "$top/tools/faults" left_out.habit.csv --form csv --scale 6 --drop "$1"; }
+
+habit_snapped() { "$recipes/gdal" naturalearth_lowres.shp name 6 "$1"; }
+cure_snapped() { "$top/tools/mend" snapped.habit.csv "$1" --form csv --scale 6 --within 0.000002; }
+
+# GDAL takes a column of rowids for the number of the feature, and leaves it out of the CSV.
+habit_no_id() { as_wkt "$1" counties.gpkg -dim XY -dialect sqlite -sql 'select SnapToGrid(geom, 1e-6) as geometry, rowid as id from "nc.gpkg"'; }
+cure_no_id() { "$recipes/gdal_rowid" counties.gpkg 6 "$1"; }
+
+# The name of a layer that is no plain word stands in quotes.
+habit_bare_name() { as_wkt "$1" counties.gpkg -dim XY -dialect sqlite -sql 'select SnapToGrid(geom, 1e-6) as geometry, NAME as id from nc.gpkg'; }
+cure_bare_name() { as_wkt "$1" counties.gpkg -dim XY -dialect sqlite -sql 'select SnapToGrid(geom, 1e-6) as geometry, NAME as id from "nc.gpkg"'; }
+
+habit_open_ring() { cp "$here/open.csv" "$1"; }
+cure_open_ring() { "$top/tools/import" "$here/open.csv" "$1" --scale 0 --close; }
 
 # PostGIS, where the table nc is that of the recipe
 

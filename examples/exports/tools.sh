@@ -1,3 +1,4 @@
+# shellcheck shell=bash disable=SC2034 # examples/exports/run reads this file, and uses its variables
 # The tools that the recipes need: where they are missing they are installed from Debian's packages, and a tool that cannot be had is told.
 
 layers_of_sf=/usr/lib/R/site-library/sf/shape
@@ -67,7 +68,8 @@ as_server() {
 # A server of its own in the folder $1, which takes no connections but by a socket there.
 start_server() {
     local place=$1
-    server=$(dirname "$(ls /usr/lib/postgresql/*/bin/initdb | tail -n 1)")
+    local found=(/usr/lib/postgresql/*/bin/initdb)
+    server=$(dirname "${found[-1]}")
     mkdir -p "$place" && chmod 755 "$(dirname "$place")"
     [ "$(id -u)" != 0 ] || chown postgres "$place"
     (cd "$place" && as_server "$server/initdb" -D "$place/data" -A trust -U postgres -E UTF8 --locale=C &&

@@ -1,42 +1,20 @@
--- The table of a layer: how many rows it has, and that its rows stand in order.
+-- How many corners and edges a layer has: no more of either than points.
 use Rattle.std.proofs.Common.{◌≡◌, suc, ◌≤◌, Bool, true, false, ◌||◌, List, [], ◌∷◌, ◌++◌, length, refl, sym, ◌∙◌, ap, inl, inr, arith, length-append}
 use Rattle.std.specs.List.{list_any, flat_map}
 use Rattle.std.proofs.lemmas.Bool.{cases_Bool, cond-true, cond-false, both_ways, or_cases, or_left, or_right}
-use Rattle.std.proofs.lemmas.List.Concat.{flat_map-append}
+use Rattle.std.proofs.lemmas.List.{map-id}
+use Rattle.std.proofs.lemmas.List.Concat.{flat_map-append, flat_map_single}
 use Rattle.std.proofs.lemmas.List.Folds.{list_any-append}
 use Rattle.loc_spec_plane.specs.Points.{Point, Edge, before, same_point, edge_before}
-use Rattle.loc_spec_plane.specs.Lists.{with_member, sorted_set}
+use Rattle.loc_spec_plane.specs.Lists.{sorted_set}
 use Rattle.loc_spec_plane.specs.Rings.{Ring, Rings, ring_segments, segments, segment_between}
 use Rattle.loc_spec_plane.specs.Tables.{layer_segments, layer_corners, pieces_of, whole}
 use Rattle.loc_laws_order.proofs.Booleans.{or_true}
+use Rattle.loc_laws_noding.specs.Laws.{ends_of}
+use Rattle.loc_laws_noding.proofs.Orders.{points_by_before}
+pub use Rattle.loc_laws_noding.proofs.SortedSet.{length-sorted_set}
+use Rattle.loc_laws_noding.proofs.SortedSet.{length-sorted_set_part, same-sorted_set}
 use Rattle.loc_edges.specs.Kept.{written_points}
-use Rattle.loc_edges.specs.Layers.{ends_of}
-use Rattle.loc_edges.proofs.Orders.{points_by_before}
-use Rattle.loc_edges.proofs.Layers.{pieces_of-whole}
-use Rattle.loc_edges.proofs.SortedSet.{same-sorted_set}
-
--- ---- how many
-module _ {X : Type 0} (comes_before : X → X → Bool) where
-  -- a list with one member more is no shorter, and at most one longer
-  length-with_member : (x : X) (ys : List X) → (length ys ≤ length (with_member comes_before x ys)) × (length (with_member comes_before x ys) ≤ suc (length ys))
-  length-with_member x [] = (omega arith, omega arith)
-  length-with_member x (y ∷ ys) = elim (cases_Bool (comes_before x y)) [
-    | inl first ↦ (let e : length (with_member comes_before x (y ∷ ys)) ≡ suc (suc (length ys)) = ap length (cond-true _ _ _ first) in (omega (arith, e), omega (arith, e)))
-    | inr other ↦ elim (cases_Bool (comes_before y x)) [
-      | inl later ↦ (let e : length (with_member comes_before x (y ∷ ys)) ≡ suc (length (with_member comes_before x ys)) = ap length (cond-false _ _ _ other ∙ cond-true _ _ _ later) in let more = length-with_member x ys in (omega (arith, e, more.0), omega (arith, e, more.1)))
-      | inr same ↦ (let e : length (with_member comes_before x (y ∷ ys)) ≡ suc (length ys) = ap length (cond-false _ _ _ other ∙ cond-false _ _ _ same) in (omega (arith, e), omega (arith, e)))
-    ]
-  ]
-
-  -- a sorted set is no longer than the list
-  pub length-sorted_set : (xs : List X) → length (sorted_set comes_before xs) ≤ length xs
-  length-sorted_set [] = omega arith
-  length-sorted_set (x ∷ xs) = (let one = length-with_member x (sorted_set comes_before xs) in omega (arith, one.1, length-sorted_set xs))
-
-  -- and no shorter than that of a part of the list
-  length-sorted_set_part : (xs ys : List X) → length (sorted_set comes_before ys) ≤ length (sorted_set comes_before (xs ++ ys))
-  length-sorted_set_part [] ys = omega arith
-  length-sorted_set_part (x ∷ xs) ys = (let one = length-with_member x (sorted_set comes_before (xs ++ ys)) in omega (arith, one.0, length-sorted_set_part xs ys))
 
 -- a test that an end of a segment of a ring passes is passed by a point of the ring
 ring_points : (p : Point → Bool) (ring : Ring) → list_any p (ends_of (ring_segments ring)) ≡ true → list_any p ring ≡ true
@@ -90,7 +68,7 @@ few_corners layer =
     absorb false false h = refl
 
 -- a ring has no more segments than points
-pub few_ring_segments : (ring : Ring) → length (ring_segments ring) ≤ length ring
+few_ring_segments : (ring : Ring) → length (ring_segments ring) ≤ length ring
 few_ring_segments [] = omega arith
 few_ring_segments (a ∷ []) = omega arith
 few_ring_segments (a ∷ b ∷ ps) = elim (cases_Bool (same_point a b)) [
@@ -105,6 +83,10 @@ few_parts f g each (x ∷ xs) = omega (arith, length-append (f x) (flat_map f xs
 few_layer_segments : (layer : List Rings) → length (layer_segments layer) ≤ length (written_points layer)
 few_layer_segments = few_parts segments (λ rings. flat_map (λ ring. ring) rings) (few_parts ring_segments (λ ring. ring) few_ring_segments)
 
--- nor more edges
+-- nor more pieces where nothing is cut
+pub few_pieces : (layer : List Rings) → length (flat_map whole (layer_segments layer)) ≤ length (written_points layer)
+few_pieces layer = omega (arith, ap length (flat_map_single (λ (s : Edge). s) (layer_segments layer) ∙ map-id (layer_segments layer)), few_layer_segments layer)
+
+-- so not more edges
 pub few_edges : (layer : List Rings) → length (pieces_of whole layer) ≤ length (written_points layer)
-few_edges layer = omega (arith, ap length (pieces_of-whole layer), length-sorted_set edge_before (layer_segments layer), few_layer_segments layer)
+few_edges layer = omega (arith, length-sorted_set edge_before (flat_map whole (layer_segments layer)), few_pieces layer)

@@ -4,7 +4,7 @@ use Rattle.std.specs.Bool.{Decides}
 use Rattle.std.specs.List.Sorted.{IsSortedBy}
 use Rattle.std.specs.List.{list_any, dedup, dedup_from}
 use Rattle.std.proofs.lemmas.Bool.{cases_Bool, cases_eq, cond-true, cond-false, false_from_ne_true, both_ways}
-use Rattle.std.proofs.lemmas.List.{map-append, take-map, take_more, length-map, length-take, get_or-take, get_or_append_left, get_or_push, get_or_at, set_at}
+use Rattle.std.proofs.lemmas.List.{map-append, take-map, take_more, length-map, length-take, get_or-map, get_or-take, get_or_append_left, get_or_push, get_or_at, set_at}
 use Rattle.std.proofs.lemmas.List.Sorted.{IsPermutation-refl}
 use Rattle.std.proofs.lemmas.List.Folds.{list_any_none}
 use Rattle.loc_spec_plane.specs.Points.{Edge, same_edge, edge_before}
@@ -13,9 +13,9 @@ use Rattle.loc_laws_order.proofs.Tests.{same_edge_decides}
 use Rattle.loc_laws_order.proofs.TableOrder.{rises}
 use Rattle.loc_edges.specs.Tagged.{segments_in, features_of}
 use Rattle.loc_edges.proofs.MarkRows.{features_of-append}
-use Rattle.loc_edges.proofs.Orders.{edges_by_before}
+use Rattle.loc_laws_noding.proofs.Orders.{edges_by_before}
 use Rattle.loc_edges.proofs.RowLists.{map_alike}
-use Rattle.loc_edges.proofs.SortedSet.{irrefl, any-dedup, rising-dedup, sorted_set-dedup}
+use Rattle.loc_laws_noding.proofs.SortedSet.{irrefl, any-dedup, rising-dedup, sorted_set-dedup}
 use Rattle.loc_edges.proofs.Tagged.{is_sorted}
 
 -- ---- equal neighbours dropped from a list that grows
@@ -62,6 +62,35 @@ module _ {X : Type 0} (E : X → X → Bool) (exact : (x y : X) → Decides (E x
   pub dedup_last : (xs : List X) (y : X) → (front : List X) × (dedup E (xs ++ y ∷ []) ≡ front ++ y ∷ [])
   dedup_last [] y = ([], refl)
   dedup_last (z ∷ zs) y = last_from z zs y
+
+  -- one more member behind the first n
+  pub dedup_more : (xs : List X) (n : ℕ) (d : X) (is_new : Bool) (kept grown : List X) → n < length xs → kept ≡ dedup E (take n xs) → (n ≡ 0 → is_new ≡ true) → (0 < n → is_new ≡ not (E (get_or xs n d) (get_or xs (n - 1) d))) → (is_new ≡ true → grown ≡ kept ++ get_or xs n d ∷ []) → (is_new ≡ false → grown ≡ kept)
+      → grown ≡ dedup E (take (n + 1) xs)
+  dedup_more xs n d is_new kept grown fits are first later new old = elim (cases_eq n 0) [
+    | inl zero_is ↦ (let none : take n xs ≡ [] = ap (λ k. take k xs) zero_is in
+        new (first zero_is) ∙ (ap (λ ys. ys ++ get_or xs n d ∷ []) (are ∙ ap (dedup E) none) ∙ sym (ap (dedup E) (take_more xs n d fits ∙ ap (λ ys. ys ++ get_or xs n d ∷ []) none))))
+    | inr some ↦ (let back : n - 1 + 1 ≡ n = omega (arith, some) in
+        let before : take n xs ≡ take (n - 1) xs ++ get_or xs (n - 1) d ∷ [] = ap (λ k. take k xs) (sym back) ∙ take_more xs (n - 1) d (omega arith) in
+        let more : take (n + 1) xs ≡ (take (n - 1) xs ++ get_or xs (n - 1) d ∷ []) ++ get_or xs n d ∷ [] = take_more xs n d fits ∙ ap (λ ys. ys ++ get_or xs n d ∷ []) before in
+        let said : is_new ≡ not (E (get_or xs n d) (get_or xs (n - 1) d)) = later (omega (arith, some)) in
+        elim (cases_Bool (E (get_or xs n d) (get_or xs (n - 1) d))) [
+          | inl same ↦ old (said ∙ ap not same) ∙ (are ∙ (ap (dedup E) before ∙ (sym (dedup_again (take (n - 1) xs) (get_or xs (n - 1) d) (get_or xs n d) same) ∙ sym (ap (dedup E) more))))
+          | inr other ↦ new (said ∙ ap not other) ∙ (ap (λ ys. ys ++ get_or xs n d ∷ []) (are ∙ ap (dedup E) before) ∙ (sym (dedup_fresh (take (n - 1) xs) (get_or xs (n - 1) d) (get_or xs n d) other) ∙ sym (ap (dedup E) more)))
+        ])
+  ]
+
+-- so of the edges of segments
+pub edges_more : (ts : List (Edge × ℕ)) (n : ℕ) (d : Edge × ℕ) (is_new : Bool) (edges grown : List Edge) → n < length ts → edges ≡ dedup same_edge (segments_in (take n ts)) → (n ≡ 0 → is_new ≡ true) → (0 < n → is_new ≡ not (same_edge (get_or ts n d).0 (get_or ts (n - 1) d).0)) → (is_new ≡ true → grown ≡ edges ++ (get_or ts n d).0 ∷ [])
+    → (is_new ≡ false → grown ≡ edges) → grown ≡ dedup same_edge (segments_in (take (n + 1) ts))
+edges_more ts n d is_new edges grown fits are first later new old =
+    let es : List Edge = segments_in ts in
+    let front : (k : ℕ) → segments_in (take k ts) ≡ take k es = λ k. sym (take-map (λ (t : Edge × ℕ). t.0) k ts) in
+    let here : get_or es n d.0 ≡ (get_or ts n d).0 = get_or-map (λ (t : Edge × ℕ). t.0) ts n d d.0 fits in
+    let last : get_or es (n - 1) d.0 ≡ (get_or ts (n - 1) d).0 = get_or-map (λ (t : Edge × ℕ). t.0) ts (n - 1) d d.0 (omega arith) in
+    dedup_more same_edge same_edge_decides es n d.0 is_new edges grown (omega (arith, fits, length-map ts (λ (t : Edge × ℕ). t.0))) (are ∙ ap (dedup same_edge) (front n)) first
+    (λ some. later some ∙ sym (ap (λ x. not (same_edge x (get_or es (n - 1) d.0))) here ∙ ap (λ y. not (same_edge (get_or ts n d).0 y)) last))
+    (λ yes. new yes ∙ ap (λ x. edges ++ x ∷ []) (sym here)) old
+    ∙ sym (ap (dedup same_edge) (front (n + 1)))
 
 -- ---- rows by edge
 -- no feature of an edge that no segment is

@@ -1,29 +1,23 @@
 -- The marks of an edge, from the features of its segments in order.
-use Rattle.std.proofs.Common.{◌≡◌, ℕ, ◌+◌, ◌<◌, Bool, true, false, not, ◌||◌, Some, None, List, [], ◌∷◌, ◌++◌, length, get_or, set, take, map, refl, sym, ◌∙◌, ap, inl, inr, arith}
+use Rattle.std.proofs.Common.{◌≡◌, ℕ, ◌+◌, ◌<◌, true, false, not, ◌||◌, Some, None, List, [], ◌∷◌, ◌++◌, length, get_or, set, take, map, refl, sym, ◌∙◌, ap, ap₂, inl, inr, arith}
 use Rattle.std.specs.Prelude.{◌==◌, nat_lt, filter, if◌then◌else◌}
-use Rattle.std.specs.List.{list_any, list_all, filter_map, enumerate_from, cons_option}
-use Rattle.std.proofs.lemmas.Bool.{cases_Bool, cases_eq, cond-true, cond-false, both_ways, eq-eqb, ne_eqb, ltb-true, and_parts}
+use Rattle.std.specs.List.{list_any, list_all, filter_map, flat_map, enumerate_from, cons_option}
+use Rattle.std.proofs.lemmas.Bool.{cases_Bool, cases_eq, cond-true, cond-false, eq-eqb, ne_eqb, ltb-true, and_parts}
 use Rattle.std.proofs.lemmas.List.{append_assoc, length-take-le, map-append, nil_from_length, set_at, take_all, take_more}
 use Rattle.std.proofs.lemmas.List.Elements.{filter-append}
+use Rattle.std.proofs.lemmas.List.Folds.{list_all-append}
 use Rattle.loc_spec_plane.specs.declared.Mark.{Mark}
-use Rattle.loc_spec_plane.specs.Points.{Edge, same_edge}
+use Rattle.loc_spec_plane.specs.Points.{Point, Edge, same_edge}
 use Rattle.loc_spec_plane.specs.Lists.{exactly_one, odd_many}
 use Rattle.loc_spec_plane.specs.Rings.{Rings, segments}
-use Rattle.loc_spec_plane.specs.Tables.{edge_marks, mark_of, mark_before, whole}
-use Rattle.loc_edges.proofs.Ordered.{marks_above}
-use Rattle.loc_edges.specs.Tagged.{tagged_by, tagged_from, features_of, with_mark, marks_of}
-
--- a segment that is the edge, as the marks are counted
-abbrev pub is_hit : Edge → Edge → Bool
-is_hit e s = list_any (same_edge e) (whole s)
-
--- where there are none there is no odd number of them
-pub odd_none : {X : Type 0} (p : X → Bool) (xs : List X) → list_any p xs ≡ false → odd_many p xs ≡ false
-odd_none p [] h = refl
-odd_none p (x ∷ xs) h = elim (cases_Bool (p x)) [
-  | inl passes ↦ absurd (both_ways _ h (ap (λ b. b || list_any p xs) passes))
-  | inr fails ↦ ap (λ b. exactly_one b (odd_many p xs)) fails ∙ odd_none p xs (sym (ap (λ b. b || list_any p xs) fails) ∙ h)
-]
+use Rattle.loc_spec_plane.specs.Tables.{edge_marks, layer_corners, layer_segments, mark_of, mark_before, whole}
+use Rattle.loc_laws_order.proofs.Booleans.{or_none}
+use Rattle.loc_laws_rays.proofs.Parity.{odd_many-same}
+use Rattle.loc_laws_noding.specs.Laws.{IsCutting, is_good}
+use Rattle.loc_laws_noding.proofs.Counting.{odd_is_any, odd_none}
+use Rattle.loc_laws_noding.proofs.Layers.{any_pieces, layer_good, odd_pieces}
+use Rattle.loc_laws_noding.proofs.Marks.{is_hit, marks_above}
+use Rattle.loc_edges.specs.Tagged.{tagged_by, tagged_pieces, features_of, with_mark, marks_of}
 
 -- ---- one more feature behind
 -- the first mark of a feature, and a mark that turns
@@ -80,30 +74,46 @@ with_new f (m ∷ ms) all = let less : f < m.feature = ltb-true f m.feature (and
 one_feature : (e : Edge) (a : ℕ) (ss : List Edge) (fs : List ℕ) (ms : List Mark) → marks_of fs ≡ ms → list_all (mark_before (one a)) ms ≡ true → marks_of (features_of (tagged_by a ss) e ++ fs) ≡ cons_option (mark_of whole e a ss) ms
 one_feature e a [] fs ms are later = are
 one_feature e a (s ∷ ss) fs ms are later = elim (cases_Bool (same_edge e s)) [
-  | inl hit ↦ (let now : mark_of whole e a (s ∷ ss) ≡ Some (record { feature = a; odd = not (odd_many (is_hit e) ss) }) = ap (λ b. if ((b || false) || list_any (is_hit e) ss) then Some (record { feature = a; odd = exactly_one (b || false) (odd_many (is_hit e) ss) }) else None) hit in
+  | inl hit ↦ (let now : mark_of whole e a (s ∷ ss) ≡ Some (record { feature = a; odd = not (odd_many (is_hit whole e) ss) }) = ap (λ b. if ((b || false) || list_any (is_hit whole e) ss) then Some (record { feature = a; odd = exactly_one (b || false) (odd_many (is_hit whole e) ss) }) else None) hit in
       ap (λ (ts : List (Edge × ℕ)). marks_of (map (λ (t : Edge × ℕ). t.1) ts ++ fs)) (cond-true _ _ _ hit)
       ∙ (ap (with_mark a) (one_feature e a ss fs ms are later)
-      ∙ (elim (cases_Bool (list_any (is_hit e) ss)) [
+      ∙ (elim (cases_Bool (list_any (is_hit whole e) ss)) [
         | inl some ↦ ap (λ o. with_mark a (cons_option o ms)) (cond-true _ _ _ some) ∙ cond-true _ _ _ (eq-eqb a a refl)
-        | inr none ↦ ap (λ o. with_mark a (cons_option o ms)) (cond-false _ _ _ none) ∙ (with_new a ms later ∙ ap (λ b. record { feature = a; odd = not b } ∷ ms) (sym (odd_none (is_hit e) ss none)))
+        | inr none ↦ ap (λ o. with_mark a (cons_option o ms)) (cond-false _ _ _ none) ∙ (with_new a ms later ∙ ap (λ b. record { feature = a; odd = not b } ∷ ms) (sym (odd_none (is_hit whole e) ss none)))
       ] ∙ ap (λ o. cons_option o ms) (sym now))))
   | inr miss ↦ ap (λ (ts : List (Edge × ℕ)). marks_of (map (λ (t : Edge × ℕ). t.1) ts ++ fs)) (cond-false _ _ _ miss)
       ∙ (one_feature e a ss fs ms are later
-      ∙ ap (λ b. cons_option (if ((b || false) || list_any (is_hit e) ss) then Some (record { feature = a; odd = exactly_one (b || false) (odd_many (is_hit e) ss) }) else None) ms) (sym miss))
+      ∙ ap (λ b. cons_option (if ((b || false) || list_any (is_hit whole e) ss) then Some (record { feature = a; odd = exactly_one (b || false) (odd_many (is_hit whole e) ss) }) else None) ms) (sym miss))
 ]
 
 pub features_of-append : (e : Edge) (ts us : List (Edge × ℕ)) → features_of (ts ++ us) e ≡ features_of ts e ++ features_of us e
 features_of-append e ts us = ap (map (λ (t : Edge × ℕ). t.1)) (filter-append (λ (t : Edge × ℕ). same_edge e t.0) ts us) ∙ map-append (λ (t : Edge × ℕ). t.1) (filter (λ (t : Edge × ℕ). same_edge e t.0) ts) (filter (λ (t : Edge × ℕ). same_edge e t.0) us)
 
--- the marks of the features are those of the edge
-marks_from : (e : Edge) (a : ℕ) (layer : List Rings) → marks_of (features_of (tagged_from a layer) e) ≡ filter_map (λ (numbered : ℕ × Rings). mark_of whole e numbered.0 (segments numbered.1)) (enumerate_from a layer)
-marks_from e a [] = refl
-marks_from e a (r ∷ rs) = ap marks_of (features_of-append e (tagged_by a (segments r)) (tagged_from (a + 1) rs)) ∙ one_feature e a (segments r) (features_of (tagged_from (a + 1) rs) e) _ (marks_from e (a + 1) rs) (marks_above e a (a + 1) true rs (omega arith))
+module _ (cut : Edge → List Edge) (corners : List Point) (cuts : IsCutting corners cut) where
+  -- the mark of a feature by its pieces is that by its segments, since a segment has an edge at most once as a piece
+  mark_by_pieces : (e : Edge) (a : ℕ) (ss : List Edge) → list_all (is_good corners) ss ≡ true → mark_of whole e a (flat_map cut ss) ≡ mark_of cut e a ss
+  mark_by_pieces e a ss good = ap₂ (λ some odd. if some then Some (record { feature = a; odd = odd }) else None)
+      (any_pieces (is_good corners) cut (is_hit whole e) (is_hit cut e) (λ s _. hit_whole (cut s)) ss good)
+      (odd_pieces (is_good corners) cut (is_hit whole e) (is_hit cut e) (λ s here. odd_many-same (is_hit whole e) (same_edge e) (cut s) (λ d. or_none (same_edge e d)) ∙ odd_is_any e (cut s) (cuts s here).rise) ss good)
+    where
+      hit_whole : (ds : List Edge) → list_any (is_hit whole e) ds ≡ list_any (same_edge e) ds
+      hit_whole [] = refl
+      hit_whole (d ∷ ds) = ap₂ (λ b c. b || c) (or_none (same_edge e d)) (hit_whole ds)
 
--- and so for each of some edges, by segments with the same features
-pub marks_are : (layer : List Rings) (ts : List (Edge × ℕ)) → ((e : Edge) → features_of ts e ≡ features_of (tagged_from 0 layer) e) → (es : List Edge) → map marks_of (map (features_of ts) es) ≡ map (edge_marks whole layer) es
-marks_are layer ts same [] = refl
-marks_are layer ts same (e ∷ es) = ap (λ ms. ms ∷ map marks_of (map (features_of ts) es)) (ap marks_of (same e) ∙ marks_from e 0 layer) ∙ ap (λ rows. edge_marks whole layer e ∷ rows) (marks_are layer ts same es)
+  -- the marks of the features are those of the edge
+  marks_from : (e : Edge) (a : ℕ) (layer : List Rings) → list_all (is_good corners) (layer_segments layer) ≡ true → marks_of (features_of (tagged_pieces cut a layer) e) ≡ filter_map (λ (numbered : ℕ × Rings). mark_of cut e numbered.0 (segments numbered.1)) (enumerate_from a layer)
+  marks_from e a [] good = refl
+  marks_from e a (r ∷ rs) good =
+      let parts = and_parts (list_all (is_good corners) (segments r)) (list_all (is_good corners) (layer_segments rs)) (sym (list_all-append (is_good corners) (segments r) (layer_segments rs)) ∙ good) in
+      let rest = filter_map (λ (numbered : ℕ × Rings). mark_of cut e numbered.0 (segments numbered.1)) (enumerate_from (a + 1) rs) in
+      ap marks_of (features_of-append e (tagged_by a (flat_map cut (segments r))) (tagged_pieces cut (a + 1) rs))
+      ∙ (one_feature e a (flat_map cut (segments r)) (features_of (tagged_pieces cut (a + 1) rs) e) rest (marks_from e (a + 1) rs parts.1) (marks_above cut e a (a + 1) true rs (omega arith))
+      ∙ ap (λ o. cons_option o rest) (mark_by_pieces e a (segments r) parts.0))
+
+-- and so for each of some edges, by pieces with the same features
+pub marks_are : (cut : Edge → List Edge) (layer : List Rings) → IsCutting (layer_corners layer) cut → (ts : List (Edge × ℕ)) → ((e : Edge) → features_of ts e ≡ features_of (tagged_pieces cut 0 layer) e) → (es : List Edge) → map marks_of (map (features_of ts) es) ≡ map (edge_marks cut layer) es
+marks_are cut layer cuts ts same [] = refl
+marks_are cut layer cuts ts same (e ∷ es) = ap (λ ms. ms ∷ map marks_of (map (features_of ts) es)) (ap marks_of (same e) ∙ marks_from cut (layer_corners layer) cuts e 0 layer (layer_good layer)) ∙ ap (λ rows. edge_marks cut layer e ∷ rows) (marks_are cut layer cuts ts same es)
 
 -- ---- what a count does
 last_split : (ms : List Mark) (last : ℕ) (r : Mark) → last + 1 ≡ length ms → r ≡ get_or ms last r → ms ≡ take last ms ++ r ∷ []

@@ -11,7 +11,7 @@ use Rattle.std.proofs.lemmas.List.Sorted.{searchable_from_sorted}
 use Rattle.std.proofs.lemmas.List.Sums.{position_or_len_is}
 use Rattle.loc_spec_plane.specs.Lists.{is_rising}
 use Rattle.loc_laws_order.proofs.TableOrder.{rises}
-use Rattle.loc_edges.proofs.SortedSet.{IsOrderBy, is_less, irrefl, from_less}
+use Rattle.loc_laws_noding.proofs.SortedSet.{IsOrderBy, is_less, irrefl, from_less}
 
 no_less : Less ≡ Equal → ⊥
 no_less e = grind arith

@@ -1,21 +1,22 @@
 -- The segments of a layer with their features, as one more feature comes, and sorted.
-use Rattle.std.proofs.Common.{◌≡◌, ℕ, suc, ◌+◌, ◌-◌, ◌<◌, not, List, [], ◌∷◌, ◌++◌, length, get_or, map, refl, sym, ◌∙◌, ap, inl, inr, arith, append-nil, length-append}
+use Rattle.std.proofs.Common.{◌≡◌, ℕ, suc, ◌+◌, ◌-◌, ◌<◌, not, List, [], ◌∷◌, ◌++◌, length, get_or, map, refl, sym, ◌∙◌, ap, ap₂, inl, inr, arith, append-nil, length-append}
 use Rattle.std.specs.Prelude.{◌&&◌, All, filter}
+use Rattle.std.specs.List.{flat_map}
 use Rattle.std.specs.List.Sorted.{IsPermutation, IsSorted, IsSortedBy, IsSortedByKey, IsStableByKey}
 use Rattle.std.specs.Ordering.{is_lt}
 use Rattle.std.proofs.lemmas.Bool.{cases_lt, both_ways, false_from_ne_true}
-use Rattle.std.proofs.lemmas.List.{append_assoc, length-map, get_or-map, get_or_append_left, get_or-append_right}
-use Rattle.std.proofs.lemmas.List.Elements.{filter_agree}
+use Rattle.std.proofs.lemmas.List.{append_assoc, length-map, map-id, get_or-map, get_or_append_left, get_or-append_right}
+use Rattle.std.proofs.lemmas.List.Concat.{flat_map-append, flat_map_single}
+use Rattle.std.proofs.lemmas.List.Elements.{All-append, All-cons, filter_agree}
 use Rattle.std.proofs.lemmas.List.Sorted.{IsPermutation-map, list_any-IsPermutation}
 use Rattle.loc_spec_plane.specs.Points.{Edge, same_edge, edge_before}
 use Rattle.loc_spec_plane.specs.Lists.{sorted_set}
 use Rattle.loc_spec_plane.specs.Rings.{Rings, segments}
 use Rattle.loc_spec_plane.specs.Tables.{layer_segments, pieces_of, whole}
 use Rattle.loc_laws_order.proofs.Tests.{same_edge_decides}
-use Rattle.loc_edges.specs.Tagged.{tagged_by, tagged_from, segments_in, features_of}
-use Rattle.loc_edges.proofs.Layers.{pieces_of-whole}
-use Rattle.loc_edges.proofs.Orders.{edge_cmp, edges_by_before}
-use Rattle.loc_edges.proofs.SortedSet.{is_less, less, from_less, same-sorted_set, tie_is}
+use Rattle.loc_edges.specs.Tagged.{tagged_by, tagged_from, tagged_pieces, segments_in, features_of}
+use Rattle.loc_laws_noding.proofs.Orders.{edge_cmp, edges_by_before}
+use Rattle.loc_laws_noding.proofs.SortedSet.{is_less, less, from_less, same-sorted_set, tie_is}
 
 -- one more feature
 pub tagged_more : (a : ℕ) (layer : List Rings) (r : Rings) → tagged_from a (layer ++ r ∷ []) ≡ tagged_from a layer ++ tagged_by (a + length layer) (segments r)
@@ -34,19 +35,25 @@ segments_in-tagged_by : (a : ℕ) (ss : List Edge) → segments_in (tagged_by a 
 segments_in-tagged_by a [] = refl
 segments_in-tagged_by a (s ∷ ss) = ap (λ es. s ∷ es) (segments_in-tagged_by a ss)
 
-segments_in-tagged : (a : ℕ) (layer : List Rings) → segments_in (tagged_from a layer) ≡ layer_segments layer
-segments_in-tagged a [] = refl
-segments_in-tagged a (r ∷ rs) = segments_in-append (tagged_by a (segments r)) (tagged_from (a + 1) rs) ∙ (ap (λ es. es ++ segments_in (tagged_from (a + 1) rs)) (segments_in-tagged_by a (segments r)) ∙ ap (λ es. segments r ++ es) (segments_in-tagged (a + 1) rs))
+pub segments_in-pieces : (cut : Edge → List Edge) (a : ℕ) (layer : List Rings) → segments_in (tagged_pieces cut a layer) ≡ flat_map cut (layer_segments layer)
+segments_in-pieces cut a [] = refl
+segments_in-pieces cut a (r ∷ rs) =
+    segments_in-append (tagged_by a (flat_map cut (segments r))) (tagged_pieces cut (a + 1) rs)
+    ∙ (ap₂ (λ es ds. es ++ ds) (segments_in-tagged_by a (flat_map cut (segments r))) (segments_in-pieces cut (a + 1) rs) ∙ sym (flat_map-append cut (segments r) (layer_segments rs)))
+
+-- where nothing is cut the segments are the pieces
+pub tagged_pieces-whole : (a : ℕ) (layer : List Rings) → tagged_from a layer ≡ tagged_pieces whole a layer
+tagged_pieces-whole a [] = refl
+tagged_pieces-whole a (r ∷ rs) = ap₂ (λ ss ts. tagged_by a ss ++ ts) (sym (flat_map_single (λ (s : Edge). s) (segments r) ∙ map-id (segments r))) (tagged_pieces-whole (a + 1) rs)
 
 -- the features are those of the layer
-pub features_fit : (a : ℕ) (layer : List Rings) → All (λ (t : Edge × ℕ). t.1 < a + length layer) (tagged_from a layer)
-features_fit a [] = λ k d lt. absurd (omega arith)
-features_fit a (r ∷ rs) = λ k d lt. elim (cases_lt k (length (tagged_by a (segments r)))) [
-  | inl here ↦ (let short : k < length (segments r) = omega (arith, here, length-map {B = Edge × ℕ} (segments r) (λ s. (s, a))) in
-      let at : (get_or (tagged_by a (segments r) ++ tagged_from (a + 1) rs) k d).1 ≡ a = ap (λ (t : Edge × ℕ). t.1) (get_or_append_left (tagged_by a (segments r)) (tagged_from (a + 1) rs) d k here ∙ get_or-map (λ (s : Edge). (s, a)) (segments r) k d.0 d short) in omega (arith, at))
-  | inr past ↦ (let at : (get_or (tagged_by a (segments r) ++ tagged_from (a + 1) rs) k d).1 ≡ (get_or (tagged_from (a + 1) rs) (k - length (tagged_by a (segments r))) d).1 = ap (λ (t : Edge × ℕ). t.1) (get_or-append_right (tagged_by a (segments r)) (tagged_from (a + 1) rs) (length (tagged_by a (segments r))) k d refl past) in
-      omega (arith, at, features_fit (a + 1) rs (k - length (tagged_by a (segments r))) d (omega (arith, lt, past, length-append (tagged_by a (segments r)) (tagged_from (a + 1) rs)))))
-]
+pub features_fit : (cut : Edge → List Edge) (a : ℕ) (layer : List Rings) → All (λ (t : Edge × ℕ). t.1 < a + length layer) (tagged_pieces cut a layer)
+features_fit cut a [] = λ k d lt. absurd (omega arith)
+features_fit cut a (r ∷ rs) = All-append (λ (t : Edge × ℕ). t.1 < a + suc (length rs)) (tagged_by a (flat_map cut (segments r))) (tagged_pieces cut (a + 1) rs) (own (flat_map cut (segments r))) (λ k d lt. omega (arith, features_fit cut (a + 1) rs k d lt))
+  where
+    own : (es : List Edge) → All (λ (t : Edge × ℕ). t.1 < a + suc (length rs)) (tagged_by a es)
+    own [] = λ k d lt. absurd (omega arith)
+    own (e ∷ es) = All-cons (λ (t : Edge × ℕ). t.1 < a + suc (length rs)) (e, a) (tagged_by a es) (omega arith) (own es)
 
 -- ---- sorted by the edges
 -- the edges are in order
@@ -69,7 +76,7 @@ features_stay xs ys stable e = ap (map (λ (t : Edge × ℕ). t.1)) (sym (agree 
     agree zs = filter_agree _ _ (λ t. tie_is edges_by_before same_edge same_edge_decides e t.0) zs
 
 -- the edges of a layer
-pub edges_stay : (layer : List Rings) (ys : List (Edge × ℕ)) → IsPermutation (tagged_from 0 layer) ys → sorted_set edge_before (segments_in ys) ≡ pieces_of whole layer
-edges_stay layer ys moved =
-    same-sorted_set edges_by_before (segments_in ys) (segments_in (tagged_from 0 layer)) (λ p. sym (list_any-IsPermutation p (segments_in (tagged_from 0 layer)) (segments_in ys) (IsPermutation-map (λ (t : Edge × ℕ). t.0) (tagged_from 0 layer) ys moved)))
-    ∙ (ap (sorted_set edge_before) (segments_in-tagged 0 layer) ∙ pieces_of-whole layer)
+pub edges_stay : (cut : Edge → List Edge) (layer : List Rings) (ys : List (Edge × ℕ)) → IsPermutation (tagged_pieces cut 0 layer) ys → sorted_set edge_before (segments_in ys) ≡ pieces_of cut layer
+edges_stay cut layer ys moved =
+    same-sorted_set edges_by_before (segments_in ys) (segments_in (tagged_pieces cut 0 layer)) (λ p. sym (list_any-IsPermutation p (segments_in (tagged_pieces cut 0 layer)) (segments_in ys) (IsPermutation-map (λ (t : Edge × ℕ). t.0) (tagged_pieces cut 0 layer) ys moved)))
+    ∙ ap (sorted_set edge_before) (segments_in-pieces cut 0 layer)

@@ -1,4 +1,4 @@
--- Segments with the numbers of their features. The words: `tagged_by`, `tagged_from`, `segments_in`, `features_of`, `with_mark`, `marks_of`.
+-- Segments with the numbers of their features. The words: `tagged_by`, `tagged_from`, `tagged_pieces`, `segments_in`, `features_of`, `with_mark`, `marks_of`.
 use Rattle.std.specs.Prelude.{ℕ, ◌==◌, not, true, List, [], ◌∷◌, map, filter, if◌then◌else◌}
 use Rattle.std.specs.List.{flat_map, enumerate_from}
 use Rattle.loc_spec_plane.specs.declared.Mark.{Mark}
@@ -12,6 +12,10 @@ tagged_by feature ss = map (λ s. (s, feature)) ss
 -- those of all features, of which the first has this number
 abbrev pub tagged_from : ℕ → List Rings → List (Edge × ℕ)
 tagged_from first layer = flat_map (λ (numbered : ℕ × Rings). tagged_by numbered.0 (segments numbered.1)) (enumerate_from first layer)
+
+-- the pieces into which those segments are cut
+abbrev pub tagged_pieces : (Edge → List Edge) → ℕ → List Rings → List (Edge × ℕ)
+tagged_pieces cut first layer = flat_map (λ (numbered : ℕ × Rings). tagged_by numbered.0 (flat_map cut (segments numbered.1))) (enumerate_from first layer)
 
 -- the segments alone
 abbrev pub segments_in : List (Edge × ℕ) → List Edge

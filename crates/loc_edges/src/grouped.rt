@@ -10,22 +10,6 @@ use crate::rows::Rows;
 use loc_geom::Edge;
 use std::alloc::{AllocError, Global};
 
-// The edges of segments in order, each once.
-pub(crate) fn distinct_edges(
-    alloc: Global,
-    tagged: &[(Edge, usize)],
-) -> Result<Vec<Edge>, AllocError>
-    requires in_order { IsSortedBy edge_before (segments_in tagged.now) }
-    ensures { IfOk result (λ edges. edges.items ≡ sorted_set edge_before (segments_in tagged.now)) }
-{
-    let mut edges = Vec::new(alloc);
-    for segment in tagged {
-        edges.push(segment.0)?;
-    }
-    edges.dedup();
-    Ok(edges)
-}
-
 // Whether the segment at place n is another edge than the one before it.
 fn is_new(tagged: &[(Edge, usize)], n: usize) -> bool
     requires in_range { n < length tagged.now }
@@ -33,6 +17,21 @@ fn is_new(tagged: &[(Edge, usize)], n: usize) -> bool
     ensures later { 0 < n → (d : EdgeOf × ℕ) → result ≡ not (same_edge (slice_index_or tagged.now n d).0 (slice_index_or tagged.now (n - 1) d).0) }
 {
     n == 0 || tagged[n].0 != tagged[n - 1].0
+}
+
+/// The edges of segments in order, each once.
+pub fn distinct_edges(alloc: Global, tagged: &[(Edge, usize)]) -> Result<Vec<Edge>, AllocError>
+    requires in_order { IsSortedBy edge_before (segments_in tagged.now) }
+    ensures { IfOk result (λ edges. edges.items ≡ sorted_set edge_before (segments_in tagged.now)) }
+{
+    let mut edges = Vec::new(alloc);
+    for n in 0..tagged.len() {
+        if is_new(tagged, n) {
+            edges.push(tagged[n].0)?;
+        }
+    }
+    edges.shrink_to_fit();
+    Ok(edges)
 }
 
 // For each edge in order, the features of the segments that are the edge.

@@ -15,9 +15,12 @@ mod tables;
 mod views;
 
 pub use floors::Floors;
+pub use grouped::distinct_edges;
 pub use loc_spec_plane::Mark;
 pub use ranks::{Placing, Ranks};
 pub use rows::Rows;
+pub use segments::tagged_segments;
+pub use sorted::by_edge;
 pub use table::EdgeTable;
 pub use tables::{corners_between, edges};
 pub use views::Views;

@@ -1,7 +1,7 @@
 // Points and segments in order.
 
 ghost use Rattle.std.specs.Prelude.{◌≡◌, ◌<◌, ℕ, length, All, IfOk};
-ghost use Rattle.std.specs.List.Sorted.{IsSortedBy};
+ghost use Rattle.std.specs.List.Sorted.{IsPermutation, IsSortedBy};
 ghost use Rattle.loc_spec_plane.specs.Points.{Edge as EdgeOf, before, edge_before};
 ghost use Rattle.loc_spec_plane.specs.Lists.{sorted_set};
 ghost use Rattle.loc_spec_plane.specs.Tables.{pieces_of, whole};
@@ -20,7 +20,18 @@ pub(crate) fn sorted_points(mut points: Vec<Point>) -> Vec<Point>
 {
     points.sort_unstable();
     points.dedup();
+    points.shrink_to_fit();
     points
+}
+
+/// Segments in order, those of an edge in the order in which they stood.
+pub fn by_edge(mut tagged: Vec<(Edge, usize)>) -> Result<Vec<(Edge, usize)>, AllocError>
+    ensures moved { IfOk result (λ sorted. IsPermutation tagged.items sorted.items) }
+    ensures in_order { IfOk result (λ sorted. IsSortedBy edge_before (segments_in sorted.items)) }
+    ensures features { IfOk result (λ sorted. (e : EdgeOf) → features_of sorted.items e ≡ features_of tagged.items e) }
+{
+    tagged.sort_by_key(|segment| segment.0)?;
+    Ok(tagged)
 }
 
 // The segments of all features in order, those of an edge in the order of their features.
@@ -34,7 +45,5 @@ pub(crate) fn sorted_segments(
     ensures edges { IfOk result (λ tagged. sorted_set edge_before (segments_in tagged.items) ≡ pieces_of whole (layer_rings features.now)) }
     ensures features { IfOk result (λ tagged. (e : EdgeOf) → features_of tagged.items e ≡ features_of (tagged_from 0 (layer_rings features.now)) e) }
 {
-    let mut tagged = tagged_segments(alloc, features)?;
-    tagged.sort_by_key(|segment| segment.0)?;
-    Ok(tagged)
+    by_edge(tagged_segments(alloc, features)?)
 }

@@ -1,14 +1,14 @@
 // The table of a layer: its corners, its edges and their marks, by number.
 
-ghost use Rattle.std.specs.Prelude.{◌≡◌, ℕ, ◌<◌, ◌≤◌, ◌^◌, ◌==◌, [], IsTrue, Some, All, filter, get_or, length, slice_get, IfOk};
+ghost use Rattle.std.specs.Prelude.{◌≡◌, ℕ, ◌<◌, ◌≤◌, ◌^◌, ◌==◌, [], List, IsTrue, Some, All, filter, get_or, length, slice_get, IfOk};
 ghost use Rattle.loc_spec_plane.specs.Lists.{is_rising};
-ghost use Rattle.loc_spec_plane.specs.Points.{Point as PointOf, before};
+ghost use Rattle.loc_spec_plane.specs.Points.{Point as PointOf, Edge as EdgeOf, before};
 ghost use Rattle.loc_spec_plane.specs.Covers.{feature_count};
-ghost use Rattle.loc_spec_plane.specs.Rings.{touches, covers};
-ghost use Rattle.loc_spec_plane.specs.Tables.{IsTable, AllEnds, AllEven, table_of, corner as corner_of, edge as edge_of, lo_of, hi_of, edge_numbers, mark_before, pair_before, touches_by_marks, covers_by_marks};
+ghost use Rattle.loc_spec_plane.specs.Rings.{Rings, touches, covers};
+ghost use Rattle.loc_spec_plane.specs.Tables.{IsTable, AllEnds, AllEven, table_by, table_of, corner as corner_of, edge as edge_of, lo_of, hi_of, edge_numbers, mark_before, pair_before, touches_by_marks, covers_by_marks};
 ghost use Rattle.loc_edges.specs.Ending.{IsBeginning};
 ghost use Rattle.loc_edges.specs.Kept.{AreEdges};
-ghost use Rattle.loc_edges.specs.Layers.{layer_rings};
+ghost use Rattle.loc_edges.specs.Layers.{AreOfLayer, layer_rings};
 ghost use Rattle.loc_edges.specs.Parts.{GoesUpBelow, edge_mark_before, table_of_parts, table_with};
 ghost use Rattle.loc_edges.specs.Small.{IsSmallTable};
 
@@ -64,6 +64,22 @@ impl EdgeTable {
         let tagged = sorted_segments(alloc, features)?;
         let edges = distinct_edges(alloc, &tagged)?;
         let corners = corners_between(alloc, &edges)?;
+        EdgeTable::of_tagged(alloc, corners, edges, tagged)
+    }
+
+    /// The table of a layer whose segments are cut, from its corners, its edges, and the pieces in order, each with the number of its feature.
+    pub fn of_tagged(
+        alloc: Global,
+        corners: Vec<Point>,
+        edges: Vec<Edge>,
+        tagged: Vec<(Edge, usize)>,
+    ) -> Result<EdgeTable, AllocError>
+        requires of_layer { (cut : EdgeOf → List EdgeOf) × ((layer : List Rings) × AreOfLayer cut layer corners.items edges.items tagged.items) }
+        requires few_corners { length corners.items ≤ 2 ^ 20 }
+        requires few_edges { length edges.items ≤ 2 ^ 21 }
+        requires few_features { All (λ (t : EdgeOf × ℕ). t.1 < 2 ^ 20) tagged.items }
+        ensures { IfOk result (λ table. (cut : EdgeOf → List EdgeOf) (layer : List Rings) → AreOfLayer cut layer corners.items edges.items tagged.items → table ≡ table_by cut layer) }
+    {
         let ends = numbered_ends(alloc, &corners, &edges)?;
         let marks = edge_marks(alloc, tagged)?;
         EdgeTable::assemble(alloc, corners, edges, ends, marks)

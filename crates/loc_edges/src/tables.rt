@@ -1,11 +1,13 @@
 // The corners and the edges of a layer.
 
-ghost use Rattle.std.specs.Prelude.{◌≡◌, List, IsTrue, IfOk};
-ghost use Rattle.loc_spec_plane.specs.Points.{before, edge_before};
+ghost use Rattle.std.specs.Prelude.{◌≡◌, ◌<◌, ◌-◌, Bool, true, List, IsTrue, IfOk, length, slice_index_or};
+ghost use Rattle.std.specs.List.{list_any};
+ghost use Rattle.loc_spec_plane.specs.Points.{Point as PointOf, Edge as EdgeOf, before, edge_before};
 ghost use Rattle.loc_spec_plane.specs.Lists.{is_rising, sorted_set};
 ghost use Rattle.loc_spec_plane.specs.Rings.{Rings};
 ghost use Rattle.loc_spec_plane.specs.Tables.{layer_corners, pieces_of, whole};
-ghost use Rattle.loc_edges.specs.Layers.{layer_rings, ends_of};
+ghost use Rattle.loc_laws_noding.specs.Laws.{ends_of};
+ghost use Rattle.loc_edges.specs.Layers.{layer_rings};
 
 use crate::grouped::distinct_edges;
 use crate::sorted::{sorted_points, sorted_segments};
@@ -13,13 +15,24 @@ use loc_geom::{Edge, Point};
 use loc_rings::Feature;
 use std::alloc::{AllocError, Global};
 
-// The ends of the edges.
+// Whether the edge at place n begins where the one before it does.
+fn begins_again(edges: &[Edge], n: usize) -> bool
+    requires in_range { n < length edges.now }
+    ensures { result ≡ true → (0 < n) × ((d : EdgeOf) → (slice_index_or edges.now n d).lo ≡ (slice_index_or edges.now (n - 1) d).lo) }
+{
+    n > 0 && edges[n].lo() == edges[n - 1].lo()
+}
+
+// The ends of the edges, but for lower ends that stand there already.
 fn ends(alloc: Global, edges: &[Edge]) -> Result<Vec<Point>, AllocError>
-    ensures { IfOk result (λ points. points.items ≡ ends_of edges.now) }
+    ensures { IfOk result (λ points. (test : PointOf → Bool) → list_any test points.items ≡ list_any test (ends_of edges.now)) }
 {
     let mut points = Vec::new(alloc);
-    for edge in edges {
-        points.push(edge.lo())?;
+    for n in 0..edges.len() {
+        let edge = edges[n];
+        if !begins_again(edges, n) {
+            points.push(edge.lo())?;
+        }
         points.push(edge.hi())?;
     }
     Ok(points)

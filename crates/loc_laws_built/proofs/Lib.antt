@@ -1,5 +1,4 @@
 pub mod Counted
-mod Marked
 mod Named
 pub mod Spelled
 pub mod True

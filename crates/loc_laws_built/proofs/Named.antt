@@ -11,7 +11,7 @@ use Rattle.loc_spec_plane.specs.Covers.{cover_above, list_before}
 use Rattle.loc_spec_plane.specs.Lists.{is_in, is_rising}
 use Rattle.loc_spec_plane.specs.Tables.{Table, edge_numbers}
 use Rattle.loc_laws_order.proofs.TableOrder.{rises}
-use Rattle.loc_edges.proofs.SortedSet.{any-sorted_set, irrefl}
+use Rattle.loc_laws_noding.proofs.SortedSet.{any-sorted_set, irrefl}
 use Rattle.loc_cover.specs.Legends.{LegendRows, IsSound, IsTrueLegend}
 use Rattle.loc_cover.specs.Numbered.{covers_of}
 use Rattle.loc_cover.proofs.Lexicographic.{lists_by_before}

@@ -5,7 +5,7 @@ use Rattle.std.proofs.lemmas.Bool.{both_ways, ltb-true, not_from_false, not-true
 use Rattle.std.proofs.lemmas.List.Sums.{length-filter}
 use Rattle.std.proofs.lemmas.Option.{get_or_from_slice_get, slice_get-get_or}
 use Rattle.loc_spec_plane.specs.Rings.{Rings}
-use Rattle.loc_spec_plane.specs.Tables.{Table, IsTable, AllEnds, AllEven, NoConflict, corner, edge_numbers, table_of}
+use Rattle.loc_spec_plane.specs.Tables.{Table, IsTable, AllEnds, AllEven, NoConflict, corner, edge_numbers, table_of, whole}
 use Rattle.loc_spec_plane.specs.Places.{IsFloor, IsVersion, alive_at}
 use Rattle.loc_spec_plane.specs.Covers.{cover_above}
 use Rattle.loc_spec_plane.specs.Lists.{is_in}
@@ -21,8 +21,8 @@ use Rattle.loc_cover.specs.Legends.{LegendRows}
 use Rattle.loc_write.specs.Written.{HoldsParts, IsContentOf}
 use Rattle.loc_laws_index.proofs.FlawKinds.{as_many, as_many_corners}
 use Rattle.loc_laws_index.proofs.OwnSources.{on_source}
+use Rattle.loc_laws_noding.proofs.Counted.{every_marked}
 use Rattle.loc_laws_built.specs.Built.{ContentIsTrue, IsPlaneOf}
-use Rattle.loc_laws_built.proofs.Marked.{every_marked}
 use Rattle.loc_laws_built.proofs.Named.{every_named}
 
 -- what is not too long for some edges is not for more
@@ -78,7 +78,7 @@ module _ (scale : ℕ) (layer : List Rings) (rows : LegendRows) (m : VersionsMea
   is_true : IsTrueIndex c
   is_true = record {
     ended = subst AllEnds (sym holds.table) p.ended;
-    marked = λ e lt. subst (λ (u : Table). get_or u.marks e [] ≢ []) (sym holds.table) (every_marked layer e (within e lt));
+    marked = λ e lt. subst (λ (u : Table). get_or u.marks e [] ≢ []) (sym holds.table) (every_marked whole layer e (within e lt));
     even = subst AllEven (sym holds.table) p.even;
     apart = subst NoConflict (sym holds.table) p.apart;
     floors = λ n lt. subst (λ (u : Table). IsFloor u (corner u n) (floor_of_corner c n)) (sym holds.table)

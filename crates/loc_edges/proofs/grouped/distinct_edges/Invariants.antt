@@ -1,7 +1,9 @@
 use Rattle.std.proofs.Common.{◌≡◌, take}
+use Rattle.std.specs.List.{dedup}
+use Rattle.loc_spec_plane.specs.Points.{same_edge}
 use Rattle.loc_edges.specs.Tagged.{segments_in}
 use Rattle.loc_edges.proofs.grouped.distinct_edges.Given as goal
 
--- the segments before stand there
-abbrev pub invariant-loop-segment : goal.invariant-loop-segment
-invariant-loop-segment l = l.edges.items ≡ segments_in (take l.segment-index l.tagged)
+-- the edges of the segments before stand there, each once
+abbrev pub invariant-loop-n : goal.invariant-loop-n
+invariant-loop-n l = l.edges.items ≡ dedup same_edge (segments_in (take l.n l.tagged))

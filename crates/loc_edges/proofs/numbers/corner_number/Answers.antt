@@ -1,6 +1,6 @@
 use Rattle.loc_spec_plane.specs.Points.{same_point}
 use Rattle.loc_laws_order.proofs.Tests.{same_point_decides}
-use Rattle.loc_edges.proofs.Orders.{points_by_before}
+use Rattle.loc_laws_noding.proofs.Orders.{points_by_before}
 use Rattle.loc_edges.proofs.Places.{place_if_found, place_if_not}
 use Rattle.loc_edges.proofs.numbers.corner_number.Goals as goal
 

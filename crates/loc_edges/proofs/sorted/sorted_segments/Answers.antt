@@ -1,24 +1,28 @@
-use Rattle.std.proofs.Common.{ℕ, ◌+◌, ◌<◌, length, sym, ◌∙◌, ap, subst, arith, rules}
+use Rattle.std.proofs.Common.{ℕ, ◌≡◌, ◌+◌, ◌<◌, length, sym, ◌∙◌, ap, subst, arith}
 use Rattle.std.specs.Prelude.{All}
 use Rattle.std.specs.List.Sorted.{IsPermutation}
 use Rattle.std.proofs.lemmas.List.{length-map}
-use Rattle.std.proofs.lemmas.List.Sorted.{All-permutation, answers_always}
-use Rattle.loc_spec_plane.specs.Points.{Edge}
+use Rattle.std.proofs.lemmas.List.Sorted.{All-permutation}
+use Rattle.std.proofs.lemmas.Result.{IfOk-weaker}
+use Rattle.loc_spec_plane.specs.Points.{Edge, edge_before}
+use Rattle.loc_spec_plane.specs.Lists.{sorted_set}
+use Rattle.loc_spec_plane.specs.Tables.{pieces_of, whole}
 use Rattle.loc_rings.specs.Values.{rings_of}
 use Rattle.loc_edges.specs.Layers.{layer_rings}
-use Rattle.loc_edges.specs.Tagged.{features_of}
-use Rattle.loc_edges.proofs.Tagged.{edges_stay, features_fit, features_stay, in_order}
+use Rattle.loc_edges.specs.Tagged.{features_of, segments_in, tagged_from}
+use Rattle.loc_edges.proofs.Tagged.{edges_stay, features_fit, tagged_pieces-whole}
 use Rattle.loc_edges.proofs.sorted.sorted_segments.Goals as goal
 
 pub returns-clause-few : goal.returns-clause-few
-returns-clause-few c = All-permutation (λ (t : Edge × ℕ). t.1 < length c.args.features.now) _ _ c.in_ok-sort_by_key.ensures.permutation (λ k d lt.
-    omega (arith, subst (All (λ (t : Edge × ℕ). t.1 < 0 + length (layer_rings c.args.features.now))) (sym c.in_ok-tagged.ensures.value) (features_fit 0 (layer_rings c.args.features.now)) k d lt, length-map c.args.features.now rings_of))
-
-pub returns-clause-in_order : goal.returns-clause-in_order
-returns-clause-in_order c = in_order _ (c.in_ok-sort_by_key.ensures.sorted (λ t. t.0) (answers_always _ _ _ (λ f a r g h. search rules)))
+returns-clause-few c =
+    let features = c.args.features.now in
+    let fits : All (λ (t : Edge × ℕ). t.1 < length c.args.features.now) c.in_ok-tagged_segments.field-0.items = λ k d lt. omega (arith, subst (All (λ (t : Edge × ℕ). t.1 < 0 + length (layer_rings c.args.features.now))) (sym c.in_ok-tagged_segments.ensures.value) (subst (All (λ (t : Edge × ℕ). t.1 < 0 + length (layer_rings c.args.features.now))) (sym (tagged_pieces-whole 0 (layer_rings features))) (features_fit whole 0 (layer_rings features))) k d lt, length-map features rings_of) in
+    IfOk-weaker c.by_edge.result _ (λ tagged. All (λ (t : Edge × ℕ). t.1 < length c.args.features.now) tagged.items) (λ tagged moved. All-permutation (λ (t : Edge × ℕ). t.1 < length c.args.features.now) _ tagged.items moved fits) c.by_edge.ensures.moved
 
 pub returns-clause-edges : goal.returns-clause-edges
-returns-clause-edges c = edges_stay (layer_rings c.args.features.now) _ (subst (λ ts. IsPermutation ts c.sort_by_key.new.self.items) c.in_ok-tagged.ensures.value c.in_ok-sort_by_key.ensures.permutation)
+returns-clause-edges c =
+    let layer = layer_rings c.args.features.now in
+    IfOk-weaker c.by_edge.result _ (λ tagged. sorted_set edge_before (segments_in tagged.items) ≡ pieces_of whole layer) (λ tagged moved. edges_stay whole layer tagged.items (subst (λ ts. IsPermutation ts tagged.items) (c.in_ok-tagged_segments.ensures.value ∙ tagged_pieces-whole 0 layer) moved)) c.by_edge.ensures.moved
 
 pub returns-clause-features : goal.returns-clause-features
-returns-clause-features c = λ e. features_stay _ _ (c.in_ok-sort_by_key.ensures.stable (λ t. t.0) (answers_always _ _ _ (λ f a r g h. search rules))) e ∙ ap (λ ts. features_of ts e) c.in_ok-tagged.ensures.value
+returns-clause-features c = IfOk-weaker c.by_edge.result _ (λ tagged. (e : Edge) → features_of tagged.items e ≡ features_of (tagged_from 0 (layer_rings c.args.features.now)) e) (λ tagged stay e. stay e ∙ ap (λ ts. features_of ts e) c.in_ok-tagged_segments.ensures.value) c.by_edge.ensures.features

@@ -6,7 +6,7 @@ use Rattle.loc_spec_plane.specs.Lists.{is_rising, sorted_set}
 use Rattle.loc_spec_plane.specs.Tables.{pieces_of, whole}
 use Rattle.loc_edges.specs.Layers.{layer_rings}
 use Rattle.loc_edges.specs.Tagged.{segments_in}
-use Rattle.loc_edges.proofs.Layers.{pieces_rise}
+use Rattle.loc_laws_noding.proofs.Tables.{pieces_rise}
 use Rattle.loc_edges.proofs.tables.edges.Goals as goal
 
 pub returns : goal.returns
@@ -15,5 +15,5 @@ returns c =
     let value = ap (λ ts. sorted_set edge_before (segments_in ts)) c.deref.ensures.value ∙ c.in_ok-tagged.ensures.edges in
     record {
       value = IfOk-weaker c.distinct_edges.result _ (λ edges. edges.items ≡ pieces_of whole layer) (λ edges are. are ∙ value) c.distinct_edges.ensures;
-      rise = IfOk-weaker c.distinct_edges.result _ (λ edges. IsTrue (is_rising edge_before edges.items)) (λ edges are. ap (is_rising edge_before) (are ∙ value) ∙ pieces_rise layer) c.distinct_edges.ensures;
+      rise = IfOk-weaker c.distinct_edges.result _ (λ edges. IsTrue (is_rising edge_before edges.items)) (λ edges are. ap (is_rising edge_before) (are ∙ value) ∙ pieces_rise whole layer) c.distinct_edges.ensures;
     }

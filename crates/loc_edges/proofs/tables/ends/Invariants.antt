@@ -1,7 +1,9 @@
-use Rattle.std.proofs.Common.{◌≡◌, take}
-use Rattle.loc_edges.specs.Layers.{ends_of}
+use Rattle.std.proofs.Common.{◌≡◌, Bool, take}
+use Rattle.std.specs.List.{list_any}
+use Rattle.loc_spec_plane.specs.Points.{Point}
+use Rattle.loc_laws_noding.specs.Laws.{ends_of}
 use Rattle.loc_edges.proofs.tables.ends.Given as goal
 
--- the ends of the edges before have been put there
-abbrev pub invariant-loop-edge : goal.invariant-loop-edge
-invariant-loop-edge l = l.points.items ≡ ends_of (take l.edge-index l.edges)
+-- the ends of the edges before stand there
+abbrev pub invariant-loop-n : goal.invariant-loop-n
+invariant-loop-n l = (test : Point → Bool) → list_any test l.points.items ≡ list_any test (ends_of (take l.n l.edges))

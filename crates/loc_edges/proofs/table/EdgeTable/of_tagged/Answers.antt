@@ -1,0 +1,43 @@
+use Rattle.std.proofs.Common.{◌≡◌, List, sym, ◌∙◌, ap, subst}
+use Rattle.std.proofs.lemmas.Result.{IfOk-weaker}
+use Rattle.loc_spec_plane.specs.Points.{Edge, before}
+use Rattle.loc_spec_plane.specs.Lists.{is_rising}
+use Rattle.loc_spec_plane.specs.Rings.{Rings}
+use Rattle.loc_spec_plane.specs.Tables.{IsTable, pieces_of, table_by}
+use Rattle.loc_laws_noding.proofs.Layers.{corners_rise}
+use Rattle.loc_laws_noding.proofs.Tables.{is_table}
+use Rattle.loc_edges.specs.Kept.{AreEdges}
+use Rattle.loc_edges.specs.Layers.{AreOfLayer}
+use Rattle.loc_edges.specs.Parts.{table_with}
+use Rattle.loc_edges.specs.Small.{IsSmallTable}
+use Rattle.loc_edges.proofs.Ordered.{table_is, table_is-edges, table_is-small}
+use Rattle.loc_edges.proofs.table.EdgeTable.of_tagged.Goals as goal
+use Rattle.loc_edges.proofs.table.EdgeTable.of_tagged.Goals.{In_ok-marks}
+
+pub numbered_ends-requires-clause-in_order : goal.numbered_ends-requires-clause-in_order
+numbered_ends-requires-clause-in_order c = ap (is_rising before) (c.deref.ensures.value ∙ c.requires.of_layer.1.1.corners_are) ∙ corners_rise c.requires.of_layer.1.0
+
+-- what is made
+made : (c : In_ok-marks) → table_with c.args.corners.items c.in_ok-ends.ends.items c.in_ok-marks.marks ≡ table_by c.requires.of_layer.0 c.requires.of_layer.1.0
+made c = table_is c.requires.of_layer.0 c.requires.of_layer.1.0 c.args.corners.items _ c.args.edges.items _ c.args.tagged.items _ _ c.requires.of_layer.1.1 c.deref.ensures.value c.deref-2.ensures.value c.in_ok-ends.ensures c.in_ok-marks.ensures
+
+pub edge_marks-requires-clause-in_order : goal.edge_marks-requires-clause-in_order
+edge_marks-requires-clause-in_order c = c.requires.of_layer.1.1.in_order
+
+pub assemble-requires-clause-in_order : goal.assemble-requires-clause-in_order
+assemble-requires-clause-in_order c =
+    let of = c.requires.of_layer in
+    subst IsTable (sym (made c)) (is_table of.0 of.1.0 of.1.1.is_cutting)
+
+pub assemble-requires-clause-small : goal.assemble-requires-clause-small
+assemble-requires-clause-small c =
+    let of = c.requires.of_layer in
+    subst IsSmallTable (sym (made c)) (table_is-small of.0 of.1.0 c.args.corners.items c.args.edges.items of.1.1.corners_are of.1.1.edges_are c.requires.few_corners c.requires.few_edges)
+
+pub assemble-requires-clause-edges : goal.assemble-requires-clause-edges
+assemble-requires-clause-edges c =
+    let of = c.requires.of_layer in
+    subst (AreEdges _) (sym of.1.1.edges_are) (subst (λ t. AreEdges t (pieces_of of.0 of.1.0)) (sym (made c)) (table_is-edges of.0 of.1.0 of.1.1.is_cutting))
+
+pub returns : goal.returns
+returns c = IfOk-weaker c.assemble.result _ (λ t. (cut : Edge → List Edge) (layer : List Rings) → AreOfLayer cut layer c.args.corners.items c.args.edges.items c.args.tagged.items → t ≡ table_by cut layer) (λ t is cut layer h. is ∙ table_is cut layer c.args.corners.items _ c.args.edges.items _ c.args.tagged.items _ _ h c.deref.ensures.value c.deref-2.ensures.value c.in_ok-ends.ensures c.in_ok-marks.ensures) c.assemble.ensures

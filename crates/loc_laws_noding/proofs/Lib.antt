@@ -1,0 +1,14 @@
+pub mod Chains
+pub mod Counted
+pub mod Counting
+pub mod Layers
+pub mod Lines
+pub mod Marks
+pub mod Noded
+pub mod Numbers
+pub mod Orders
+pub mod Pieces
+pub mod RowsNoding
+pub mod Search
+pub mod SortedSet
+pub mod Tables

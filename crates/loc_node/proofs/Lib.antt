@@ -1,0 +1,4 @@
+pub mod Cutting
+pub mod Neighbours
+pub mod Refusals
+pub mod Skipping
