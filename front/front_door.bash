@@ -285,7 +285,7 @@ explain_read() {
             echo "$name: $file: $why"
             return
         fi
-    done < <(files_read "$@")
+    done <<<"$(files_read "$@")"
     echo "$name: each file is there; one changed while it was read, or its disk failed"
 }
 
@@ -304,11 +304,9 @@ explain_write() {
     fi
 }
 
-# A run of over two seconds says how far it is. The process $1 is the shell whose child is the program; the rest are the words.
+# A run of over two seconds says how far it is. The process $1 is the shell whose child is the program, $2 the command.
 tell_progress() {
-    local parent=$1 command=$2 pid= child link at size file got doing shown=0
-    local -a files
-    mapfile -t files < <(files_read "${@:2}")
+    local parent=$1 command=$2 pid='' child doing shown=0
     sleep 2
     while kill -0 "$parent" 2>/dev/null; do
         if [[ -z $pid ]]; then
@@ -342,7 +340,7 @@ open_file_of() {
 # What the process $1 is at, behind the number of its stage. $2 is the number of the stage before: a stage never goes back.
 stage_of() {
     local stage=$2 at size file written
-    read -r at size file < <(open_file_of "$1")
+    read -r at size file <<<"$(open_file_of "$1")"
     written=$(sed -n 's/^wchar: //p' "/proc/$1/io" 2>/dev/null)
     if ((${written:-0} > 0)) || [[ $stage -ge 3 ]]; then
         stage=3
@@ -366,7 +364,7 @@ megabytes() { echo "$(($1 / 1000000)).$(($1 / 100000 % 10))"; }
 run_program() {
     local monitor=
     if [[ -t 2 ]]; then
-        tell_progress "$$" "$@" >&2 &
+        tell_progress "$$" "${1-}" >&2 </dev/null &
         monitor=$!
         # shellcheck disable=SC2064
         trap "kill $monitor 2>/dev/null" EXIT
@@ -405,7 +403,7 @@ front_door() {
     answers_help "$@" && exit 0
     take_words "$@"
     # with standard output closed there is nothing to hand on: the program itself says how that ends
-    { true >&1; } 2>/dev/null || exec "$program" "${words[@]}"
+    { true 3>&1; } 2>/dev/null || exec "$program" "${words[@]}"
     run_program "${words[@]}"
     case $status in
         2) explain_words "$said" "$@" >&2 ;;

@@ -58,15 +58,23 @@ recorded() { sed -n "s/^$1 //p" "$sum_of_handed_out" 2>/dev/null; }
 
 sum_of_file() { sha256sum -- "$1" | cut -d ' ' -f 1; }
 
-# Nothing under $2.. is newer than the file $1. What a build leaves in out/ is not looked at.
+# The folders of the crates that are named $1.., a line each: src, specs or proofs.
+folders_of_crates() {
+    local name
+    for name; do
+        find "$top/crates" -mindepth 2 -maxdepth 2 -name "$name"
+    done
+}
+
+# Nothing under the folders that are read from standard input, and not crates.txt, is newer than the file $1.
 is_newer_than() {
-    local file=$1
-    shift
-    [[ -f $file && -z $(cd "$top" && find "$@" -name out -prune -o -newer "$file" -print -quit) ]]
+    local -a folders
+    mapfile -t folders
+    [[ -f $1 && -z $(find "${folders[@]}" "$top/crates.txt" -newer "$1" -print -quit) ]]
 }
 
 # An earlier call or a gate built the program from the sources as they are.
-is_built() { [[ -x $built ]] && is_newer_than "$built" crates/*/src crates/*/specs crates/*/proofs crates.txt; }
+is_built() { [[ -x $built ]] && folders_of_crates src specs proofs | is_newer_than "$built"; }
 
 # The program of dist/ was made from the sources as they are, by the kit of this machine.
 is_of_these_sources() {
@@ -75,7 +83,7 @@ is_of_these_sources() {
 
 # The same, from a stamp if an earlier call left one.
 is_handed_out() {
-    is_newer_than "$stamp" crates/*/src crates.txt dist && return
+    [[ -f $stamp ]] && { folders_of_crates src && echo "$top/dist"; } | is_newer_than "$stamp" && return
     is_of_these_sources || return
     mkdir -p "${stamp%/*}" 2>/dev/null && touch "$stamp" 2>/dev/null
     return 0

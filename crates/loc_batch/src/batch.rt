@@ -77,6 +77,17 @@ impl Stream {
         self.closed = true;
     }
 
+    // A result of the end: where it is Ok, no further call is to come.
+    fn closed_by(&mut self, given: Result<(), FeedFault>) -> Result<(), FeedFault>
+        ensures same { result ≡ given }
+        ensures closed { OnOk given (self.new ≡ record self.old { closed = true }) }
+        ensures unclosed { OnErr given (self.new ≡ self.old) }
+    {
+        given?;
+        self.closed = true;
+        Ok(())
+    }
+
     // A result, which is noted where it is a fault.
     fn noted(&mut self, given: Result<(), FeedFault>) -> Result<(), FeedFault>
         ensures same { result ≡ given }
@@ -178,10 +189,10 @@ impl Stream {
         if let Some(fault) = self.fault {
             return Err(fault);
         }
-        let result = self
+        let given = self
             .desk
             .write_last(self.scale, index, views, legend, faces, sink, steps);
-        self.closed = true;
+        let result = self.closed_by(given);
         self.noted(result)
     }
 }

@@ -1,11 +1,11 @@
 -- The names, the files and the steps along a course.
-use Rattle.std.proofs.Common.{◌≡◌, ◌≢◌, ℕ, ◌+◌, ◌≤◌, [], ◌∷◌, ◌++◌, length, Option, Some, None, refl, sym, ◌∙◌, subst, ap, inl, arith, append_assoc, append-nil}
+use Rattle.std.proofs.Common.{◌≡◌, ◌≢◌, ℕ, ◌+◌, ◌≤◌, [], ◌∷◌, ◌++◌, length, Bool, true, Option, Some, None, refl, sym, ◌∙◌, subst, ap, inl, arith, append_assoc, append-nil}
 use Rattle.std.proofs.Math.Path.{fun_ext}
 use Rattle.loc_spec_text.specs.Bytes.{Text}
 use Rattle.loc_io.specs.Entries.{Entries}
 use Rattle.loc_io.specs.Meaning.{KeepsFiles, Told, untold, absent, holds}
 use Rattle.loc_course.specs.Courses.{Source, Course, Stopped, refused, unread, unwritten, no_memory}
-use Rattle.loc_course.specs.Following.{FileWritesAreCounted, Moment, IsToldAtMost, Follows, lacks, refuses_by, reads_not, reads_by, searches_by, answers_by, writes_by, makes_by}
+use Rattle.loc_course.specs.Following.{FileWritesAreCounted, OverSo, Moment, IsToldAtMost, Follows, lacks, refuses_by, reads_not, reads_by, searches_by, answers_by, writes_by, makes_by}
 use Rattle.loc_course.specs.Moments.{IsToldText}
 use Rattle.loc_course.specs.Streams.{Answering, AnswersTo}
 use Rattle.loc_course.specs.Sentences.{status_of, HasLength, AreWhole, Hands, hands_none, hands_last, hands_on, hands_answered, hands_searched, Names, MayMake, MakesNone, Files, WithinSteps, SearchesNothing, Counts, InTimes}
@@ -107,8 +107,24 @@ kept (answers_by done) zero four name = done.files name
 kept (writes_by text out is w) zero four name = refl
 kept (makes_by {m = m} {came = came} text shelf is made) zero four name = absurd (unmade came m.shelf.write_faults shelf.write_faults made.counts zero four)
 
+-- a file that is still being made was not made to its end
+still_making : (stop : Option Stopped) (is_making : Bool) → OverSo is_making stop → status_of stop ≡ 0 → is_making ≡ true → ⊥
+still_making None is_making over zero making = cc (sym over ∙ making)
+still_making (Some stop) is_making over zero making = not_done stop zero
+
+-- where the command was done, no file is being made that was not before
+finished : {c : Course} {m n : Moment} {end : Option Stopped} → Follows c m n end → status_of end ≡ 0 → n.shelf.is_making ≡ true → m.shelf.is_making ≡ true
+finished lacks zero making = making
+finished (refuses_by line passes) zero making = making
+finished (reads_not shelf read) zero making = sym read.making.is_making ∙ making
+finished (reads_by text shelf read rest) zero making = sym read.making.is_making ∙ finished rest zero making
+finished (searches_by steps up within rest) zero making = finished rest zero making
+finished (answers_by done) zero making = sym done.making.is_making ∙ making
+finished (writes_by text out is w) zero making = making
+finished (makes_by {came = came} text shelf is made) zero making = absurd (still_making came shelf.is_making made.over zero making)
+
 pub files : {c : Course} {m n : Moment} {end : Option Stopped} → Follows c m n end → Files c m n (status_of end)
-files follows = record { others = others follows; all = all follows; steady = steady follows; kept = kept follows }
+files follows = record { others = others follows; all = all follows; steady = steady follows; kept = kept follows; finished = finished follows }
 
 up : {c : Course} {m n : Moment} {end : Option Stopped} → Follows c m n end → m.steps ≤ n.steps
 up lacks = omega arith

@@ -3,7 +3,6 @@ pub mod Counted
 pub mod Endings
 pub mod Going
 pub mod Grown
-pub mod Makings
 pub mod Plain
 pub mod Statuses
 pub mod Streamed

@@ -2,7 +2,7 @@
 -- `Done`, `RefusedOnly`, `MayMake`, `MakesNone`, `Steady`, `NoneFailed`, `IsDoing`, `Succeeds`, `Refuses`, `RefusesPartly`, `Misses`, `ReadsFail`,
 -- `WritesFail`, `NoCountRose`, `OutSo`, `AtOnce`, `MayRefuseBehind`, `OutGrows`, `Hands`, `HasLength`, `AreWhole`, `Names`, `Files`, `IsPlain`,
 -- `WithinSteps`, `SearchesNothing`, `Counts`, `InTimes`, `Ended`, `Sentences`.
-use Rattle.std.specs.Prelude.{◌≡◌, ◌≢◌, ◌⊎◌, ℕ, ◌+◌, ◌*◌, ◌-◌, ◌^◌, ◌<◌, ◌≤◌, Bool, [], ◌∷◌, ◌++◌, length, Option, Some, None, Result, Err, IsTrue, ⊤, codes}
+use Rattle.std.specs.Prelude.{◌≡◌, ◌≢◌, ◌⊎◌, ℕ, ◌+◌, ◌*◌, ◌-◌, ◌^◌, ◌<◌, ◌≤◌, Bool, true, [], ◌∷◌, ◌++◌, length, Option, Some, None, Result, Err, IsTrue, ⊤, codes}
 use Rattle.std.specs.Io.KnownBytes.{Keeps, Appends}
 use Rattle.loc_io.specs.Causes.{Rose}
 use Rattle.loc_io.specs.Entries.{Entries}
@@ -221,6 +221,8 @@ pub record Files (c : Course) (old new : Moment) (status : ℕ) : Type 0 where
   pub all : MakesNone c → KeepsFiles old.shelf new.shelf
   pub steady : MakesNone c → new.shelf.write_faults ≡ old.shelf.write_faults
   pub kept : status ≢ 0 → status ≢ 4 → KeepsFiles old.shelf new.shelf
+  -- with status 0 no file is being made that was not being made before
+  pub finished : status ≡ 0 → new.shelf.is_making ≡ true → old.shelf.is_making ≡ true
 
 -- a course writes at once, and makes no file
 pub record IsPlain (c : Course) : Type 0 where

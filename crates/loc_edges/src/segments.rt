@@ -42,8 +42,8 @@ fn add_rings(
     Ok(())
 }
 
-/// The segments of all features, each as often as it stands there, with the number of its feature.
-pub fn tagged_segments(
+// The segments of all features, each as often as it stands there, with the number of its feature.
+pub(crate) fn tagged_segments(
     alloc: Global,
     features: &[Feature],
 ) -> Result<Vec<(Edge, usize)>, AllocError>

@@ -24,8 +24,8 @@ pub(crate) fn sorted_points(mut points: Vec<Point>) -> Vec<Point>
     points
 }
 
-/// Segments in order, those of an edge in the order in which they stood.
-pub fn by_edge(mut tagged: Vec<(Edge, usize)>) -> Result<Vec<(Edge, usize)>, AllocError>
+// Segments in order, those of an edge in the order in which they stood.
+fn by_edge(mut tagged: Vec<(Edge, usize)>) -> Result<Vec<(Edge, usize)>, AllocError>
     ensures moved { IfOk result (λ sorted. IsPermutation tagged.items sorted.items) }
     ensures in_order { IfOk result (λ sorted. IsSortedBy edge_before (segments_in sorted.items)) }
     ensures features { IfOk result (λ sorted. (e : EdgeOf) → features_of sorted.items e ≡ features_of tagged.items e) }
@@ -34,11 +34,13 @@ pub fn by_edge(mut tagged: Vec<(Edge, usize)>) -> Result<Vec<(Edge, usize)>, All
     Ok(tagged)
 }
 
-// The segments of all features in order, those of an edge in the order of their features.
-pub(crate) fn sorted_segments(
+/// The segments of all features in order, each as often as it stands there, with the number of its feature; those of an edge in the order of
+/// their features.
+pub fn sorted_segments(
     alloc: Global,
     features: &[Feature],
 ) -> Result<Vec<(Edge, usize)>, AllocError>
+    ensures moved { IfOk result (λ tagged. IsPermutation (tagged_from 0 (layer_rings features.now)) tagged.items) }
     ensures closed { IfOk result (λ _. All (All IsRing) (layer_rings features.now)) }
     ensures few { IfOk result (λ tagged. All (λ (t : EdgeOf × ℕ). t.1 < length features.now) tagged.items) }
     ensures in_order { IfOk result (λ tagged. IsSortedBy edge_before (segments_in tagged.items)) }

@@ -55,13 +55,14 @@ front_is text (holds bytes) is = is
 
 module _ {T E : Type 0} (name text : Text) (old new : Meaning) where
   pub made_file : (x : T) → WritesFile {T = T} {E = E} name text old new (Ok x) → MakesFile name text old new None
-  made_file x w = record { reading = w.reading; others = w.others; made = whole_is text (new.told name) w.file; counts = w.cause.steady; in_time = w.in_time }
+  made_file x w = record { reading = w.reading; others = w.others; made = whole_is text (new.told name) w.file; over = w.over; counts = w.cause.steady; in_time = w.in_time }
 
   pub cut_file : (e : E) → WritesFile {T = T} {E = E} name text old new (Err e) → MakesFile name text old new (Some unwritten)
   cut_file e w = record {
     reading = w.reading;
     others = w.others;
     made = elim w.file [ inl same ↦ inl same | inr front ↦ inr (front_is text (new.told name) front) ];
+    over = tt;
     counts = w.cause.failed;
     in_time = w.in_time;
   }

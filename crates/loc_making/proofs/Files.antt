@@ -69,6 +69,7 @@ not-begun {name} {o} {m} text fails c = subst (λ r. WritesFile name text o m r)
   reading = c.reading;
   others = λ other differ. c.refused other;
   file = at-most text (o.told name) (m.told name) (c.refused name);
+  over = tt;
   cause = record { later = c.cause.later; failed = c.cause.failed; steady = tt };
   in_time = in_time_by o m c.late;
 })
@@ -79,6 +80,7 @@ broken {name} {text} {o} {m} {n} {result} fails c b = subst (λ r. WritesFile na
   reading = reading-on c.reading b.reading;
   others = others-told name o m n c.file.1 b.others;
   file = inr (file-front name text o m n c.file.1 b);
+  over = tt;
   cause = record {
     later = subst (λ k. k ≤ n.write_faults) c.cause.steady b.later;
     failed = subst (λ k. Rose k n.write_faults) c.cause.steady b.rose;
@@ -94,6 +96,7 @@ not-over {name} {text} {o} {m} {n} {p} fails c g f = subst (λ r. WritesFile nam
   reading = reading-on (reading-on c.reading g.reading) f.reading;
   others = others-told name o m p c.file.1 (λ other differ. f.files other ∙ g.others other differ);
   file = inr (subst (λ t. IsFront text t) (sym (f.files name)) (whole-front text (n.told name) (file-whole name text o m n c.file.1 g)));
+  over = tt;
   cause = record {
     later = subst (λ k. k ≤ p.write_faults) (g.steady ∙ c.cause.steady) f.cause.later;
     failed = subst (λ k. Rose k p.write_faults) (g.steady ∙ c.cause.steady) f.cause.failed;
@@ -108,6 +111,7 @@ over {name} {text} {o} {m} {n} {p} z c g f = record {
   reading = reading-on (reading-on c.reading g.reading) f.reading;
   others = others-told name o m p c.file.1 (λ other differ. f.files other ∙ g.others other differ);
   file = subst (λ t. IsWhole text t) (sym (f.files name)) (file-whole name text o m n c.file.1 g);
+  over = f.over;
   cause = record { later = (let e = f.cause.steady ∙ (g.steady ∙ c.cause.steady) in omega (arith, e)); failed = tt; steady = f.cause.steady ∙ (g.steady ∙ c.cause.steady) };
   in_time = late-on o n p (late-on o m n (in_time_by o m c.late) c.reading c.cause.steady g.in_time) (reading-on c.reading g.reading) (g.steady ∙ c.cause.steady) (in_time_by n p f.late);
 }

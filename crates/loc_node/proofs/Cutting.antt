@@ -1,26 +1,25 @@
 -- The pieces of tagged segments, one segment more at a time; and those of a layer.
-use Rattle.std.proofs.Common.{◌≡◌, ℕ, ◌+◌, ◌<◌, ◌≤◌, List, [], ◌∷◌, ◌++◌, length, get_or, take, refl, sym, ◌∙◌, ap, ap₂, subst, arith, append-nil}
+use Rattle.std.proofs.Common.{◌≡◌, ℕ, suc, ◌+◌, ◌<◌, ◌≤◌, List, [], ◌∷◌, ◌++◌, length, get_or, take, refl, sym, ◌∙◌, ap, ap₂, arith, append-nil}
 use Rattle.std.specs.Prelude.{All, ◌^◌}
 use Rattle.std.specs.List.{flat_map}
-use Rattle.std.specs.List.Sorted.{IsPermutation, IsSortedBy}
+use Rattle.std.specs.List.Sorted.{IsPermutation}
 use Rattle.std.proofs.lemmas.List.{length-map, map-append, take_more}
 use Rattle.std.proofs.lemmas.List.Concat.{flat_map-append, length-flat_map}
-use Rattle.std.proofs.lemmas.List.Sorted.{All-permutation, length_permutation}
+use Rattle.std.proofs.lemmas.List.Elements.{All-append, All-cons}
+use Rattle.std.proofs.lemmas.List.Sorted.{sum_by-IsPermutation}
 use Rattle.std.proofs.lemmas.List.Sums.{sum_by_more_le}
-use Rattle.loc_spec_plane.specs.Points.{Point, Edge, edge_before}
+use Rattle.loc_spec_plane.specs.Points.{Edge, edge_before}
 use Rattle.loc_spec_plane.specs.Lists.{sorted_set}
 use Rattle.loc_spec_plane.specs.Rings.{Rings, segments}
-use Rattle.loc_spec_plane.specs.Tables.{cut_at, layer_corners, layer_segments, piece_count}
-use Rattle.loc_laws_noding.proofs.Noded.{cutting_noded}
+use Rattle.loc_spec_plane.specs.Tables.{cut_at, layer_corners, piece_count}
 use Rattle.loc_laws_noding.proofs.SortedSet.{length-sorted_set}
-use Rattle.loc_edges.specs.Layers.{AreOfLayer}
-use Rattle.loc_edges.specs.Tagged.{features_of, segments_in, tagged_by, tagged_from, tagged_pieces}
-use Rattle.loc_edges.proofs.Tagged.{edges_stay, features_fit, segments_in-pieces}
+use Rattle.loc_edges.specs.Tagged.{segments_in, tagged_by, tagged_from, tagged_pieces}
+use Rattle.loc_edges.proofs.Tagged.{segments_in-pieces}
 use Rattle.loc_node.specs.Pieces.{cut_tagged, most_pieces}
 
 module _ (cut : Edge → List Edge) where
   -- the pieces of one segment
-  abbrev own : Edge × ℕ → List (Edge × ℕ)
+  abbrev pub own : Edge × ℕ → List (Edge × ℕ)
   own t = tagged_by t.1 (cut t.0)
 
   length-own : (t : Edge × ℕ) → length (own t) ≡ length (cut t.0)
@@ -43,38 +42,26 @@ module _ (cut : Edge → List Edge) where
       of_feature [] = refl
       of_feature (s ∷ ss) = ap (λ us. tagged_by a (cut s) ++ us) (of_feature ss) ∙ sym (map-append (λ (e : Edge). (e, a)) (cut s) (flat_map cut ss))
 
--- there are as many as the pieces of the layer
-pub many_pieces : (layer : List Rings) (ts : List (Edge × ℕ)) → ts ≡ tagged_from 0 layer → length (cut_tagged (cut_at (layer_corners layer)) ts) ≡ piece_count layer
-many_pieces layer ts are =
+-- the segments of a layer in some order have as many as the layer
+pub many_pieces : (layer : List Rings) (tagged : List (Edge × ℕ)) → IsPermutation (tagged_from 0 layer) tagged → length (cut_tagged (cut_at (layer_corners layer)) tagged) ≡ piece_count layer
+many_pieces layer tagged from =
     let cut = cut_at (layer_corners layer) in
-    ap (λ us. length (cut_tagged cut us)) are
+    length-flat_map (own cut) tagged
+    ∙ (sum_by-IsPermutation (λ t. length (own cut t)) (tagged_from 0 layer) tagged from
+    ∙ (sym (length-flat_map (own cut) (tagged_from 0 layer))
     ∙ (ap length (cut_layer cut 0 layer)
     ∙ (sym (length-map (tagged_pieces cut 0 layer) (λ (t : Edge × ℕ). t.0))
-    ∙ ap length (segments_in-pieces cut 0 layer)))
-
--- the lists of a layer whose segments are cut at the corners on them, as they are made one from another
-pub noded_lists : (layer : List Rings) (corners finder : List Point) (segments all pieces ps : List (Edge × ℕ)) (edges : List Edge)
-    → corners ≡ layer_corners layer → finder ≡ corners → segments ≡ tagged_from 0 layer → all ≡ cut_tagged (cut_at finder) segments → IsPermutation all pieces → IsSortedBy edge_before (segments_in pieces) → ((e : Edge) → features_of pieces e ≡ features_of all e)
-    → ps ≡ pieces → edges ≡ sorted_set edge_before (segments_in ps) → AreOfLayer (cut_at (layer_corners layer)) layer corners edges pieces
-noded_lists layer corners finder segments all pieces ps edges corners_are finder_is segments_are all_are moved in_order features ps_are edges_are =
-    let cut = cut_at (layer_corners layer) in
-    let layer_pieces : all ≡ tagged_pieces (cut_at (layer_corners layer)) 0 layer = all_are ∙ (ap (λ cs. cut_tagged (cut_at cs) segments) (finder_is ∙ corners_are) ∙ (ap (cut_tagged cut) segments_are ∙ cut_layer cut 0 layer)) in
-    let distinct = edges_stay cut layer pieces (subst (λ ts. IsPermutation ts pieces) layer_pieces moved) in
-    record {
-      is_cutting = cutting_noded layer;
-      corners_are = corners_are;
-      edges_are = edges_are ∙ (ap (λ ts. sorted_set edge_before (segments_in ts)) ps_are ∙ distinct);
-      in_order = in_order;
-      distinct = distinct;
-      features = λ e. features e ∙ ap (λ ts. features_of ts e) layer_pieces;
-    }
+    ∙ ap length (segments_in-pieces cut 0 layer)))))
 
 -- there are no more edges than pieces
-pub few_pieces : (all pieces ps : List (Edge × ℕ)) (edges : List Edge) → length all ≤ most_pieces → IsPermutation all pieces → ps ≡ pieces → edges ≡ sorted_set edge_before (segments_in ps) → length edges ≤ 2 ^ 21
-few_pieces all pieces ps edges few moved ps_are edges_are = omega (arith, few, length_permutation all pieces moved, ap length ps_are, ap length edges_are, length-sorted_set edge_before (segments_in ps), length-map ps (λ (t : Edge × ℕ). t.0))
+pub few_pieces : (pieces ps : List (Edge × ℕ)) (edges : List Edge) → length pieces ≤ most_pieces → ps ≡ pieces → edges ≡ sorted_set edge_before (segments_in ps) → length edges ≤ 2 ^ 21
+few_pieces pieces ps edges few ps_are edges_are = omega (arith, few, ap length ps_are, ap length edges_are, length-sorted_set edge_before (segments_in ps), length-map ps (λ (t : Edge × ℕ). t.0))
 
--- their features are those of the layer
-pub low_features : (layer : List Rings) (corners : List Point) (tagged all pieces : List (Edge × ℕ)) → tagged ≡ tagged_from 0 layer → all ≡ cut_tagged (cut_at corners) tagged → IsPermutation all pieces → All (λ (t : Edge × ℕ). t.1 < 0 + length layer) pieces
-low_features layer corners tagged all pieces tagged_are all_are moved =
-    let low = subst (All (λ (t : Edge × ℕ). t.1 < 0 + length layer)) (sym (all_are ∙ (ap (cut_tagged (cut_at corners)) tagged_are ∙ cut_layer (cut_at corners) 0 layer))) (features_fit (cut_at corners) 0 layer) in
-    All-permutation (λ (t : Edge × ℕ). t.1 < 0 + length layer) all pieces moved low
+-- their features are those of the segments
+pub low_features : (cut : Edge → List Edge) (m : ℕ) (tagged : List (Edge × ℕ)) → All (λ (t : Edge × ℕ). t.1 < m) tagged → All (λ (t : Edge × ℕ). t.1 < m) (cut_tagged cut tagged)
+low_features cut m [] low = λ k d lt. absurd (omega arith)
+low_features cut m (t ∷ ts) low = All-append (λ (u : Edge × ℕ). u.1 < m) (own cut t) (cut_tagged cut ts) (each (cut t.0)) (low_features cut m ts (λ k d lt. low (suc k) d (omega arith)))
+  where
+    each : (es : List Edge) → All (λ (u : Edge × ℕ). u.1 < m) (tagged_by t.1 es)
+    each [] = λ k d lt. absurd (omega arith)
+    each (e ∷ es) = All-cons (λ (u : Edge × ℕ). u.1 < m) (e, t.1) (tagged_by t.1 es) (low 0 t (omega arith)) (each es)

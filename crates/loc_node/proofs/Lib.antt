@@ -1,4 +1,5 @@
 pub mod Cutting
 pub mod Neighbours
+pub mod PieceOrder
 pub mod Refusals
 pub mod Skipping

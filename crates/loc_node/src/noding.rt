@@ -1,28 +1,31 @@
 // The noded table of a layer.
 
-ghost use Rattle.std.specs.Prelude.{◌≡◌, ℕ, ◌<◌, ◌≤◌, [], IsTrue, not, get_or, length, All, IfOk, IfErr};
-ghost use Rattle.loc_spec_plane.specs.Points.{Point as PointOf, touch};
+ghost use Rattle.std.specs.Prelude.{◌≡◌, ℕ, ◌<◌, ◌≤◌, [], List, IsTrue, not, get_or, length, All, IfOk, IfErr};
+ghost use Rattle.std.specs.List.Sorted.{IsSortedBy};
+ghost use Rattle.loc_spec_plane.specs.Points.{Point as PointOf, edge_before, touch};
+ghost use Rattle.loc_spec_plane.specs.Lists.{sorted_set};
 ghost use Rattle.loc_spec_plane.specs.Covers.{feature_count};
-ghost use Rattle.loc_spec_plane.specs.Rings.{touches, covers};
-ghost use Rattle.loc_spec_plane.specs.Tables.{IsTable, AllEnds, AllEven, edge as edge_of, layer_corners, noded_table_of, piece_count, touches_by_marks, covers_by_marks};
+ghost use Rattle.loc_spec_plane.specs.Rings.{Rings, touches, covers};
+ghost use Rattle.loc_spec_plane.specs.Tables.{IsTable, AllEnds, AllEven, edge as edge_of, layer_corners, noded_table_of, piece_count, pieces_of, touches_by_marks, covers_by_marks, whole};
 ghost use Rattle.loc_rings.specs.Layers.{IsLayer};
 ghost use Rattle.loc_rings.specs.Values.{IsRing};
 ghost use Rattle.loc_edges.specs.Layers.{layer_rings};
+ghost use Rattle.loc_edges.specs.Tagged.{segments_in};
 ghost use Rattle.loc_node.specs.Pieces.{IsRefused, most_pieces};
 
 use crate::fault::NodeFault;
-use crate::finder::Finder;
-use crate::pieces::cut_all;
-use loc_edges::{EdgeTable, by_edge, corners_between, distinct_edges, edges, tagged_segments};
-use loc_geom::Point;
+use crate::pieces::sorted_pieces;
+use loc_edges::{EdgeTable, corners_between, distinct_edges, sorted_segments};
+use loc_geom::{Edge, Point};
 use loc_rings::{Feature, Layer};
 use std::alloc::{AllocError, Global};
 
-// The corners of the features.
-fn corners_of(alloc: Global, features: &[Feature]) -> Result<Vec<Point>, AllocError>
-    ensures { IfOk result (λ corners. corners.items ≡ layer_corners (layer_rings features.now)) }
+// The corners between segments in order.
+fn corners_of(alloc: Global, tagged: &[(Edge, usize)]) -> Result<Vec<Point>, AllocError>
+    requires in_order { IsSortedBy edge_before (segments_in tagged.now) }
+    ensures { IfOk result (λ corners. (layer : List Rings) → sorted_set edge_before (segments_in tagged.now) ≡ pieces_of whole layer → corners.items ≡ layer_corners layer) }
 {
-    let edges = edges(alloc, features)?;
+    let edges = distinct_edges(alloc, tagged)?;
     corners_between(alloc, &edges)
 }
 
@@ -34,10 +37,9 @@ fn noded_table(alloc: Global, features: &[Feature]) -> Result<EdgeTable, NodeFau
     ensures closed { IfOk result (λ _. All (All IsRing) (layer_rings features.now)) }
     ensures refused { IfErr result (IsRefused (piece_count (layer_rings features.now))) }
 {
-    let corners = corners_of(alloc, features)?;
-    let finder = Finder::make(alloc, &corners)?;
-    let tagged = tagged_segments(alloc, features)?;
-    let pieces = by_edge(cut_all(alloc, &finder, tagged)?)?;
+    let tagged = sorted_segments(alloc, features)?;
+    let corners = corners_of(alloc, &tagged)?;
+    let pieces = sorted_pieces(alloc, &corners, tagged)?;
     let edges = distinct_edges(alloc, &pieces)?;
     Ok(EdgeTable::of_tagged(alloc, corners, edges, pieces)?)
 }

@@ -5,9 +5,7 @@ ghost use Rattle.loc_place.specs.Planar.{IsPlanar};
 ghost use Rattle.loc_spec_plane.specs.Tables.{Table};
 ghost use Rattle.loc_cover.specs.Legends.{FitsTable};
 
-use crate::limits::repeated;
-use crate::tests::{ANSWERS, POINTS, SQUARE};
-use loc_batch::{Batch, BatchFault, FeedFault, Tally, Unnumbered, answer_all, write_answer};
+use loc_batch::{Batch, BatchFault, FeedFault, Tally, Unnumbered, answer_all};
 use loc_cover::Legend;
 use loc_csvform::{Form, read_layer};
 use loc_edges::{EdgeTable, Views};
@@ -23,6 +21,14 @@ use std::marker::Brand;
 use std::process::Abort;
 use std::sync::ledger::{Blank, Ledger};
 use std::test::Fail;
+
+const SQUARE: &[u8] = b"POLYGON ((0 0, 4 0, 4 4, 0 4, 0 0))\n";
+
+// Points inside, outside, at corners, on a border, and in the open face beside.
+const POINTS: &[u8] = b"2 2\n5 2\n0 0\n4 4\n4 2\n4 5\n0 -1\n-1 4\n5 0\n";
+
+const ANSWERS: &[u8] =
+    b"face in \"1\"\nface in\ncorner 0 on \"1\" in\ncorner 3 on \"1\" in\nborder 3 on \"1\" in\nface in\nface in\nface in\nface in\n";
 
 // A layer with points and their answers, at scale 0.
 type Row = (&'static [u8], &'static [u8], &'static [u8]);
@@ -47,39 +53,31 @@ static ROWS: [Row; 5] = [
     (b"POLYGON EMPTY", b"1 1\n2 2", b"face in\nface in\n"),
 ];
 
-// The layer of a text in a form.
-pub(crate) fn read_text(alloc: Global, text: &[u8], form: Form) -> Result<Layer, Fail> {
-    if text.len() > 268_435_456 {
+// The layer of a text.
+fn layer_of(alloc: Global, text: &[u8]) -> Result<Layer, Fail> {
+    if text.len() > 1000 {
         return Err(Fail::new("a long layer"));
     }
-    let Ok(layer) = read_layer(alloc, text, form, 0) else {
+    let Ok(layer) = read_layer(alloc, text, Form::Lines, 0) else {
         return Err(Fail::new("no layer"));
     };
     Ok(layer)
 }
 
-// The table and the legend of a layer.
-fn map_of_layer(alloc: Global, layer: &Layer) -> Result<(EdgeTable, Legend), Fail>
+// The table and the legend of a layer text.
+fn map_of(alloc: Global, text: &[u8]) -> Result<(EdgeTable, Legend), Fail>
     ensures planar { IfOk result (λ map. IsPlanar map.0) }
     ensures fits { IfOk result (λ map. FitsTable map.0 map.1) }
 {
-    let table = EdgeTable::make(alloc, layer)?;
+    let layer = layer_of(alloc, text)?;
+    let table = EdgeTable::make(alloc, &layer)?;
     let Ok((_, floors)) = sweep(alloc, &table, VecStatus::new(alloc)) else {
         return Err(Fail::new("edges that conflict"));
     };
-    let Ok(legend) = Legend::make(alloc, layer, &table, &floors) else {
+    let Ok(legend) = Legend::make(alloc, &layer, &table, &floors) else {
         return Err(Fail::new("long cover lists"));
     };
     Ok((table, legend))
-}
-
-// The table and the legend of a layer text.
-pub(crate) fn map_of(alloc: Global, text: &[u8], form: Form) -> Result<(EdgeTable, Legend), Fail>
-    ensures planar { IfOk result (λ map. IsPlanar map.0) }
-    ensures fits { IfOk result (λ map. FitsTable map.0 map.1) }
-{
-    let layer = read_text(alloc, text, form)?;
-    map_of_layer(alloc, &layer)
 }
 
 // What was answered to a stream that came in pieces of this length.
@@ -251,7 +249,7 @@ fn expect_cuts(
 #[test]
 fn any_cut_gives_the_same_answers(rt: HostRuntime) -> Result<(), Fail> {
     for (layer, points, answers) in &ROWS {
-        let map = map_of(rt.alloc(), layer, Form::Lines)?;
+        let map = map_of(rt.alloc(), layer)?;
         expect_cuts(&rt, rt.alloc(), &map, points, answers)?;
     }
     Ok(())
@@ -264,6 +262,22 @@ static SPACED: [(&[u8], u32, &[u8]); 4] = [
     (b"2 2", 4093, b"\n"),
     (b"2 2", 4094, b"\n"),
 ];
+
+// A text so many times over, between a head and a foot.
+fn repeated(
+    alloc: Global,
+    head: &[u8],
+    text: &[u8],
+    times: u32,
+    foot: &[u8],
+) -> Result<Vec<u8>, Fail> {
+    let mut all = Vec::from_slice(alloc, head)?;
+    for _ in 0..times {
+        all.extend_from_slice(text)?;
+    }
+    all.extend_from_slice(foot)?;
+    Ok(all)
+}
 
 // Many points, and then those behind spaces and before them.
 fn many_points(alloc: Global) -> Result<Vec<u8>, Fail> {
@@ -302,7 +316,7 @@ fn expect_many(rt: &impl Abort, alloc: Global, map: &(EdgeTable, Legend)) -> Res
 
 #[test]
 fn many_lines_and_long_ones(rt: HostRuntime) -> Result<(), Fail> {
-    let map = map_of(rt.alloc(), SQUARE, Form::Lines)?;
+    let map = map_of(rt.alloc(), SQUARE)?;
     expect_many(&rt, rt.alloc(), &map)
 }
 
@@ -450,7 +464,7 @@ static GIVEN_UP: Stop = ([b"x\n2 2\n5", b"\ny\n"], 1000, 0, FeedFault::Deep { ve
 
 #[test]
 fn stopped_batches(rt: HostRuntime) -> Result<(), Fail> {
-    let map = map_of(rt.alloc(), SQUARE, Form::Lines)?;
+    let map = map_of(rt.alloc(), SQUARE)?;
     for stop in &STOPS {
         expect_stop(&rt, rt.alloc(), &map, &Scan, stop)?;
     }
@@ -459,22 +473,9 @@ fn stopped_batches(rt: HostRuntime) -> Result<(), Fail> {
 
 #[test]
 fn a_long_file(rt: HostRuntime) -> Result<(), Fail> {
-    let map = map_of(rt.alloc(), SQUARE, Form::Lines)?;
+    let map = map_of(rt.alloc(), SQUARE)?;
     let (ended, sink) = read(rt.alloc(), &map, b"2 2\n5", 4)?;
     assert_eq!(rt; ended, Err(BatchFault::PointsLong));
     assert_eq!(rt; sink.bytes(), b"face in \"1\"\n".as_slice());
-    Ok(())
-}
-
-#[test]
-fn one_answer_with_a_face(rt: HostRuntime) -> Result<(), Fail> {
-    let alloc = rt.alloc();
-    let map = map_of(alloc, SQUARE, Form::Lines)?;
-    if map.0.edge_count() < 4 {
-        return Err(Fail::new("no square"));
-    }
-    let mut sink = MemSink::new(alloc, Vec::new(alloc));
-    write_answer(&map.1, Place::Area(Some(1)), Some(7), &mut sink)?;
-    assert_eq!(rt; sink.bytes(), b"face 7 in \"1\"\n".as_slice());
     Ok(())
 }

@@ -119,7 +119,7 @@ module _ (old new : Moment) (n n' : Stream) (status : ℕ) where
         let files : KeepsFiles old.shelf new.shelf = λ name. ap (λ (x : Moment). x.shelf.told name) r.same in
         let two_or_five : (status ≡ 2) ⊎ (status ≡ 5) = elim r.noted [ inl words ↦ inl words.0 | inr memory ↦ inr memory.0 ] in
         let never_four : status ≡ 4 → ⊥ = λ four. absurd (other 4 two_or_five (λ e. omega (arith, e)) (λ e. omega (arith, e)) four) in (
-          record { others = λ name _. inl (files name); kept = λ _ _. files; none = λ _. (files, as_many) },
+          record { others = λ name _. inl (files name); kept = λ _ _. files; finished = λ _ making. sym (ap (λ (x : Moment). x.shelf.is_making) r.same) ∙ making; none = λ _. (files, as_many) },
           record { grows = tt; kept = λ _. ap (λ (x : Moment). x.out.written) r.same; refused = λ one. absurd (other 1 two_or_five (λ e. omega (arith, e)) (λ e. omega (arith, e)) one); at_once = tt },
           record { rose = λ either. elim either [ inl rose ↦ absurd (omega (arith, rose, same)) | inr rose ↦ absurd (omega (arith, rose, as_many)) ]; only = λ four _ _. absurd (never_four four); only_out = λ _ four _. absurd (never_four four) },
         )
@@ -129,6 +129,7 @@ module _ (old new : Moment) (n n' : Stream) (status : ℕ) where
           record {
             others = λ name differ. s.files.others name (p.makes name differ);
             kept = s.files.kept;
+            finished = s.files.finished;
             none = λ none. (s.files.all (makes_none _ c p none), s.files.steady (makes_none _ c p none));
           },
           record {

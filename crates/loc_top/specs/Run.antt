@@ -6,7 +6,7 @@
 --   OutOf                 what stands on out
 --   AWriteFailed, WritesFail  when a write failed
 --   FilesOf               which files change
-use Rattle.std.specs.Prelude.{◌≡◌, ◌≢◌, ◌⊎◌, ℕ, ◌-◌, ◌^◌, ◌<◌, List, Option, Some, None, IfSome, option_and_then, option_map, codes}
+use Rattle.std.specs.Prelude.{◌≡◌, ◌≢◌, ◌⊎◌, ℕ, ◌-◌, ◌^◌, ◌<◌, true, List, Option, Some, None, IfSome, option_and_then, option_map, codes}
 use Rattle.loc_spec_text.specs.Bytes.{Text}
 use Rattle.loc_io.specs.Meaning.{KeepsFiles}
 use Rattle.loc_io.specs.Streams.{Stream}
@@ -90,4 +90,6 @@ pub record WritesFail (asked : Option Asked) (old new : Moment) (status : ℕ) :
 pub record FilesOf (asked : Option Asked) (old new : Moment) (status : ℕ) : Type 0 where
   pub others : (name : Text) → option_and_then made_by asked ≢ Some name → IsToldAtMost (old.shelf.told name) (new.shelf.told name)
   pub kept : status ≢ 0 → status ≢ 4 → KeepsFiles old.shelf new.shelf
+  -- with status 0 no file is being made that was not being made before
+  pub finished : status ≡ 0 → new.shelf.is_making ≡ true → old.shelf.is_making ≡ true
   pub none : option_and_then made_by asked ≡ None → KeepsFiles old.shelf new.shelf × (new.shelf.write_faults ≡ old.shelf.write_faults)

@@ -13,6 +13,9 @@ use Rattle.loc_edges.specs.Tagged.{features_of, segments_in, tagged_from}
 use Rattle.loc_edges.proofs.Tagged.{edges_stay, features_fit, tagged_pieces-whole}
 use Rattle.loc_edges.proofs.sorted.sorted_segments.Goals as goal
 
+pub returns-clause-moved : goal.returns-clause-moved
+returns-clause-moved c = IfOk-weaker c.by_edge.result _ (λ tagged. IsPermutation (tagged_from 0 (layer_rings c.args.features.now)) tagged.items) (λ tagged moved. subst (λ ts. IsPermutation ts tagged.items) c.in_ok-tagged_segments.ensures.value moved) c.by_edge.ensures.moved
+
 pub returns-clause-few : goal.returns-clause-few
 returns-clause-few c =
     let features = c.args.features.now in

@@ -1,0 +1,135 @@
+//! Each call of the outside failing in turn: the status and the line are those of the cause, what was written is a front of what the whole
+//! run writes, and behind the failure no further call is made.
+
+use crate::escapes::escaped;
+use crate::runs::{Faults, Left, words_of};
+use crate::stage::Stage;
+use crate::stop::Stop;
+use loc_io::MemShelf;
+
+// What a run leaves, and its files.
+type Outcome = (Left, MemShelf);
+
+// The file that a run has made, or nothing where there is none: `build` makes the third of its words.
+fn made<'a>(words: &[String], outcome: &'a Outcome) -> Option<&'a [u8]> {
+    match words {
+        [command, _, name, ..] if command.as_str() == "build" => outcome.1.bytes(name.as_str()),
+        _ => None,
+    }
+}
+
+// How bytes stand to those of the whole run.
+fn front_of(whole: &[u8], bytes: &[u8]) -> &'static str {
+    if bytes == whole {
+        "all"
+    } else if whole.starts_with(bytes) {
+        "a front"
+    } else {
+        "other bytes"
+    }
+}
+
+// How what was made stands to what the whole run makes.
+fn front_of_made(whole: Option<&[u8]>, made: Option<&[u8]>) -> &'static str {
+    match (whole, made) {
+        (_, None) => "nothing",
+        (Some(whole), Some(made)) => front_of(whole, made),
+        (None, Some(_)) => "other bytes",
+    }
+}
+
+// Runs the words where calls fail, and prints what is left, beside the whole run.
+fn show_fault(
+    page: &mut String,
+    stage: &Stage,
+    words: &[String],
+    whole: &Outcome,
+    faults: Faults,
+) -> Result<(), Stop> {
+    let outcome = stage.failing(words, faults)?;
+    let left = &outcome.0;
+    let Faults { shelf, out, notes } = faults;
+    let status = left.status;
+    let calls = left.shelf.calls;
+    let writes = left.out.watch.calls;
+    let written = front_of(whole.0.out.bytes(), left.out.bytes());
+    let made = front_of_made(made(words, whole), made(words, &outcome));
+    let line = escaped(stage.alloc, left.notes.bytes())?;
+    writeln!(
+        page,
+        "fail {shelf} {out} {notes}: status {status}, {calls} calls of the shelf, {writes} of out; out has {written}, made is {made}, notes {line}"
+    )?;
+    Ok(())
+}
+
+// Which call fails.
+#[derive(Clone, Copy)]
+enum Outside {
+    Shelf,
+    Out,
+    Notes,
+}
+
+impl Outside {
+    // The calls of this kind that the whole run makes.
+    fn calls(self, whole: &Left) -> u64 {
+        match self {
+            Outside::Shelf => whole.shelf.calls,
+            Outside::Out => whole.out.watch.calls,
+            Outside::Notes => whole.notes.watch.calls,
+        }
+    }
+
+    // This call fails.
+    fn fault(self, call: u64) -> Faults {
+        match self {
+            Outside::Shelf => Faults {
+                shelf: call,
+                ..Faults::NONE
+            },
+            Outside::Out => Faults {
+                out: call,
+                ..Faults::NONE
+            },
+            Outside::Notes => Faults {
+                notes: call,
+                ..Faults::NONE
+            },
+        }
+    }
+}
+
+// Lets each call of a kind fail in turn, and one more than the whole run makes.
+fn show_each(
+    page: &mut String,
+    stage: &Stage,
+    words: &[String],
+    whole: &Outcome,
+    outside: Outside,
+) -> Result<(), Stop> {
+    for passed in 0..=outside.calls(&whole.0) {
+        let fault = outside.fault(passed.saturating_add(1));
+        show_fault(page, stage, words, whole, fault)?;
+    }
+    Ok(())
+}
+
+/// `failing WORDS`: what is left where each call of the shelf, of out and of notes fails in turn, and where the first of notes fails beside
+/// another.
+pub(crate) fn failing(page: &mut String, stage: &Stage, line: &str) -> Result<(), Stop> {
+    let words = words_of(stage.alloc, line)?;
+    let whole = stage.failing(&words, Faults::NONE)?;
+    show_fault(page, stage, &words, &whole, Faults::NONE)?;
+    for outside in [Outside::Shelf, Outside::Out, Outside::Notes] {
+        show_each(page, stage, &words, &whole, outside)?;
+    }
+    for (shelf, out) in [(1, 0), (0, 1)] {
+        let faults = Faults {
+            shelf,
+            out,
+            notes: 1,
+        };
+        show_fault(page, stage, &words, &whole, faults)?;
+    }
+    Ok(())
+}

@@ -1,0 +1,91 @@
+//! Rows of runs: words, files, and what `run` leaves of them. The files of data/ have the rows, a step a line; what each step leaves is printed
+//! behind it, and has to be what the file `stdout` beside src/ has.
+//!
+//! `row NAME` begins a row, over a shelf without files. The steps of `making` and `hostile` make files, those of `playing`, `trips` and `failing`
+//! run words: behind `|` stands what is left on out, behind `!` what is left on notes. A line without a step, or that begins with `#`, is a remark.
+#![tactic(auto)]
+
+mod escapes;
+mod failing;
+mod hostile;
+mod making;
+mod playing;
+mod runs;
+mod shapes;
+mod stage;
+mod stop;
+mod trips;
+mod watched;
+
+use crate::failing::failing;
+use crate::hostile::hostile;
+use crate::making::{cut, make};
+use crate::playing::{brief, copies, run, same};
+use crate::stage::Stage;
+use crate::stop::Stop;
+use crate::trips::{orders, refused, shuffles, trip};
+use std::alloc::Global;
+use std::{fs, io};
+
+// The files of rows, in the order in which they are played.
+const FILES: [&str; 10] = [
+    "layers.rows",
+    "words.rows",
+    "faces.rows",
+    "texts.rows",
+    "plane.rows",
+    "orders.rows",
+    "indexes.rows",
+    "failing.rows",
+    "limits.rows",
+    "generated.rows",
+];
+
+// Plays a step.
+fn play(page: &mut String, stage: &mut Stage, verb: &str, rest: &str) -> Result<(), Stop> {
+    match verb {
+        "" | "#" | "row" => Ok(()),
+        "run" => run(page, stage, rest),
+        "same" => same(page, stage, rest),
+        "brief" => brief(page, stage, rest),
+        "copies" => copies(page, stage, rest),
+        "trip" => trip(page, stage, rest),
+        "refused" => refused(page, stage, rest),
+        "orders" => {
+            let (edges, count) = cut(rest);
+            orders(page, stage, edges, count)
+        }
+        "shuffles" => shuffles(page, stage, rest),
+        "failing" => failing(page, stage, rest),
+        "hostile" => hostile(stage, rest),
+        _ => make(stage, verb, rest),
+    }
+}
+
+// Plays the steps of a file, each behind its own line.
+fn play_all(page: &mut String, alloc: Global, text: &str) -> Result<(), Stop> {
+    let mut stage = Stage::new(alloc);
+    for line in text.lines() {
+        writeln!(page, "{line}")?;
+        let (verb, rest) = cut(line);
+        if verb == "row" {
+            stage = Stage::new(alloc);
+        }
+        play(page, &mut stage, verb, rest)?;
+    }
+    Ok(())
+}
+
+fn main(rt: HostRuntime) -> io::Result<()> {
+    for name in &FILES {
+        let text = fs::read_to_string(&rt, *name)?;
+        println!(rt; "# {name}")?;
+        let mut page = String::new(rt.alloc());
+        let played = play_all(&mut page, rt.alloc(), text.as_str());
+        rt.print(page.as_str())?;
+        if let Err(stop) = played {
+            println!(rt; "{stop:?}")?;
+        }
+    }
+    Ok(())
+}

@@ -1,0 +1,109 @@
+//! Steps of a row that run words, and print what is left.
+
+use crate::escapes::escaped;
+use crate::hostile::number_at;
+use crate::making::cut;
+use crate::runs::{Left, words_of};
+use crate::stage::Stage;
+use crate::stop::Stop;
+use std::alloc::{AllocError, Global};
+
+// Prints the lines of a text behind a mark; a last line without an end has a backslash behind it.
+fn show(page: &mut String, alloc: Global, mark: &str, bytes: &[u8]) -> Result<(), AllocError> {
+    for line in bytes.split_inclusive(|byte| *byte == b'\n') {
+        let (line, end) = match line.strip_suffix(b"\n") {
+            Some(line) => (line, ""),
+            None => (line, "\\"),
+        };
+        let text = escaped(alloc, line)?;
+        writeln!(page, "{mark} {text}{end}")?;
+    }
+    Ok(())
+}
+
+// Prints what a run left.
+fn show_left(page: &mut String, alloc: Global, left: &Left) -> Result<(), AllocError> {
+    show(page, alloc, "|", left.out.bytes())?;
+    show(page, alloc, "!", left.notes.bytes())?;
+    let status = left.status;
+    writeln!(page, "status {status}")?;
+    Ok(())
+}
+
+// Prints the name of a file that a run of these words has made, and what an index says that it has.
+fn show_made(page: &mut String, stage: &mut Stage, words: &[String]) -> Result<(), Stop> {
+    if let Some(name) = stage.note_made(words)? {
+        let index = stage.bytes(name)?;
+        let features = number_at(index, 16)?;
+        let corners = number_at(index, 20)?;
+        let edges = number_at(index, 24)?;
+        let nodes = number_at(index, 36)?;
+        writeln!(
+            page,
+            "made {name}: {features} features, {corners} corners, {edges} edges, {nodes} nodes"
+        )?;
+    }
+    Ok(())
+}
+
+/// `run WORDS`: what they leave.
+pub(crate) fn run(page: &mut String, stage: &mut Stage, line: &str) -> Result<(), Stop> {
+    let words = words_of(stage.alloc, line)?;
+    let left = stage.outcome(&words)?;
+    show_left(page, stage.alloc, &left)?;
+    stage.keep(left);
+    show_made(page, stage, &words)
+}
+
+/// `same WORDS`: whether they leave the same as the last `run`, and else what they leave.
+pub(crate) fn same(page: &mut String, stage: &mut Stage, line: &str) -> Result<(), Stop> {
+    let words = words_of(stage.alloc, line)?;
+    let left = stage.outcome(&words)?;
+    if left.is_same(stage.left()?) {
+        writeln!(page, "same")?;
+    } else {
+        show_left(page, stage.alloc, &left)?;
+    }
+    show_made(page, stage, &words)
+}
+
+// How many lines begin with a word.
+fn count_lines(text: &[u8], word: &[u8]) -> usize {
+    text.split(|byte| *byte == b'\n')
+        .filter(|line| line.starts_with(word))
+        .count()
+}
+
+/// `brief WORDS`: what they leave, of out no more than how many answers of each kind there are, and how many bytes.
+pub(crate) fn brief(page: &mut String, stage: &mut Stage, line: &str) -> Result<(), Stop> {
+    let words = words_of(stage.alloc, line)?;
+    let left = stage.outcome(&words)?;
+    let out = left.out.bytes();
+    let corners = count_lines(out, b"corner");
+    let borders = count_lines(out, b"border");
+    let faces = count_lines(out, b"face");
+    let length = out.len();
+    writeln!(
+        page,
+        "| {corners} corners, {borders} borders, {faces} faces, {length} bytes"
+    )?;
+    show(page, stage.alloc, "!", left.notes.bytes())?;
+    let status = left.status;
+    writeln!(page, "status {status}")?;
+    stage.keep(left);
+    show_made(page, stage, &words)
+}
+
+/// `copies NAME COUNT`: whether out of the last run is so many times the bytes of a file.
+pub(crate) fn copies(page: &mut String, stage: &Stage, line: &str) -> Result<(), Stop> {
+    let (name, count) = cut(line);
+    let part = stage.bytes(name)?;
+    if part.is_empty() {
+        return Err(Stop::NoStep);
+    }
+    let out = stage.left()?.out.bytes();
+    let all_same = out.chunks(part.len()).all(|chunk| chunk == part);
+    let found = out.chunks(part.len()).count();
+    writeln!(page, "{found} copies of {count}: {all_same}")?;
+    Ok(())
+}

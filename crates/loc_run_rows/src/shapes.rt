@@ -1,0 +1,76 @@
+//! Steps of a row that make layers and points by a rule.
+
+ghost use Rattle.std.specs.Prelude.{◌<◌, ◌^◌};
+
+use crate::making::{cut, number};
+use crate::stage::Stage;
+use crate::stop::Stop;
+use std::alloc::AllocError;
+
+// A polygon from a corner to the opposite one, a line.
+fn put_rectangle(text: &mut String, low: (u64, u64), high: (u64, u64)) -> Result<(), AllocError> {
+    let (a, c) = low;
+    let (b, d) = high;
+    writeln!(
+        text,
+        "POLYGON (({a} {c}, {b} {c}, {b} {d}, {a} {d}, {a} {c}))"
+    )
+}
+
+// So many squares, one in another.
+fn put_nested(text: &mut String, count: u64) -> Result<(), AllocError>
+    requires { count < 2 ^ 32 }
+{
+    for i in 0..count {
+        let far = 4 * count - i;
+        put_rectangle(text, (i, i), (far, far))?;
+    }
+    Ok(())
+}
+
+// So many squares apart from each other, four in a column.
+fn put_squares(text: &mut String, count: u64) -> Result<(), AllocError> {
+    for n in 0..count {
+        let (x, y) = (3 * (n / 4), 3 * (n % 4));
+        put_rectangle(text, (x, y), (x + 2, y + 2))?;
+    }
+    Ok(())
+}
+
+// The points that are asked of a generated layer of this size and shift, as docs/FORMATS.md has them.
+fn put_points(text: &mut String, count: u64, shift: u64) -> Result<(), AllocError>
+    requires count { count < 2 ^ 32 }
+    requires shift { shift < 2 ^ 32 }
+{
+    for t in 0..count {
+        let x = shift + t * 40503 % (4 * count);
+        let y = t * 25173 % (2 * count);
+        writeln!(text, "{x} {y}")?;
+    }
+    Ok(())
+}
+
+// The 81 points from -1 -3 to 7 5.
+fn put_grid(text: &mut String) -> Result<(), AllocError> {
+    for n in 0..81i32 {
+        let (x, y) = (n / 9 - 1, n % 9 - 3);
+        writeln!(text, "{x} {y}")?;
+    }
+    Ok(())
+}
+
+/// Makes a file by a step: `nested NAME COUNT` and `squares NAME COUNT` a layer, `points NAME COUNT SHIFT` and `grid NAME` points.
+pub(crate) fn shape(stage: &mut Stage, verb: &str, rest: &str) -> Result<(), Stop> {
+    let (name, rest) = cut(rest);
+    let (count, shift) = cut(rest);
+    let mut text = String::new(stage.alloc);
+    match verb {
+        "nested" => put_nested(&mut text, number(count)?)?,
+        "squares" => put_squares(&mut text, number(count)?)?,
+        "points" => put_points(&mut text, number(count)?, number(shift)?)?,
+        "grid" => put_grid(&mut text)?,
+        _ => return Err(Stop::NoStep),
+    }
+    stage.put(name, text.as_bytes())?;
+    Ok(())
+}

@@ -1,0 +1,125 @@
+//! Several runs over the same files that are to agree.
+
+use crate::making::number;
+use crate::playing::{run, same};
+use crate::runs::words_of;
+use crate::stage::Stage;
+use crate::stop::Stop;
+use std::alloc::{AllocError, Global};
+
+// Whether a step of a trip shows what its words leave, or whether that is the same as what the last shown ones left; the words before the scale
+// and the form of the layer, and those behind.
+type Step = (bool, &'static str, &'static str);
+
+// A layer is built and queried by each index; its index is asked and judged, and the layer is checked.
+static TRIP: [Step; 7] = [
+    (true, "build layer index --scale", ""),
+    (true, "query layer points --scale", " --index scan"),
+    (false, "query layer points --scale", " --index tree"),
+    (false, "query layer points --scale", " --index trap"),
+    (false, "ask index points", ""),
+    (true, "verify index", ""),
+    (true, "check layer --scale", ""),
+];
+
+// A layer is refused by each command in the same way, and no index is made of it.
+static REFUSED: [Step; 6] = [
+    (true, "query layer points --scale", " --index scan"),
+    (false, "query layer points --scale", " --index tree"),
+    (false, "query layer points --scale", " --index trap"),
+    (false, "build layer index --scale", ""),
+    (false, "check layer --scale", ""),
+    (false, "face layer 1\\s1 --scale", ""),
+];
+
+// Plays the steps of a trip, for a layer by its scale and what stands behind it.
+fn play_steps(
+    page: &mut String,
+    stage: &mut Stage,
+    steps: &[Step],
+    given: &str,
+) -> Result<(), Stop> {
+    for (is_shown, front, back) in steps {
+        let line = if front.ends_with("--scale") {
+            format!(in stage.alloc; "{front} {given}{back}")?
+        } else {
+            String::from_str(stage.alloc, front)?
+        };
+        writeln!(page, "  {line}")?;
+        if *is_shown {
+            run(page, stage, line.as_str())?;
+        } else {
+            same(page, stage, line.as_str())?;
+        }
+    }
+    Ok(())
+}
+
+/// `trip SCALE ..`: the files `layer` and `points` at a scale, and in a form where one is named.
+pub(crate) fn trip(page: &mut String, stage: &mut Stage, given: &str) -> Result<(), Stop> {
+    play_steps(page, stage, &TRIP, given)
+}
+
+/// `refused SCALE ..`: the same for a layer that is refused.
+pub(crate) fn refused(page: &mut String, stage: &mut Stage, given: &str) -> Result<(), Stop> {
+    play_steps(page, stage, &REFUSED, given)
+}
+
+// The text of an order of so many edges, by its number among all of them.
+fn order_text(alloc: Global, edges: u32, number: u32) -> Result<String, AllocError> {
+    let mut order = Vec::new(alloc);
+    let mut rest = number;
+    for edge in 0..edges {
+        let at = (rest % (edge + 1)) as usize;
+        order.insert(at.min(order.len()), edge)?;
+        rest /= edge + 1;
+    }
+    let mut text = String::new(alloc);
+    for edge in &order {
+        writeln!(text, "{edge}")?;
+    }
+    Ok(text)
+}
+
+// The words of a query by trapezoids in an order.
+const BY_ORDER: &str = "query layer points --scale 0 --index trap --order order";
+
+// The words of a query by trapezoids in an order that is shuffled.
+const BY_SHUFFLE: &str = "query layer points --scale 0 --index trap --shuffle";
+
+/// `orders EDGES COUNT`: how many of the orders of so many edges give the same answers as the last run.
+pub(crate) fn orders(
+    page: &mut String,
+    stage: &mut Stage,
+    edges: &str,
+    count: &str,
+) -> Result<(), Stop> {
+    let edges = number(edges)? as u32;
+    let words = words_of(stage.alloc, BY_ORDER)?;
+    let mut same = 0u64;
+    for n in 0..number(count)? {
+        let order = order_text(stage.alloc, edges, n as u32)?;
+        stage.put("order", order.as_bytes())?;
+        let left = stage.outcome(&words)?;
+        if left.is_same(stage.left()?) {
+            same = same.saturating_add(1);
+        }
+    }
+    writeln!(page, "{same} of {count} orders: the same")?;
+    Ok(())
+}
+
+/// `shuffles COUNT`: how many of the first shuffles give the same answers as the last run.
+pub(crate) fn shuffles(page: &mut String, stage: &mut Stage, count: &str) -> Result<(), Stop> {
+    let mut same = 0u64;
+    for n in 0..number(count)? {
+        let line = format!(in stage.alloc; "{BY_SHUFFLE} {n}")?;
+        let words = words_of(stage.alloc, line.as_str())?;
+        let left = stage.outcome(&words)?;
+        if left.is_same(stage.left()?) {
+            same = same.saturating_add(1);
+        }
+    }
+    writeln!(page, "{same} of {count} shuffles: the same")?;
+    Ok(())
+}
