@@ -12,6 +12,9 @@ if TYPE_CHECKING:
 LINE = re.compile(rb'(corner|border|face)(?: (\d+))?(?: on((?: "(?:[^"]|"")*")*))? in((?: "(?:[^"]|"")*")*)')
 ID = re.compile(rb'"((?:[^"]|"")*)"')
 
+# The front of the most frequent line, of a point within one polygon.
+WITHIN_ONE = b'face in "'
+
 
 class Answer(NamedTuple):
     """Where a point lies.
@@ -56,6 +59,8 @@ def parse_answer(line: bytes) -> Answer:
     """
     if line == b"unread":
         return UNREAD
+    if line.startswith(WITHIN_ONE) and line.count(b'"') == 2:
+        return Answer("face", None, (), (line[len(WITHIN_ONE):-1].decode(),))
     found = LINE.fullmatch(line)
     if not found:
         raise LocateError(f"an answer that cannot be read, as where an id holds a line end: {line.decode(errors='replace')}")
@@ -79,5 +84,7 @@ class Known(Dict[bytes, int]):
         """The numbers of all lines, in order."""
         found: List[int] = []
         for piece in pieces:
-            found += map(self.__getitem__, piece.split(b"\n")[:-1])
+            lines = piece.split(b"\n")
+            lines.pop()
+            found += map(self.__getitem__, lines)
         return found

@@ -70,14 +70,20 @@ class Unread(LocateError, ValueError):
         self.index, self.point, self.count = index, point, count
 
 
+BY_THE_FRONT = re.compile(r"(?:planar-)?locate: ")
 BY_STATUS = {1: Refused, 2: BadWords, 3: ReadFailed, 4: WriteFailed, 5: NoMemory}
 
 
-def error_of(status: int, note: str, name: str) -> LocateError:
-    """The error for a run that ended with this status and note; `name` is the file that it was about."""
+def error_of(status: int, notes: str, name: str) -> LocateError:
+    """The error for a run that ended with this status and these notes; `name` is the file that it was about.
+
+    The script and the installed command write lines of their own beside the note, which begin with their names.
+    """
     if status < 0:
-        return NoMemory(f"the program was killed by signal {-status}", status, note)
-    if status == 2:
-        note = note.split("\n")[0]
+        return NoMemory(f"the program was killed by signal {-status}", status, notes)
+    lines = notes.split("\n")
+    own = [line for line in lines if not BY_THE_FRONT.match(line)]
+    front = [BY_THE_FRONT.sub("", line) for line in lines if BY_THE_FRONT.match(line)]
+    note = (front or lines)[0] if status == 2 else (own or lines)[0]
     kind = BY_STATUS.get(status, LocateError)
     return kind(f"{name}: {note or f'the program ended with status {status}'}", status, note)

@@ -84,7 +84,7 @@ class Asked:
             TypeError: a point is no pair of numbers.
         """
         known, codes = self._codes(points, round, errors)
-        return [known.answers[code] for code in codes]
+        return list(map(known.answers.__getitem__, codes))
 
     def ask_arrays(self, x: Any, y: Any, *, round: bool = False, errors: str = "raise") -> AnswerArrays:
         """Where each point lies, by arrays: for millions of points.

@@ -4,10 +4,10 @@ from __future__ import annotations
 import os
 import shutil
 import subprocess
-import sys
 import threading
+from functools import lru_cache
 from pathlib import Path
-from typing import Iterator, List, Optional, Sequence
+from typing import IO, Iterator, Optional, Sequence
 
 from ._errors import ProgramNotFound, error_of
 
@@ -15,14 +15,14 @@ COMMAND = "planar-locate"
 SCRIPT = Path(__file__).resolve().parents[2] / "locate"
 # The points text of one run has at most so many bytes.
 LONGEST_POINTS = 2 ** 28
-# The lines with which the script of the repository says how far it is where it builds the program first.
-SAID_BY_SCRIPT = b"locate: "
 CHUNK = 2 ** 20
+# Linux's number for making a pipe wider, which spares waiting; Python 3.9 has no name for it.
+SET_PIPE_SIZE = 1031
 
 
 def find_program() -> str:
-    """The name of the program: what the environment variable LOCATE names; else the script `locate` of the repository in which this
-    package stands; else the command `planar-locate` on the PATH.
+    """The name of the program: what the environment variable LOCATE names; else what the script `locate` runs, of the repository in which
+    this package stands; else the command `planar-locate` on the PATH.
 
     Raises:
         ProgramNotFound: there is none of these.
@@ -33,31 +33,37 @@ def find_program() -> str:
             raise ProgramNotFound(f"the environment variable LOCATE names {named}, which is no program")
         return named
     if SCRIPT.is_file() and os.access(SCRIPT, os.X_OK):
-        return str(SCRIPT)
+        return program_of(str(SCRIPT))
     found = shutil.which(COMMAND)
     if not found:
         raise ProgramNotFound(f"the program is not found: set LOCATE to its name, or put {COMMAND} on the PATH")
     return found
 
 
+@lru_cache(maxsize=None)
+def program_of(script: str) -> str:
+    """The program that the script runs. It is built first where it must be, and the script says on standard error how far that is."""
+    done = subprocess.run([script, "--program"], stdin=subprocess.DEVNULL, stdout=subprocess.PIPE, text=True)
+    name = done.stdout.strip()
+    if done.returncode or not name:
+        raise ProgramNotFound(f"{script} has no program to run")
+    return name
+
+
 class Notes:
     """The standard error of a process, collected while it runs."""
 
     def __init__(self, process: "subprocess.Popen[bytes]"):
-        self._lines: List[bytes] = []
+        self._text = b""
         self._thread = threading.Thread(target=self._collect, args=[process.stderr], daemon=True)
         self._thread.start()
 
-    def _collect(self, stream: Iterator[bytes]) -> None:
-        for line in stream:
-            if line.startswith(SAID_BY_SCRIPT):
-                sys.stderr.write(line.decode(errors="replace"))
-            else:
-                self._lines.append(line)
+    def _collect(self, stream: IO[bytes]) -> None:
+        self._text = stream.read()
 
     def text(self) -> str:
         self._thread.join()
-        return b"".join(self._lines).decode("utf-8", "replace").rstrip("\n")
+        return self._text.decode("utf-8", "replace").rstrip("\n")
 
 
 def start(words: Sequence[object], stdin: int) -> "subprocess.Popen[bytes]":
@@ -77,6 +83,15 @@ def run(words: Sequence[object], name: str) -> str:
     if process.returncode:
         raise error_of(process.returncode, notes.text(), name)
     return output.decode()
+
+
+def widen(pipe: IO[bytes]) -> None:
+    """Lets a pipe hold a megabyte, where the system can."""
+    try:
+        import fcntl
+        fcntl.fcntl(pipe, SET_PIPE_SIZE, CHUNK)
+    except (ImportError, OSError):
+        pass
 
 
 class Blocks:
@@ -124,9 +139,11 @@ def run_points(words: Sequence[object], blocks: Blocks, name: str) -> Iterator[b
 def run_once(words: Sequence[object], blocks: Blocks, name: str) -> Iterator[bytes]:
     process = start(words, subprocess.PIPE)
     notes = Notes(process)
+    assert process.stdin and process.stdout
+    widen(process.stdin)
+    widen(process.stdout)
     feeder = threading.Thread(target=blocks.feed, args=[process], daemon=True)
     feeder.start()
-    assert process.stdout
     ended = False
     try:
         rest = b""
