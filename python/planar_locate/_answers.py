@@ -1,6 +1,7 @@
 """Answer lines as objects."""
 from __future__ import annotations
 
+import gc
 import re
 from typing import TYPE_CHECKING, Dict, Iterable, List, NamedTuple, Optional, Tuple
 
@@ -81,10 +82,16 @@ class Known(Dict[bytes, int]):
         return self[line]
 
     def take(self, pieces: Iterable[bytes]) -> List[int]:
-        """The numbers of all lines, in order."""
+        """The numbers of all lines, in order. The collector of garbage rests meanwhile: of many answers none is garbage."""
         found: List[int] = []
-        for piece in pieces:
-            lines = piece.split(b"\n")
-            lines.pop()
-            found += map(self.__getitem__, lines)
+        is_collecting = gc.isenabled()
+        gc.disable()
+        try:
+            for piece in pieces:
+                lines = piece.split(b"\n")
+                lines.pop()
+                found += map(self.__getitem__, lines)
+        finally:
+            if is_collecting:
+                gc.enable()
         return found

@@ -32,12 +32,17 @@ def find_program() -> str:
         if not shutil.which(named):
             raise ProgramNotFound(f"the environment variable LOCATE names {named}, which is no program")
         return named
-    if SCRIPT.is_file() and os.access(SCRIPT, os.X_OK):
+    if stands_in_repository() and os.access(SCRIPT, os.X_OK):
         return program_of(str(SCRIPT))
     found = shutil.which(COMMAND)
     if not found:
         raise ProgramNotFound(f"the program is not found: set LOCATE to its name, or put {COMMAND} on the PATH")
     return found
+
+
+def stands_in_repository() -> bool:
+    """Whether the package stands in the folder python of the repository, and not where packages are installed."""
+    return SCRIPT.is_file() and (SCRIPT.parent / "crates.txt").is_file() and (SCRIPT.parent / "python" / "pyproject.toml").is_file()
 
 
 @lru_cache(maxsize=None)
