@@ -1,3 +1,4 @@
+# shellcheck shell=bash
 # Completion of planar-locate for bash.
 _planar_locate() {
     local word=${COMP_WORDS[COMP_CWORD]} before=${COMP_WORDS[COMP_CWORD - 1]} command=${COMP_WORDS[1]-} options

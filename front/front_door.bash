@@ -1,4 +1,4 @@
-# shellcheck shell=bash
+# shellcheck shell=bash disable=SC2154,SC2086,SC2013
 # The front door of the program: help, `-` for standard input, the word that is the trouble, the file that could not be read, and how far a
 # long run is. It changes no answer and no status. It is read by a script that sets
 #   program   the path of the program

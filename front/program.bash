@@ -1,4 +1,4 @@
-# shellcheck shell=bash
+# shellcheck shell=bash disable=SC2154,SC2034
 # Which program ./locate runs, and how it is built. It is read by scripts that set `top`, the top of the repository.
 
 built=$top/crates/locate/out/locate
