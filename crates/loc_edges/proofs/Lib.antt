@@ -6,7 +6,6 @@ pub mod Layers
 pub mod EdgeRows
 pub mod MarkRows
 pub mod Ordered
-pub mod Orders
 pub mod PartRows
 pub mod Places
 pub mod Counts

@@ -13,6 +13,6 @@ mod steps;
 pub use edges::Edge;
 pub use kinds::{Meeting, Side};
 pub use meetings::{conflict, lower};
-pub use points::Point;
-pub use predicates::{on, side};
+pub use points::{Point, is_before};
+pub use predicates::{on, side, side_number};
 pub use steps::Steps;

@@ -57,8 +57,8 @@ impl Point {
     }
 }
 
-// Whether p comes before q: by x, then by y.
-pub(crate) fn is_before(p: Point, q: Point) -> bool
+/// Whether p comes before q: by x, then by y.
+pub fn is_before(p: Point, q: Point) -> bool
     ensures { result ≡ before p q }
 {
     p.x() < q.x() || (p.x() == q.x() && p.y() < q.y())

@@ -45,8 +45,8 @@ fn turn_number(l: Point, h: Point, p: Point) -> i128
     up - down
 }
 
-// The turn of p against the edge, whose sign is the side.
-fn side_number(edge: Edge, p: Point) -> i128
+/// The turn of p against the edge: how far p is to the left of its way. Its sign is the side.
+pub fn side_number(edge: Edge, p: Point) -> i128
     ensures { result ≡ turn edge.lo edge.hi p }
 {
     turn_number(edge.lo(), edge.hi(), p)

@@ -13,7 +13,7 @@ use Rattle.loc_laws_order.proofs.Kept.{rising_kept}
 use Rattle.loc_laws_order.proofs.TableOrder.{rises}
 use Rattle.loc_laws_noding.proofs.Lines.{from_to}
 use Rattle.loc_laws_noding.proofs.Orders.{points_by_before}
-use Rattle.loc_laws_noding.proofs.SortedSet.{any-sorted_set, is-sorted_set, rising-sorted_set}
+use Rattle.loc_laws_noding.proofs.SortedSet.{any-sorted_set, is-sorted_set, rising-sorted_set, same-sorted_set}
 
 -- one point more is one edge more
 one_more : (ps : List Point) (i : ℕ) (d : Point) → suc i < length ps → neighbour_edges (take (suc (suc i)) ps) ≡ neighbour_edges (take (suc i) ps) ++ from_to (get_or ps i d) (get_or ps (suc i) d) ∷ []
@@ -72,3 +72,7 @@ kept_sorted keeps ps = sym (is-sorted_set points_by_before (filter keeps ps) (fi
 -- points in another order have one sorted set, which is those in order
 pub moved_sorted : (corners points : List Point) → is_rising before corners ≡ true → IsPermutation corners points → sorted_set before points ≡ corners
 moved_sorted corners points rise moved = sym (is-sorted_set points_by_before points corners rise (λ test. list_any-IsPermutation test corners points moved))
+
+-- points and the same points in another order have one sorted set
+pub same_sorted : (ps qs : List Point) → IsPermutation ps qs → sorted_set before qs ≡ sorted_set before ps
+same_sorted ps qs moved = same-sorted_set points_by_before qs ps (λ test. sym (list_any-IsPermutation test ps qs moved))

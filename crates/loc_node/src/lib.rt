@@ -6,10 +6,12 @@ mod bounds;
 mod curve;
 mod fault;
 mod finder;
+mod guides;
 mod noding;
 mod pieces;
 mod runs;
 mod search;
+mod ways;
 
 pub use fault::NodeFault;
 pub use noding::node;

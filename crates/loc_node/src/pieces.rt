@@ -11,6 +11,7 @@ ghost use Rattle.loc_node.specs.Pieces.{IsRefused, cut_tagged, most_pieces};
 
 use crate::fault::NodeFault;
 use crate::finder::Finder;
+use crate::guides::guides;
 use loc_geom::{Edge, Point};
 use std::alloc::{AllocError, Global};
 
@@ -49,7 +50,7 @@ fn add_pieces(
 }
 
 // Whether the segment at place n is the edge that the one before it is.
-fn is_again(tagged: &[(Edge, usize)], n: usize) -> bool
+pub(crate) fn is_again(tagged: &[(Edge, usize)], n: usize) -> bool
     requires in_range { n < length tagged.now }
     ensures { result ≡ true → (0 < n) × ((d : EdgeOf × ℕ) → (slice_index_or tagged.now n d).0 ≡ (slice_index_or tagged.now (n - 1) d).0) }
 {
@@ -108,7 +109,8 @@ pub(crate) fn sorted_pieces(
     ensures few { IfOk result (λ pieces. length pieces.items ≤ most_pieces) }
     ensures refused { IfErr result (IsRefused (length (cut_tagged (cut_at corners.now) tagged.items))) }
 {
-    let finder = Finder::make(alloc, corners)?;
+    let guides = guides(alloc, corners, &tagged)?;
+    let finder = Finder::make(alloc, corners, &guides)?;
     let mut pieces = cut_all(alloc, &finder, &tagged)?;
     pieces.sort_unstable();
     Ok(pieces)

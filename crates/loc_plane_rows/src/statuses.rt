@@ -6,7 +6,7 @@ ghost use Rattle.loc_spec_plane.specs.Tables.{corner as corner_of, edge as edge_
 ghost use Rattle.loc_spec_plane.specs.Places.{alive, lower_of};
 ghost use Rattle.loc_status.specs.Lists.{is_chain_at};
 
-use crate::samples::{SMALL_BESIDE, SMALL_SQUARE, layer_of};
+use crate::samples::{BESIDE, SQUARE, layer_of};
 use loc_edges::EdgeTable;
 use loc_geom::{Meeting, conflict, lower};
 use loc_status::{InsertFault, Status, VecStatus};
@@ -161,7 +161,7 @@ fn perform(table: &EdgeTable, status: &mut VecStatus, call: Call) -> Result<Answ
 
 #[test]
 fn status_by_hand(rt: HostRuntime) -> Result<(), Fail> {
-    let layer = layer_of(rt.alloc(), &[&[SMALL_BESIDE], &[SMALL_SQUARE]])?;
+    let layer = layer_of(rt.alloc(), &[BESIDE, SQUARE])?;
     let table = EdgeTable::make(rt.alloc(), &layer)?;
     let mut status = VecStatus::new(rt.alloc());
     for row in &ROWS {

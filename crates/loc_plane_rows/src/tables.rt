@@ -2,9 +2,7 @@
 
 ghost use Rattle.std.specs.Prelude.{◌≡◌, ◌<◌, length};
 
-use crate::samples::{
-    BACK, Features, SMALL_BESIDE, SMALL_BOW_TIE, SMALL_SQUARE, layer_of, point_of,
-};
+use crate::samples::{BACK, BESIDE, Features, SQUARE, layer_of, point_of};
 use loc_edges::{EdgeTable, Floors, Mark, Placing, Ranks, corners_between, edges};
 use loc_geom::{Edge, Point, Side, Steps};
 use std::alloc::Global;
@@ -26,18 +24,18 @@ type Row = (Features, &'static [(i64, i64)], &'static [(usize, usize)]);
 static ROWS: [Row; 5] = [
     (&[], &[], &[]),
     (
-        &[&[SMALL_SQUARE], &[SMALL_SQUARE]],
+        &[SQUARE, SQUARE],
         &[(0, 0), (0, 4), (4, 0), (4, 4)],
         &[(0, 1), (0, 2), (1, 3), (2, 3)],
     ),
-    (&[&[BACK]], &[(0, 0), (4, -1)], &[(0, 1)]),
+    (&[BACK], &[(0, 0), (4, -1)], &[(0, 1)]),
     (
-        &[&[SMALL_BOW_TIE]],
+        &[b"POLYGON ((0 0, 4 4, 4 0, 0 4, 0 0))"],
         &[(0, 0), (0, 4), (4, 0), (4, 4)],
         &[(0, 1), (0, 3), (1, 2), (2, 3)],
     ),
     (
-        &[&[SMALL_BESIDE], &[SMALL_SQUARE]],
+        &[BESIDE, SQUARE],
         &[(0, 0), (0, 4), (4, 0), (4, 2), (4, 4), (6, 0), (6, 2)],
         &[(0, 1), (0, 2), (1, 4), (2, 3), (2, 4), (2, 5), (3, 6), (5, 6)],
     ),
@@ -141,7 +139,7 @@ fn expect_edges(rt: &impl Abort, table: &EdgeTable) {
 
 #[test]
 fn edge_table_by_hand(rt: HostRuntime) -> Result<(), Fail> {
-    let layer = layer_of(rt.alloc(), &[&[SMALL_SQUARE], &[BACK], &[SMALL_SQUARE]])?;
+    let layer = layer_of(rt.alloc(), &[SQUARE, BACK, SQUARE])?;
     let table = EdgeTable::make(rt.alloc(), &layer)?;
     expect_corners(&rt, &table);
     expect_edges(&rt, &table);
@@ -226,7 +224,7 @@ fn expect_views<L: Ledger>(rt: &impl Abort, table: &EdgeTable, row: Against, bla
 
 #[test]
 fn views_and_ranks_by_hand(rt: HostRuntime) -> Result<(), Fail> {
-    let layer = layer_of(rt.alloc(), &[&[SMALL_BESIDE], &[SMALL_SQUARE]])?;
+    let layer = layer_of(rt.alloc(), &[BESIDE, SQUARE])?;
     let table = EdgeTable::make(rt.alloc(), &layer)?;
     assert_eq!(rt; table.views::<Brand>().corner_count(), 7);
     for row in &AGAINST {

@@ -11,14 +11,14 @@ use Rattle.loc_node.proofs.pieces.sorted_pieces.Goals.{After-drop-tagged-2}
 
 -- the pieces before they are sorted
 cut : (c : After-drop-tagged-2) → c.in_ok-pieces.pieces.items ≡ cut_tagged (cut_at c.args.corners.now) c.args.tagged.items
-cut c = c.in_ok-pieces.ensures.ok ∙ (ap (λ cs. cut_tagged (cut_at cs) c.deref.result.now) c.in_ok-finder.ensures ∙ ap (cut_tagged (cut_at c.args.corners.now)) c.deref.ensures.value)
+cut c = c.in_ok-pieces.ensures.ok ∙ (ap (λ cs. cut_tagged (cut_at cs) c.deref-3.result.now) c.in_ok-finder.ensures ∙ ap (cut_tagged (cut_at c.args.corners.now)) c.deref-3.ensures.value)
 
 moved : (c : After-drop-tagged-2) → IsPermutation (cut_tagged (cut_at c.args.corners.now) c.args.tagged.items) c.sort_unstable.new.self.items
 moved c = subst (λ ts. IsPermutation ts c.sort_unstable.new.self.items) (cut c) c.sort_unstable.ensures.permutation
 
 pub returns-in_err-pieces-clause-refused : goal.returns-in_err-pieces-clause-refused
 returns-in_err-pieces-clause-refused c =
-    let all = ap (λ cs. length (cut_tagged (cut_at cs) c.deref.result.now)) c.in_ok-finder.ensures ∙ ap (λ ts. length (cut_tagged (cut_at c.args.corners.now) ts)) c.deref.ensures.value in
+    let all = ap (λ cs. length (cut_tagged (cut_at cs) c.deref-3.result.now)) c.in_ok-finder.ensures ∙ ap (λ ts. length (cut_tagged (cut_at c.args.corners.now) ts)) c.deref-3.ensures.value in
     let count = length (cut_tagged (cut_at c.args.corners.now) c.args.tagged.items) in
     shown _ (IsRefused count) c.from_residual-in_err-pieces.result (λ fault is. subst (IsRefused count) (sym is) (subst (λ n. IsRefused n c.in_err-pieces.field-0.0) all c.in_err-pieces.ensures.refused)) c.from_residual-in_err-pieces.ensures.1
 

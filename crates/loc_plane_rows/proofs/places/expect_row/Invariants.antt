@@ -1,4 +1,4 @@
-use Rattle.loc_plane_rows.proofs.places.expect_by_tree.Given as goal
+use Rattle.loc_plane_rows.proofs.places.expect_row.Given as goal
 
 abbrev pub ghosts-expect : goal.ghosts-expect
 ghosts-expect g a = record { name = a.blank.name; parts = a.blank.parts }
