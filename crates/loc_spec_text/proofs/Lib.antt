@@ -1,6 +1,7 @@
 pub mod Examples
 pub mod ReadingExamples
 pub mod PointExamples
+pub mod SpanRows
 pub mod ReaderLaws
 pub mod LineLaws
 pub mod NumberLaws

@@ -4,5 +4,6 @@ pub mod Number
 pub mod Geometry
 pub mod Reader
 pub mod Reading
+pub mod Spans
 pub mod Points
 pub mod Tokens
