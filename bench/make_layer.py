@@ -8,7 +8,9 @@ strips  for i from 0 to N-1, with h = (s + i*40503) mod 65536: a, c = h, 2i and 
 quads   a jittered grid of N by N quadrilaterals that share their corners; SHIFT seeds the jitter
 cells   the same in degrees of 7 decimals, at which the midpoint of each edge can be written
 near    cells, with other points
-Point t, for t from 0 to N-1, is (s + (t*40503) mod 4N, (t*25173) mod 2N); those of the last three kinds are drawn, 1000 of them.
+joints  quads, of which each fourth has a corner more, in the middle of the side that it shares with the quadrilateral below
+long    strips, and a triangle with a corner on the long side of the first
+Point t, for t from 0 to N-1, is (s + (t*40503) mod 4N, (t*25173) mod 2N); those of quads, cells, near and joints are drawn, 1000 of them.
 With COUNT so many points are drawn, from the box of the layer. Of each four points of near the first is drawn from the box, and the others
 are a corner, the midpoint of an edge, and a point one unit above or below a midpoint.
 """
@@ -53,6 +55,19 @@ def quads(n, s):
     return quadrilaterals(net(n, s, 0, 0, 100, 1))
 
 
+def joints(n, s):
+    # all coordinates are even, so that each side has a middle
+    at = net(n, s, 0, 0, 100, 2)
+    for k, (a, b, c, d) in enumerate(quadrilaterals(at)):
+        middle = ((a[0] + b[0]) // 2, (a[1] + b[1]) // 2)
+        yield [a, middle, b, c, d] if (k // n + k) % 4 == 0 else [a, b, c, d]
+
+
+def long(n, s):
+    yield from strips(n, s)
+    yield [(100_000, 0), (100_001, -5), (100_002, -5)]
+
+
 def degrees(n, s):
     return net(n, s, 130_000_000, 520_000_000, 100_000, 2)
 
@@ -63,6 +78,7 @@ def cells(n, s):
 
 def size(kind, n, s):
     sizes = {"grid": (s, 0, n, n), "nest": (s, 0, 4 * n, 4 * n), "strips": (0, 0, 265536, 2 * n), "quads": (0, 0, 100 * n, 100 * n)}
+    sizes["joints"], sizes["long"] = sizes["quads"], sizes["strips"]
     return sizes.get(kind, (130_000_000, 520_000_000, 100_000 * n, 100_000 * n))
 
 
@@ -84,7 +100,7 @@ def near(n, s, count):
 def points(kind, n, s, count):
     if kind == "near":
         return near(n, s, count or 1000)
-    if count or kind in ("quads", "cells"):
+    if count or kind in ("quads", "cells", "joints"):
         return anywhere(kind, n, s, count or 1000)
     return ((s + t * 40503 % (4 * n), t * 25173 % (2 * n)) for t in range(n))
 
@@ -96,7 +112,7 @@ def number(value, decimals):
 def main():
     kind, n, s, layer, lines = sys.argv[1], int(sys.argv[2]), int(sys.argv[3]) % 65536, sys.argv[4], sys.argv[5]
     count = int(sys.argv[6]) if len(sys.argv) > 6 else None
-    make = {"grid": grid, "nest": nest, "strips": strips, "quads": quads, "cells": cells, "near": cells}[kind]
+    make = {"grid": grid, "nest": nest, "strips": strips, "quads": quads, "cells": cells, "near": cells, "joints": joints, "long": long}[kind]
     decimals = DEGREES.get(kind, 0)
 
     def text(point):
