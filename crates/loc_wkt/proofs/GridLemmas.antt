@@ -33,11 +33,8 @@ number_digits text h =
     record { whole = ds.0; fraction = ds.1; exponent = exponent_digits (unsigned text) (has_exponent text) refl parts.1 }
 
 -- they are no longer than the text
-before-le : (p : ℕ → Bool) (xs : List ℕ) → length (before_first p xs) ≤ length xs
-before-le p xs = omega (arith, length-take (position_or_len p xs) xs)
-
-after-le : (p : ℕ → Bool) (xs : List ℕ) → length (after_first p xs) ≤ length xs
-after-le p xs = omega (arith, length-drop (position_or_len p xs + 1) xs)
+parted-le : (p : ℕ → Bool) (xs : List ℕ) → length (before_first p xs) + length (after_first p xs) ≤ length xs
+parted-le p xs = omega (arith, length-take (position_or_len p xs) xs, length-drop (position_or_len p xs + 1) xs)
 
 unsigned-le : (text : List ℕ) → length (unsigned text) ≤ length text
 unsigned-le [] = omega arith
@@ -47,12 +44,11 @@ unsigned-le (b ∷ text) = go (is_sign b)
     go true = omega arith
     go false = omega arith
 
-pub digits_short : (text : List ℕ) → (length (whole_digits text) ≤ length text) × (length (fraction_digits text) ≤ length text)
+pub digits_short : (text : List ℕ) → length (whole_digits text) + length (fraction_digits text) ≤ length text
 digits_short text = let u = unsigned-le text in
-    let m = before-le is_exponent_mark (unsigned text) in
-    let w = before-le is_point (before_first is_exponent_mark (unsigned text)) in
-    let f = after-le is_point (before_first is_exponent_mark (unsigned text)) in
-    (omega (arith, u, m, w), omega (arith, u, m, f))
+    let m = parted-le is_exponent_mark (unsigned text) in
+    let w = parted-le is_point (before_first is_exponent_mark (unsigned text)) in
+    omega (arith, u, m, w)
 
 -- an exponent raises or lowers
 one_way : (text : List ℕ) → (raised text ≡ 0) ⊎ (lowered text ≡ 0)
@@ -63,7 +59,7 @@ one_way text = go (is_negative (exponent text)) (digits_value 10 (unsigned (expo
     go false n = inr refl
 
 -- What is kept of an exponent decides, since there are fewer digits than it counts: over plain numbers.
-module _ (R L r l z f s : ℕ) (raises : r ≡ min R (2 ^ 40)) (lowers : l ≡ min L (2 ^ 40)) (zeros : z ≤ 2 ^ 29) (places : f ≤ 2 ^ 28) (scale : s ≤ 15) where
+module _ (R L r l z f s : ℕ) (raises : r ≡ min R (2 ^ 66)) (lowers : l ≡ min L (2 ^ 66)) (zeros : z < 2 ^ 64) (places : f < 2 ^ 64) (scale : s ≤ 15) where
   below : (R ≡ 0) ⊎ (L ≡ 0) → (z + r) + s < l + f → (R + s) + z < L + f
   below (inl h) k = omega (arith, raises, lowers, zeros, places, scale, h, k)
   below (inr h) k = omega (arith, raises, lowers, zeros, places, scale, h, k)
@@ -95,8 +91,8 @@ signed_zero true = refl
 signed_zero false = refl
 
 module _ (scale : ℕ) (text : List ℕ) (d : Decimal) (kept : IsDecimal d text) (small : scale ≤ 15) where
-  fits : length (fraction_digits text) ≤ 2 ^ 28
-  fits = subst (λ n. n ≤ 2 ^ 28) kept.fraction kept.places
+  fits : length (fraction_digits text) < 2 ^ 64
+  fits = subst (λ n. n < 2 ^ 64) kept.fraction kept.places
 
   -- zero is on every grid
   pub zero_kept : d.digits.head ≡ 0 → d.digits.long ≡ false → (is_on_grid scale text ≡ true) × (is_in_range scale text ≡ true) × (pos 0 ≡ grid_value scale text)

@@ -1,4 +1,5 @@
 pub mod LineLemmas
+pub mod SpanTexts
 pub mod SymbolLemmas
 pub mod NumberLemmas
 pub mod MemberLemmas

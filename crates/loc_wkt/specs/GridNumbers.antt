@@ -14,14 +14,14 @@ pub record Represents (d : Digits) (v : ℕ) : Type 0 where
   pub last : (m % 10 ≢ 0) ⊎ ((m ≡ 0) × (d.zeros ≡ 0))
   pub size : MatchBool d.long (10 ^ 19 ≤ m) ((m ≡ d.head) × (m < 10 ^ 19))
 
--- The parts of a number text. Its digits are below 2 ^ 29, so that of an exponent 2 ^ 40 decides.
+-- The parts of a number text. It has fewer digits than 2 ^ 64, so that of an exponent 2 ^ 66 decides.
 pub record IsDecimal (d : Decimal) (text : List ℕ) : Type 0 where
   pub digits : Represents d.digits (significand text)
-  pub zeros : d.digits.zeros ≤ 2 ^ 29
+  pub zeros : d.digits.zeros < 2 ^ 64
   pub fraction : d.fraction ≡ length (fraction_digits text)
-  pub places : d.fraction ≤ 2 ^ 28
-  pub raises : d.raised ≡ min (raised text) (2 ^ 40)
-  pub lowers : d.lowered ≡ min (lowered text) (2 ^ 40)
+  pub places : d.fraction < 2 ^ 64
+  pub raises : d.raised ≡ min (raised text) (2 ^ 66)
+  pub lowers : d.lowered ≡ min (lowered text) (2 ^ 66)
 
 -- what a number text is on the grid of a scale
 abbrev pub IsGridNumber : ℕ → List ℕ → GridNumber → Type 0

@@ -23,20 +23,20 @@ pub enum GridNumber {
 }
 
 /// The parts of a number without its sign: its digits without the point, how many of them stand behind it, and how far its exponent
-/// raises and lowers, of which no more than 2^40 is kept.
+/// raises and lowers, of which no more than 2^66 is kept.
 #[derive(Clone, Copy)]
 struct Decimal {
     digits: Digits,
     fraction: usize,
-    raised: u64,
-    lowered: u64,
+    raised: u128,
+    lowered: u128,
 }
 
-/// How far an exponent raises and lowers, of which no more than 2^40 is kept.
-fn shifts(exponent: &[u8]) -> (u64, u64)
+/// How far an exponent raises and lowers, of which no more than 2^66 is kept.
+fn shifts(exponent: &[u8]) -> (u128, u128)
     requires { list_all is_ascii_digit (unsigned_text exponent.now) ≡ true }
-    ensures raised { result.0 ≡ min (if is_negative_text exponent.now then 0 else digits_value 10 (unsigned_text exponent.now)) (2 ^ 40) }
-    ensures lowered { result.1 ≡ min (if is_negative_text exponent.now then digits_value 10 (unsigned_text exponent.now) else 0) (2 ^ 40) }
+    ensures raised { result.0 ≡ min (if is_negative_text exponent.now then 0 else digits_value 10 (unsigned_text exponent.now)) (2 ^ 66) }
+    ensures lowered { result.1 ≡ min (if is_negative_text exponent.now then digits_value 10 (unsigned_text exponent.now) else 0) (2 ^ 66) }
 {
     let shift = capped_value(unsigned(exponent));
     if is_negative(exponent) {
@@ -48,9 +48,10 @@ fn shifts(exponent: &[u8]) -> (u64, u64)
 
 /// The parts of a number text as numbers.
 fn decimal_of(number: &NumberText<'_>) -> Decimal
-    requires length { length number.now.text.now ≤ 2 ^ 28 }
     ensures { IsDecimal result number.now.text.now }
 {
+    // tells that its digits can be counted
+    let _length = number.text.len();
     let parts = number.parts;
     let whole = Digits::none().followed_by(parts.whole);
     let digits = whole.followed_by(parts.fraction);
@@ -63,10 +64,9 @@ fn decimal_of(number: &NumberText<'_>) -> Decimal
     }
 }
 
-/// What a number is on the grid of a scale. Its text has at most 2^28 bytes, and the scale is at most 15.
+/// What a number is on the grid of a scale, which is at most 15.
 pub(crate) fn on_grid(number: &NumberText<'_>, scale: u8) -> GridNumber
-    requires length { length number.now.text.now ≤ 2 ^ 28 }
-    requires scale { scale ≤ 15 }
+    requires { scale ≤ 15 }
     ensures number { IsGridNumber scale number.now.text.now result }
     ensures bound { IsBounded result }
 {
@@ -74,8 +74,8 @@ pub(crate) fn on_grid(number: &NumberText<'_>, scale: u8) -> GridNumber
     if decimal.digits.head == 0 && !decimal.digits.long {
         return GridNumber::OnGrid(0);
     }
-    let up = decimal.digits.zeros as u64 + decimal.raised + scale as u64;
-    let down = decimal.lowered + decimal.fraction as u64;
+    let up = decimal.digits.zeros as u128 + decimal.raised + scale as u128;
+    let down = decimal.lowered + decimal.fraction as u128;
     if up < down {
         return GridNumber::OffGrid;
     }
@@ -90,10 +90,9 @@ pub(crate) fn on_grid(number: &NumberText<'_>, scale: u8) -> GridNumber
     GridNumber::OnGrid(signed(magnitude as u64, is_negative(number.text)))
 }
 
-/// What a number text is on the grid of a scale. The text has at most 2^28 bytes, and the scale is at most 15.
+/// What a number text is on the grid of a scale, which is at most 15.
 pub fn grid_number(text: &[u8], scale: u8) -> GridNumber
     requires number { is_number_text text.now ≡ true }
-    requires length { length text.now ≤ 2 ^ 28 }
     requires scale { scale ≤ 15 }
     ensures number { IsGridNumber scale text.now result }
     ensures bound { IsBounded result }

@@ -1,5 +1,5 @@
 //! Well-known text (OGC 06-103r4): its tokens, its number texts at any scale and grid values in print, and the readers of geometry texts
-//! and of point lines.
+//! and of point and span lines.
 #![tactic(auto)]
 
 mod geometry;
@@ -10,6 +10,7 @@ mod lists;
 mod marks;
 mod numbers;
 mod points;
+mod spans;
 mod tokens;
 mod values;
 
@@ -19,4 +20,5 @@ pub use grid_texts::print_grid;
 pub use lines::{is_blank, next_line};
 pub use loc_spec_text::TextFault;
 pub use points::read_point;
+pub use spans::read_span;
 pub use tokens::{Token, Tokens};

@@ -17,7 +17,7 @@ use loc_geom::Point;
 const MOST_BYTES: usize = 4096;
 
 /// Two numbers at the front of a text, and what follows them.
-fn next_pair(text: &[u8]) -> Option<(NumberText<'_>, NumberText<'_>, &[u8])>
+pub(crate) fn next_pair(text: &[u8]) -> Option<(NumberText<'_>, NumberText<'_>, &[u8])>
     ensures found { MatchOption result (point_at (symbols text.now) ≡ None) (λ r. point_at (symbols text.now) ≡ Some ((r.0.text.now, r.1.text.now), symbols r.2.now)) }
     ensures first { IfSome result (λ r. length r.0.text.now ≤ length text.now) }
     ensures second { IfSome result (λ r. length r.1.text.now ≤ length text.now) }
@@ -77,9 +77,8 @@ fn point_numbers(text: &[u8]) -> Option<(NumberText<'_>, NumberText<'_>)>
 }
 
 /// The grid value of a number, unless it is off the grid or out of range.
-fn grid_value(number: &NumberText<'_>, scale: u8) -> Option<i64>
-    requires length { length number.now.text.now ≤ 2 ^ 28 }
-    requires scale { scale ≤ 15 }
+pub(crate) fn grid_value(number: &NumberText<'_>, scale: u8) -> Option<i64>
+    requires { scale ≤ 15 }
     ensures value { result ≡ (if is_grid_number scale number.now.text.now then Some (grid_value_of scale number.now.text.now) else None) }
     ensures bound { IfSome result (λ value. OnGrid value) }
 {

@@ -12,7 +12,7 @@ const HEAD_LIMIT: u64 = 10_000_000_000_000_000_000;
 // A head below this takes one digit more.
 const SHORT_HEAD: u64 = HEAD_LIMIT / 10;
 
-const MOST_SHIFT: u64 = 1 << 40;
+const MOST_SHIFT: u128 = 1 << 66;
 
 /// Digits read so far: a head below 10^19 that ends in no zero, and the zeros behind it. Where the head is longer, it is not kept.
 #[derive(Clone, Copy)]
@@ -38,7 +38,7 @@ impl Digits {
     /// One digit more.
     fn push(self, digit: u8) -> Digits
         requires small { digit < 10 }
-        requires few { self.zeros < 2 ^ 40 }
+        requires few { self.zeros + 1 < 2 ^ 64 }
         ensures value { (v : ℕ) → Represents self v → Represents result (v * 10 + digit) }
         ensures zeros { result.zeros ≤ self.zeros + 1 }
     {
@@ -81,7 +81,7 @@ impl Digits {
     /// More digits.
     pub fn followed_by(self, digits: &[u8]) -> Digits
         requires digits { list_all is_ascii_digit digits.now ≡ true }
-        requires few { self.zeros + length digits.now ≤ 2 ^ 40 }
+        requires few { self.zeros + length digits.now < 2 ^ 64 }
         ensures value { (before : List ℕ) → Represents self (digits_value 10 before) → Represents result (digits_value 10 (before ++ digits.now)) }
         ensures zeros { result.zeros ≤ self.zeros + length digits.now }
     {
@@ -93,14 +93,14 @@ impl Digits {
     }
 }
 
-/// The value of digits, of which no more than 2^40 is kept.
-pub fn capped_value(digits: &[u8]) -> u64
+/// The value of digits, of which no more than 2^66 is kept.
+pub fn capped_value(digits: &[u8]) -> u128
     requires { list_all is_ascii_digit digits.now ≡ true }
-    ensures { result ≡ min (digits_value 10 digits.now) (2 ^ 40) }
+    ensures { result ≡ min (digits_value 10 digits.now) (2 ^ 66) }
 {
-    let mut value: u64 = 0;
+    let mut value: u128 = 0;
     for b in digits {
-        value = (value * 10 + (*b - b'0') as u64).min(MOST_SHIFT);
+        value = (value * 10 + (*b - b'0') as u128).min(MOST_SHIFT);
     }
     value
 }

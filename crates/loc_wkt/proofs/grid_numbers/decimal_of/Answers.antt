@@ -24,9 +24,9 @@ returns c = let s = digits_short c.args.number.now.text.now in
     record {
       digits = subst (λ v. Represents c.followed_by-digits.result v) (ap₂ (λ a b. digits_value 10 (a ++ b)) c.args.number.now.whole c.args.number.now.fraction)
           (c.followed_by-digits.ensures.value c.args.number.now.parts.whole.now (c.followed_by-whole.ensures.value [] c.none.ensures.none));
-      zeros = omega (arith, s.0, s.1, w, f, c.requires.length, c.followed_by-digits.ensures.zeros, c.followed_by-whole.ensures.zeros, c.none.ensures.zeros);
+      zeros = omega (arith, s, w, f, c.told-number, c.followed_by-digits.ensures.zeros, c.followed_by-whole.ensures.zeros, c.none.ensures.zeros);
       fraction = f;
-      places = omega (arith, s.1, f, c.requires.length);
-      raises = c.shifts-raised.ensures.raised ∙ ap (λ e. min (if is_negative e then 0 else digits_value 10 (unsigned e)) (2 ^ 40)) c.args.number.now.exponent;
-      lowers = c.shifts-raised.ensures.lowered ∙ ap (λ e. min (if is_negative e then digits_value 10 (unsigned e) else 0) (2 ^ 40)) c.args.number.now.exponent;
+      places = omega (arith, s, f, c.told-number);
+      raises = c.shifts-raised.ensures.raised ∙ ap (λ e. min (if is_negative e then 0 else digits_value 10 (unsigned e)) (2 ^ 66)) c.args.number.now.exponent;
+      lowers = c.shifts-raised.ensures.lowered ∙ ap (λ e. min (if is_negative e then digits_value 10 (unsigned e) else 0) (2 ^ 66)) c.args.number.now.exponent;
     }

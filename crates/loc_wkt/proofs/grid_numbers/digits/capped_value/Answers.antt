@@ -7,6 +7,6 @@ pub loop-b-preserved : goal.loop-b-preserved
 loop-b-preserved c =
     let ds = c.args.digits.now in
     let digit = get_or c.args.digits.now c.loop-b.b-index 0 - 48 in
-    let kept : c.min-value.result ≡ min (c.loop-b.value * 10 + (get_or c.args.digits.now c.loop-b.b-index 0 - 48)) (2 ^ 40) = search rules in
-    kept ∙ ap (λ v. min (v * 10 + digit) (2 ^ 40)) c.loop-b.invariant ∙ capped_more (digits_value 10 (take c.loop-b.b-index ds)) digit (2 ^ 40)
-    ∙ ap (λ v. min v (2 ^ 40)) (digits_behind [] ds c.loop-b.b-index (omega arith) c.requires)
+    let kept : c.min-value.result ≡ min (c.loop-b.value * 10 + (get_or c.args.digits.now c.loop-b.b-index 0 - 48)) (2 ^ 66) = search rules in
+    kept ∙ ap (λ v. min (v * 10 + digit) (2 ^ 66)) c.loop-b.invariant ∙ capped_more (digits_value 10 (take c.loop-b.b-index ds)) digit (2 ^ 66)
+    ∙ ap (λ v. min v (2 ^ 66)) (digits_behind [] ds c.loop-b.b-index (omega arith) c.requires)

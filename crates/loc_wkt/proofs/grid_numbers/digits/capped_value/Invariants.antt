@@ -3,4 +3,4 @@ use Rattle.std.specs.Str.Parse.{digits_value}
 use Rattle.loc_wkt.proofs.grid_numbers.digits.capped_value.Given as goal
 
 abbrev pub invariant-loop-b : goal.invariant-loop-b
-invariant-loop-b l = l.value ≡ min (digits_value 10 (take l.b-index l.digits)) (2 ^ 40)
+invariant-loop-b l = l.value ≡ min (digits_value 10 (take l.b-index l.digits)) (2 ^ 66)
