@@ -134,7 +134,7 @@ module _ (t : Table) (ok : IsTable t) (e : ℕ) (fits : e < length t.ends) (es :
   same_end a fits_a = same_corner t ok (hi_of t e) (hi_of t a) (ok.goes_up e fits).1 (ok.goes_up a fits_a).1
 
   -- the edges before it are those that the search passes
-  parted_by_end : (j : ℕ) → slice_get es j ≡ Some e → IsParted (is_passed t (End e)) es j
+  pub parted_by_end : (j : ℕ) → slice_get es j ≡ Some e → IsParted (is_passed t (End e)) es j
   parted_by_end j at = record { before = passed; behind = not_passed }
     where
       passed : (i : ℕ) → i < j → i < length es → is_passed t (End e) (get_or es i 0) ≡ true

@@ -67,7 +67,7 @@ same_parts e (d ∷ front) back (a ∷ before_it) behind_it off_front off_back s
 
 module _ (e : ℕ) (es front back : List ℕ) (parts : es ≡ front ++ e ∷ back) (off_front : is_in e front ≡ false) (off_back : is_in e back ≡ false) where
   -- so the neighbours are the last before it and the first behind it
-  below_is : (below : Option ℕ) → IsNextBelow e es below → last_or None front ≡ below
+  pub below_is : (below : Option ℕ) → IsNextBelow e es below → last_or None front ≡ below
   below_is None next = ap (λ ds. last_or None ds) (same_parts e front back [] next.0 off_front off_back (sym parts ∙ next.1)).0
   below_is (Some d) next =
       ap (λ ds. last_or None ds) (same_parts e front back (next.0 ++ d ∷ []) next.1 off_front off_back (sym parts ∙ (next.2 ∙ sym (append_assoc next.0 (d ∷ []) (e ∷ next.1))))).0
@@ -164,7 +164,7 @@ module _ (t : Table) where
           (chain_differ (map (edge t) (front ++ e ∷ back)) p chain i j (edge t e) (edge t e) less (get-map (edge t) (front ++ e ∷ back) i e at_i) (get-map (edge t) (front ++ e ∷ back) j e at_j))
           ((same_edge_decides (edge t e) (edge t e)).1 refl)
 
-      stands_once : (is_in e front ≡ false) × (is_in e back ≡ false)
+      pub stands_once : (is_in e front ≡ false) × (is_in e back ≡ false)
       stands_once = (
         false_from_ne_true (is_in e front) (λ listed. (let member = member_place front e listed in
             never_twice member.0 (length front) (slice_get_within front member.0 e member.1) (at_front front (e ∷ back) member.0 e member.1) (at_seam front (e ∷ back)))),
@@ -242,7 +242,7 @@ module _ (t : Table) (ok : IsTable t) (e : ℕ) (fits : e < length t.ends) (fron
       chain_joined t (edge t e).lo front (e ∷ back) parts.0 from_e (subst (λ o. stands_before t o (Some e) ≡ true) (sym last) (seam_below below last behind apart_below))
 
 -- a new edge is in no part of the list
-nowhere : (t : Table) (e : ℕ) (es new : List ℕ) → is_in e es ≡ false → (come : IsInserted t e es new) → (is_in e come.front ≡ false) × (is_in e come.back ≡ false)
+pub nowhere : (t : Table) (e : ℕ) (es new : List ℕ) → is_in e es ≡ false → (come : IsInserted t e es new) → (is_in e come.front ≡ false) × (is_in e come.back ≡ false)
 nowhere t e es new off come = or_parts (is_in e come.front) (is_in e come.back) (sym (list_any-append (λ m. m == e) come.front come.back) ∙ (ap (λ ds. is_in e ds) (sym come.old_is) ∙ off))
 
 -- the edge just above it is the first behind it

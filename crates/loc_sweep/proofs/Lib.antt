@@ -1,3 +1,4 @@
+pub mod BesideCorner
 pub mod Chains
 pub mod EdgesComing
 pub mod EdgesLeaving

@@ -1,10 +1,11 @@
 -- How far a sweep has come: what its status means between two corners, and what it has noted. The words: `IsBefore`, `Leaves`, `Comes`, `AreNextBelow`,
--- `IsNoted`, `HasSealed`.
+-- `LiesAbove`, `IsNoted`, `HasSealed`.
 use Rattle.std.specs.Prelude.{◌≡◌, ◌≢◌, ℕ, ◌+◌, ◌-◌, ◌<◌, ◌≤◌, false, List, [], length, get_or, Option, None, IfSome}
 use Rattle.loc_spec_plane.specs.Points.{is_above}
 use Rattle.loc_spec_plane.specs.Tables.{Table, corner, edge, lo_of}
 use Rattle.loc_spec_plane.specs.Places.{alive_at}
 use Rattle.loc_laws_order.specs.Laws.{last_that}
+use Rattle.loc_status.specs.declared.status.Beside.{Beside}
 use Rattle.loc_status.specs.Lists.{IsNextBelow}
 use Rattle.loc_status.specs.Meaning.{StatusMeaning, KeepsSealed}
 use Rattle.loc_sweep.specs.Line.{IsChainOf, IsBegun, reaches, goes_past}
@@ -38,6 +39,10 @@ pub record AreNextBelow (t : Table) (c : ℕ) (list : List ℕ) (old new : List 
   pub as_many : length new ≡ length old
   pub are : (e : ℕ) → e < length t.ends → lo_of t e ≡ c → IsNextBelow e list (get_or new e None)
   pub others : (e : ℕ) → lo_of t e ≢ c → get_or new e None ≡ get_or old e None
+
+-- where the edges are known between which corner c lies in the list, the lower one is the last that has the corner above it
+abbrev pub LiesAbove : Table → ℕ → List ℕ → Option Beside → Type 0
+LiesAbove t c list between = IfSome between (λ beside. beside.below ≡ last_that (λ e. is_above (edge t e) (corner t c)) list)
 
 -- what was noted up to corner c, where the lists of the corners so far are these: the floor of each corner, and the edge just below each edge begun
 pub record IsNoted (t : Table) (c : ℕ) (lists : List (List ℕ)) (of_corner of_edge : List (Option ℕ)) : Type 0 where

@@ -32,9 +32,9 @@ pub fn sweep<S: Status>(
     let mut of_corner = Vec::with_capacity(alloc, table.corner_count() as usize)?;
     let mut of_edge = vec![in alloc; None; table.edge_count() as usize]?;
     for corner in 0..table.corner_count() {
-        leave_all(table, &mut status, corner)?;
-        come_all(table, &mut status, corner, &mut of_edge)?;
-        note_floor(table, &status, corner, &mut of_corner)?;
+        let left = leave_all(table, &mut status, corner)?;
+        let between = come_all(table, &mut status, corner, left, &mut of_edge)?;
+        note_floor(table, &status, corner, between, &mut of_corner)?;
         status.seal()?;
     }
     Ok((status, Floors::of(of_corner, of_edge)))

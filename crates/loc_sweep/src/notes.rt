@@ -5,24 +5,31 @@ ghost use Rattle.loc_spec_plane.specs.Points.{is_above};
 ghost use Rattle.loc_spec_plane.specs.Tables.{corner as corner_of, edge as edge_of, lo_of};
 ghost use Rattle.loc_laws_order.specs.Laws.{last_that};
 ghost use Rattle.loc_status.specs.Lists.{is_chain_at};
+ghost use Rattle.loc_sweep.specs.Course.{LiesAbove};
 ghost use Rattle.loc_sweep.specs.Line.{IsInRange};
 
 use loc_edges::EdgeTable;
-use loc_status::Status;
+use loc_status::{Beside, Status};
 use std::alloc::AllocError;
 
-// Notes the floor of a corner.
+// Notes the floor of a corner: the lower one of the edges between which it lies, where they are known.
 pub(crate) fn note_floor<S: Status>(
     table: &EdgeTable,
     status: &S,
     corner: u32,
+    between: Option<Beside>,
     of_corner: &mut Vec<Option<u32>>,
 ) -> Result<(), AllocError>
     requires in_range { corner < length table.now.corners }
     requires chain { IsTrue (is_chain_at table.now corner (S.meaning status.now).list) }
+    requires between { LiesAbove table.now corner (S.meaning status.now).list between }
     ensures { OnOk result (of_corner.new.items ≡ of_corner.old.items ++ last_that (λ e. is_above (edge_of table.now e) (corner_of table.now corner)) (S.meaning status.now).list ∷ []) }
 {
-    of_corner.push(status.floor(&table.ranks(), corner))?;
+    let floor = match between {
+        Some(beside) => beside.below,
+        None => status.floor(&table.ranks(), corner),
+    };
+    of_corner.push(floor)?;
     Ok(())
 }
 

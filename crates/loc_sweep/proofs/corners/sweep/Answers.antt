@@ -14,7 +14,7 @@ pub loop-corner-preserved : goal.loop-corner-preserved
 loop-corner-preserved g c = goes_on c.args.table.now c.law.ensures.in_order c.loop-corner.corner (subst (λ n. c.loop-corner.corner < n) c.corner_count-corner-end.ensures.value c.loop-corner-test.true)
     (g.S.Status.meaning c.loop-corner.status) (g.S.Status.meaning c.leave_all.new.status) (g.S.Status.meaning c.come_all.new.status) (g.S.Status.meaning c.seal.new.self)
     c.loop-corner.of_corner.items c.note_floor.new.of_corner.items c.loop-corner.of_edge.items c.come_all.new.of_edge.items c.loop-corner.invariant
-    c.in_ok-leave_all.ensures.left c.in_ok-come_all.ensures.here c.in_ok-note_floor.ensures c.in_ok-come_all.ensures.below c.in_ok-seal.ensures.ok
+    c.in_ok-left.ensures.left c.in_ok-between.ensures.here c.in_ok-note_floor.ensures c.in_ok-between.ensures.below c.in_ok-seal.ensures.ok
 
 pub returns-clause-apart : goal.returns-clause-apart
 returns-clause-apart g c = all_apart c.args.table.now c.law.ensures.in_order c.loop-corner.corner (g.S.Status.meaning c.loop-corner.status) c.loop-corner.of_corner.items c.loop-corner.of_edge.items (let end : c.loop-corner.corner ≡ length c.args.table.now.corners = omega (arith, c.loop-corner-test.false, c.loop-corner.auto.corner-end, c.corner_count-corner-end.ensures.value) in end) c.loop-corner.invariant
