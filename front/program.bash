@@ -76,9 +76,12 @@ is_newer_than() {
 # An earlier call or a gate built the program from the sources as they are.
 is_built() { [[ -x $built ]] && folders_of_crates src specs proofs | is_newer_than "$built"; }
 
-# The program of dist/ was made from the sources as they are, by the kit of this machine.
-is_of_these_sources() {
-    [[ -x $handed_out && $(recorded sources) == "$(sum_of_sources)" && $(recorded kit) == "$(kit)" ]]
+# The program of dist/ was made from the sources as they are. Which kit is on this machine says nothing of that.
+is_of_these_sources() { [[ -x $handed_out && $(recorded sources) == "$(sum_of_sources)" ]]; }
+
+# A line on the two kits, if another one made the program of dist/ than is on this machine.
+other_kit() {
+    [[ $(recorded kit) == "$(kit)" ]] || echo "the kit $(recorded kit) made the program of dist/; the kit here is $(kit)"
 }
 
 # The same, from a stamp if an earlier call left one.
@@ -152,11 +155,23 @@ prove() {
     is_built || build
     if [[ ! -f $handed_out ]]; then
         echo "proved and built here; dist/ holds no program to compare it with"
-    elif cmp -s "$built" "$handed_out"; then
+        return
+    fi
+    other_kit
+    if cmp -s "$built" "$handed_out"; then
         echo "proved and built here; it is the program of dist/, byte for byte"
     else
         echo "proved and built here; it is not the program of dist/"
         return 1
+    fi
+}
+
+# One line on the program that runs: its sources and its kit. The sum of the sources is taken only where it is asked for.
+version_of_program() {
+    if [[ $program == "$handed_out" ]]; then
+        echo "locate of the sources $(recorded sources | cut -c 1-12), $(recorded kit)"
+    else
+        echo "locate of the sources $(sum_of_sources | cut -c 1-12), $(kit), built here"
     fi
 }
 
