@@ -3,9 +3,11 @@ from __future__ import annotations
 
 import gc
 import re
-from typing import TYPE_CHECKING, Dict, Iterable, List, NamedTuple, Optional, Tuple
+from contextlib import contextmanager
+from typing import TYPE_CHECKING, Dict, Iterable, Iterator, List, NamedTuple, Optional, Tuple
 
 from ._errors import LocateError
+from ._grouping import grouped
 
 if TYPE_CHECKING:
     import numpy
@@ -15,6 +17,8 @@ ID = re.compile(rb'"((?:[^"]|"")*)"')
 
 # The front of the most frequent line, of a point within one polygon.
 WITHIN_ONE = b'face in "'
+# How many bytes of answers are looked at together.
+TOGETHER = 2 ** 25
 
 
 class Answer(NamedTuple):
@@ -69,6 +73,27 @@ def parse_answer(line: bytes) -> Answer:
     return Answer(found[1].decode(), number, ids_of(found[3]), ids_of(found[4]))
 
 
+def parse_answers(lines: List[bytes]) -> List[Answer]:
+    """The answers in many lines, as `parse_answer` tells each."""
+    front, start = WITHIN_ONE.decode(), len(WITHIN_ONE)
+    texts = b"\n".join(lines).decode().split("\n") if lines else []
+    make = tuple.__new__
+    return [make(Answer, ("face", None, (), (text[start:-1],))) if text.startswith(front) and text.count('"') == 2 else parse_answer(line)
+            for text, line in zip(texts, lines)]
+
+
+@contextmanager
+def no_collection() -> Iterator[None]:
+    """The collector of garbage rests: of many answers none is garbage."""
+    is_collecting = gc.isenabled()
+    gc.disable()
+    try:
+        yield
+    finally:
+        if is_collecting:
+            gc.enable()
+
+
 class Known(Dict[bytes, int]):
     """The different answer lines, each with its number; and the answers by these."""
 
@@ -82,16 +107,44 @@ class Known(Dict[bytes, int]):
         return self[line]
 
     def take(self, pieces: Iterable[bytes]) -> List[int]:
-        """The numbers of all lines, in order. The collector of garbage rests meanwhile: of many answers none is garbage."""
+        """The numbers of all lines of some pieces of whole lines, in order."""
         found: List[int] = []
-        is_collecting = gc.isenabled()
-        gc.disable()
-        try:
+        with no_collection():
             for piece in pieces:
                 lines = piece.split(b"\n")
                 lines.pop()
                 found += map(self.__getitem__, lines)
-        finally:
-            if is_collecting:
-                gc.enable()
         return found
+
+    def take_array(self, pieces: Iterable[bytes]) -> "numpy.ndarray":
+        """The same, by numpy: in an array."""
+        import numpy
+
+        with no_collection():
+            found = [self._numbers(*grouped(text)) for text in joined(pieces, TOGETHER)]
+        return numpy.concatenate(found) if found else numpy.empty(0, dtype=numpy.intp)
+
+    def _numbers(self, lines: List[bytes], own: "numpy.ndarray") -> "numpy.ndarray":
+        """The numbers of lines that are given by the different ones and the number of each among these."""
+        import numpy
+
+        new = [line for line in lines if line not in self] if self else lines
+        self.update(zip(new, range(len(self.answers), len(self.answers) + len(new))))
+        self.answers += parse_answers(new)
+        if len(new) == len(self):
+            return own
+        return numpy.fromiter(map(self.__getitem__, lines), dtype=numpy.intp, count=len(lines))[own]
+
+
+def joined(pieces: Iterable[bytes], size: int) -> Iterator[bytes]:
+    """The pieces, put together to pieces of at least `size` bytes, but for the last."""
+    some: List[bytes] = []
+    length = 0
+    for piece in pieces:
+        some.append(piece)
+        length += len(piece)
+        if length >= size:
+            yield b"".join(some)
+            some, length = [], 0
+    if some:
+        yield b"".join(some)

@@ -101,7 +101,7 @@ def ask(points: Any, polygons: Any, scale: int, is_rounding: bool) -> "Tuple[num
     layer = Layer(texts_of(polygons, scale, is_rounding), scale)
     places = numpy.column_stack([some.x, some.y]) if len(rows) else numpy.empty((0, 2))
     known, codes = layer._codes(places, is_rounding, "raise")
-    return rows, numpy.array(codes, dtype=numpy.intp), known.answers
+    return rows, numpy.asarray(codes), known.answers
 
 
 def texts_of(polygons: Any, scale: int, is_rounding: bool) -> Iterator[Tuple[str, str]]:

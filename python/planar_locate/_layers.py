@@ -8,12 +8,15 @@ import re
 import tempfile
 import weakref
 from pathlib import Path
-from typing import Any, Iterable, List, NamedTuple, Sequence, Tuple, Union
+from typing import TYPE_CHECKING, Any, Iterable, List, NamedTuple, Sequence, Tuple, Union
 
 from ._answers import UNREAD, Answer, AnswerArrays, Known
 from ._errors import LocateError, ReadFailed, Refused, Unread
 from ._points import Point, blocks_of
 from ._program import Blocks, run, run_points
+
+if TYPE_CHECKING:
+    import numpy
 
 IS_TEXT = re.compile(r"\s*(?:multi)?polygon|.*\n", re.IGNORECASE | re.DOTALL)
 MAGIC = b"LOCINDEX"
@@ -47,12 +50,14 @@ class Asked:
     def _question(self) -> Sequence[object]:
         raise NotImplementedError
 
-    def _codes(self, points: Iterable[Any], round: bool, errors: str) -> Tuple[Known, List[int]]:
-        """The different answers, and for each point the number of its own."""
+    def _codes(self, points: Iterable[Any], round: bool, errors: str) -> "Tuple[Known, Union[List[int], numpy.ndarray]]":
+        """The different answers, and for each point the number of its own: in an array where the points are in one, else in a list."""
         if errors not in ("raise", "coerce"):
             raise ValueError(f"errors is 'raise' or 'coerce', not {errors!r}")
         known = Known()
-        codes = known.take(run_points(self._question(), Blocks(blocks_of(points, self.scale, round)), self.path))
+        is_array = hasattr(points, "__array_interface__")
+        pieces = run_points(self._question(), Blocks(blocks_of(points, self.scale, round), is_array), self.path)
+        codes = known.take_array(pieces) if is_array else known.take(pieces)
         try:
             count = len(points)  # type: ignore[arg-type]
         except TypeError:
@@ -61,8 +66,9 @@ class Asked:
             raise LocateError(f"{self.path}: {len(codes)} answers for {count} points")
         if errors == "raise" and b"unread" in known:
             unread = known[b"unread"]
-            first = codes.index(unread)
-            raise Unread(first, points[first] if hasattr(points, "__getitem__") else None, codes.count(unread))
+            numbers = list(codes)
+            first = numbers.index(unread)
+            raise Unread(first, points[first] if hasattr(points, "__getitem__") else None, numbers.count(unread))
         return known, codes
 
     def ask(self, points: Iterable[Point], *, round: bool = False, errors: str = "raise") -> List[Answer]:
@@ -84,7 +90,7 @@ class Asked:
             TypeError: a point is no pair of numbers.
         """
         known, codes = self._codes(points, round, errors)
-        return list(map(known.answers.__getitem__, codes))
+        return list(map(known.answers.__getitem__, codes if isinstance(codes, list) else codes.tolist()))
 
     def ask_arrays(self, x: Any, y: Any, *, round: bool = False, errors: str = "raise") -> AnswerArrays:
         """Where each point lies, by arrays: for millions of points.
@@ -102,9 +108,8 @@ class Asked:
         """
         import numpy
 
-        known, codes = self._codes(numpy.column_stack([x, y]), round, errors)
+        known, at = self._codes(numpy.column_stack([x, y]), round, errors)
         answers = known.answers or [UNREAD]
-        at = numpy.array(codes, dtype=numpy.intp)
 
         def tuples(found: List[Tuple[str, ...]]) -> "numpy.ndarray":
             column = numpy.empty(len(found), dtype=object)

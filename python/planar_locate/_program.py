@@ -4,10 +4,11 @@ from __future__ import annotations
 import os
 import shutil
 import subprocess
+import tempfile
 import threading
 from functools import lru_cache
 from pathlib import Path
-from typing import IO, Iterator, Optional, Sequence
+from typing import IO, Iterator, Optional, Sequence, Union
 
 from ._errors import ProgramNotFound, error_of
 
@@ -71,7 +72,7 @@ class Notes:
         return self._text.decode("utf-8", "replace").rstrip("\n")
 
 
-def start(words: Sequence[object], stdin: int) -> "subprocess.Popen[bytes]":
+def start(words: Sequence[object], stdin: Union[int, IO[bytes]]) -> "subprocess.Popen[bytes]":
     name = find_program()
     try:
         return subprocess.Popen([name, *map(str, words)], stdin=stdin, stdout=subprocess.PIPE, stderr=subprocess.PIPE)
@@ -100,10 +101,12 @@ def widen(pipe: IO[bytes]) -> None:
 
 
 class Blocks:
-    """Blocks of the points text, each of whole lines, one after another; a block that is too much for a run is put back."""
+    """Blocks of the points text, each of whole lines, one after another; a block that is too much for a run is put back. `is_quick` says that
+    they are made so quickly that the program need not begin before the last of a run is made."""
 
-    def __init__(self, blocks: Iterator[bytes]):
+    def __init__(self, blocks: Iterator[bytes], is_quick: bool = False):
         self._blocks = blocks
+        self.is_quick = is_quick
         self._next: Optional[bytes] = None
         self.failure: Optional[BaseException] = None
 
@@ -113,24 +116,37 @@ class Blocks:
             self._next = next(self._blocks, None)
         return self._next
 
-    def feed(self, process: "subprocess.Popen[bytes]") -> None:
-        """Writes to a process the blocks that one run may have. What goes wrong while points are taken ends the process."""
-        assert process.stdin
+    def of_a_run(self) -> Iterator[bytes]:
+        """The next blocks, as many as one run may have. Each is gone once the one behind it is asked for."""
         room = LONGEST_POINTS
+        while True:
+            block = self.peek()
+            if block is None or len(block) > room:
+                return
+            room -= len(block)
+            yield block
+            self._next = None
+
+    def feed(self, process: "subprocess.Popen[bytes]") -> None:
+        """Writes the blocks of a run to a process. What goes wrong while points are taken ends the process."""
+        assert process.stdin
         try:
-            while True:
-                block = self.peek()
-                if block is None or len(block) > room:
-                    break
-                room -= len(block)
+            for block in self.of_a_run():
                 process.stdin.write(block)
-                self._next = None
             process.stdin.close()
         except OSError:
             pass
         except BaseException as failure:  # raised again where the answers are read
             self.failure = failure
             process.kill()
+
+    def file(self) -> IO[bytes]:
+        """A file that holds the blocks of a run, in memory where the system can: the program reads it with less work than a pipe."""
+        found = open(os.memfd_create("points"), "w+b") if hasattr(os, "memfd_create") else tempfile.TemporaryFile()
+        for block in self.of_a_run():
+            found.write(block)
+        found.seek(0)
+        return found
 
 
 def run_points(words: Sequence[object], blocks: Blocks, name: str) -> Iterator[bytes]:
@@ -142,13 +158,23 @@ def run_points(words: Sequence[object], blocks: Blocks, name: str) -> Iterator[b
 
 
 def run_once(words: Sequence[object], blocks: Blocks, name: str) -> Iterator[bytes]:
-    process = start(words, subprocess.PIPE)
+    if not blocks.is_quick:
+        process = start(words, subprocess.PIPE)
+        assert process.stdin
+        widen(process.stdin)
+        feeder = threading.Thread(target=blocks.feed, args=[process], daemon=True)
+        feeder.start()
+        yield from answers_of(process, name, feeder, blocks)
+        return
+    with blocks.file() as file:
+        yield from answers_of(start(words, file), name, None, blocks)
+
+
+def answers_of(process: "subprocess.Popen[bytes]", name: str, feeder: Optional[threading.Thread], blocks: Blocks) -> Iterator[bytes]:
+    """What a process answers, in pieces of whole lines, up to its end, which must be a good one."""
     notes = Notes(process)
-    assert process.stdin and process.stdout
-    widen(process.stdin)
+    assert process.stdout
     widen(process.stdout)
-    feeder = threading.Thread(target=blocks.feed, args=[process], daemon=True)
-    feeder.start()
     ended = False
     try:
         rest = b""
@@ -167,7 +193,8 @@ def run_once(words: Sequence[object], blocks: Blocks, name: str) -> Iterator[byt
         if not ended:
             process.kill()
         status = process.wait()
-        feeder.join()
+        if feeder:
+            feeder.join()
         process.stdout.close()
     if blocks.failure:
         raise blocks.failure
