@@ -7,5 +7,6 @@ pub mod Lasting
 pub mod Lexicographic
 pub mod Numbering
 pub mod Ranked
+pub mod ShortLists
 pub mod Stored
 pub mod Sound

@@ -1,5 +1,5 @@
--- The distinct lists that were found so far: `StoreRows`, `IsStore`, `is_among`, `IsAt`, `GainsAtMost` and `IsPast`.
-use Rattle.std.specs.Prelude.{◌≡◌, ℕ, ◌<◌, ◌≤◌, nat_lt, Bool, List, [], ◌∷◌, ◌++◌, ◌⊎◌, length, get_or, map, sum_by, IsTrue}
+-- The distinct lists that were found so far: `StoreRows`, `IsStore`, `short_list`, `AreShort`, `is_among`, `IsAt`, `GainsAtMost` and `IsPast`.
+use Rattle.std.specs.Prelude.{◌≡◌, ℕ, zero, suc, ◌<◌, ◌≤◌, nat_lt, Bool, List, [], ◌∷◌, ◌++◌, ◌⊎◌, length, get_or, map, sum_by, Option, Some, None, IsTrue}
 use Rattle.std.specs.List.{list_all, list_any}
 use Rattle.std.specs.Cmp.Lexicographic.{slice_cmp}
 use Rattle.std.specs.Ordering.{is_eq, nat_cmp}
@@ -33,6 +33,15 @@ pub record IsStore (s : StoreRows) : Type 0 where
   pub placed : (n : ℕ) → n < length s.rows → IsTrue (is_in n s.order)
   pub counted : s.members ≡ sum_by length (lists_of s)
   pub few : s.members ≤ most_members
+
+-- the lists of at most one feature: the empty one, and then that of each feature alone
+abbrev pub short_list : ℕ → List ℕ
+short_list zero = []
+short_list (suc f) = f ∷ []
+
+-- the numbers noted of those are those of their rows
+abbrev pub AreShort : List (List ℕ) → List (Option ℕ) → Type 0
+AreShort rows numbers = (k n : ℕ) → get_or numbers k None ≡ Some n → (n < length rows) × (get_or rows n [] ≡ short_list k)
 
 -- the list is one of the lists
 abbrev pub is_among : List ℕ → List (List ℕ) → Bool

@@ -8,11 +8,18 @@ ghost use Rattle.loc_cover.specs.Numbered.{AreBelow, IsEven, IsKnownUnder, IsNum
 ghost use Rattle.loc_cover.specs.Stores.{IsAt, IsStore};
 
 use crate::LegendFault;
-use crate::exchange::exchanged;
+use crate::exchange::exchange_marked;
 use crate::store::Store;
 use bumpalo::Bump;
 use loc_edges::{EdgeTable, Rows};
 use std::alloc::{AllocError, Global};
+
+// Lists that are used again for each edge: the way down from it, and the features that cover what lies above it.
+#[derive(Drop)]
+struct Room {
+    path: Vec<u32>,
+    list: Vec<u32>,
+}
 
 // The number of the list above an edge that may be missing.
 fn number_under(numbers: &[Option<u32>], below: Option<u32>) -> Option<u32>
@@ -37,29 +44,29 @@ fn unknown_below(below: &[Option<u32>], numbers: &[Option<u32>], edge: u32) -> O
     }
 }
 
-// The way down from an edge to the last whose list is not known.
+// Puts into a path the way down from an edge to the last whose list is not known.
 fn path_down(
-    alloc: Global,
+    path: &mut Vec<u32>,
     table: &EdgeTable,
     below: &[Option<u32>],
     numbers: &[Option<u32>],
     edge: u32,
-) -> Result<Vec<u32>, AllocError>
+) -> Result<(), AllocError>
     requires even { IsEven table.now }
     requires below { AreBelow table.now below.now }
     requires as_many { length numbers.now ≡ length table.now.ends }
     requires in_range { edge < length table.now.ends }
-    ensures { IfOk result (λ path. IsPath table.now below.now numbers.now edge path.items) }
+    ensures { OnOk result (IsPath table.now below.now numbers.now edge path.new.items) }
 {
     table.law();
-    let mut path = Vec::new(alloc);
+    path.clear();
     path.push(edge)?;
     let mut last = edge;
     while let Some(next) = unknown_below(below, numbers, last) {
         path.push(next)?;
         last = next;
     }
-    Ok(path)
+    Ok(())
 }
 
 // The list above an edge that may be missing: without an edge it is empty.
@@ -80,30 +87,30 @@ fn list_under<'s>(
     }
 }
 
-// The list above an edge, from the list above the edge just below it.
+// Puts into a list the list above an edge, from the list above the edge just below it.
 fn list_above(
-    alloc: Global,
+    list: &mut Vec<u32>,
     table: &EdgeTable,
     store: &Store<'_>,
     numbers: &[Option<u32>],
     below: Option<u32>,
     edge: u32,
-) -> Result<Vec<u32>, AllocError>
+) -> Result<(), AllocError>
     requires even { IsEven table.now }
     requires in_range { edge < length table.now.ends }
     requires just_below { IsJustBelow table.now edge below }
     requires numbered { IsNumbered table.now store.now.rows numbers.now }
     requires known { IsKnownUnder numbers.now below }
-    ensures { IfOk result (λ list. list.items ≡ cover_above table.now edge) }
+    ensures { OnOk result (list.new.items ≡ cover_above table.now edge) }
 {
     table.law();
-    let list = list_under(table, store, numbers, below);
-    exchanged(alloc, list, table.marks(edge))
+    let under = list_under(table, store, numbers, below);
+    exchange_marked(list, under, table.marks(edge))
 }
 
 // Makes the list above an edge, and notes its number.
 fn number_edge(
-    alloc: Global,
+    list: &mut Vec<u32>,
     table: &EdgeTable,
     store: &mut Store<'_>,
     numbers: &mut Vec<Option<u32>>,
@@ -122,15 +129,15 @@ fn number_edge(
     ensures kept { OnOk result (KeepsKnown numbers.old.items numbers.new.items) }
     ensures refused { IfErr result (IsRefused table.now) }
 {
-    let list = list_above(alloc, table, store, numbers, below, edge)?;
-    let number = store.number_of(&list)?;
+    list_above(list, table, store, numbers, below, edge)?;
+    let number = store.number_of(list.as_slice())?;
     numbers[edge as usize] = Some(number);
     Ok(())
 }
 
 // Makes the list above an edge, after those above the edges on the way down from it.
 fn number_down(
-    alloc: Global,
+    room: &mut Room,
     table: &EdgeTable,
     store: &mut Store<'_>,
     numbers: &mut Vec<Option<u32>>,
@@ -148,9 +155,16 @@ fn number_down(
     ensures kept { OnOk result (KeepsKnown numbers.old.items numbers.new.items) }
     ensures refused { IfErr result (IsRefused table.now) }
 {
-    let mut path = path_down(alloc, table, below, numbers, edge)?;
-    while let Some(next) = path.pop() {
-        number_edge(alloc, table, store, numbers, below[next as usize], next)?;
+    path_down(&mut room.path, table, below, numbers, edge)?;
+    while let Some(next) = room.path.pop() {
+        number_edge(
+            &mut room.list,
+            table,
+            store,
+            numbers,
+            below[next as usize],
+            next,
+        )?;
     }
     Ok(())
 }
@@ -173,9 +187,13 @@ fn number_all<'a>(
     let mut store = Store::new(alloc, arena);
     let mut numbers = Vec::new(alloc);
     numbers.resize(table.edge_count() as usize, None)?;
+    let mut room = Room {
+        path: Vec::new(alloc),
+        list: Vec::new(alloc),
+    };
     for edge in 0..table.edge_count() {
         if numbers[edge as usize].is_none() {
-            number_down(alloc, table, &mut store, &mut numbers, below, edge)?;
+            number_down(&mut room, table, &mut store, &mut numbers, below, edge)?;
         }
     }
     Ok((store, numbers))

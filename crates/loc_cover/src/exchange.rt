@@ -1,13 +1,13 @@
 // A list of features in order, from which an edge takes those features that it marks odd, or to which it adds them.
 
-ghost use Rattle.std.specs.Prelude.{◌≡◌, ℕ, ◌+◌, ◌<◌, ◌≤◌, ◌++◌, length, drop, nat_lt, slice_index, IsTrue, IfOk};
+ghost use Rattle.std.specs.Prelude.{◌≡◌, ℕ, ◌+◌, ◌<◌, ◌≤◌, ◌++◌, length, drop, nat_lt, slice_index, IsTrue, IfOk, OnOk};
 ghost use Rattle.std.specs.List.{list_all};
 ghost use Rattle.loc_spec_plane.specs.Lists.{exactly_one, is_in, is_rising, IsRisingListOf};
 ghost use Rattle.loc_spec_plane.specs.Tables.{mark_before};
 ghost use Rattle.loc_cover.specs.Exchanges.{IsExchange, is_marked_odd};
 
 use loc_spec_plane::Mark;
-use std::alloc::{AllocError, Global};
+use std::alloc::AllocError;
 
 // The place of the first feature in a list that is not below this one.
 fn first_from(list: &[u32], feature: u32) -> usize
@@ -37,19 +37,24 @@ fn exchange(made: &mut Vec<u32>, rest: &[u32], feature: u32) -> Result<usize, Al
     Ok(past)
 }
 
-// The list with the features exchanged that are marked odd: each goes where it was a member, and comes where it was not.
-pub(crate) fn exchanged(alloc: Global, list: &[u32], marks: &[Mark]) -> Result<Vec<u32>, AllocError>
+// Puts into a list, in place of what it held, the members of another with the features exchanged that are marked odd: each goes where it was
+// a member, and comes where it was not.
+pub(crate) fn exchange_marked(
+    made: &mut Vec<u32>,
+    list: &[u32],
+    marks: &[Mark],
+) -> Result<(), AllocError>
     requires list_in_order { IsTrue (is_rising nat_lt list.now) }
     requires marks_in_order { IsTrue (is_rising mark_before marks.now) }
-    ensures { IfOk result (λ made. IsRisingListOf nat_lt (λ f. exactly_one (is_marked_odd marks.now f) (is_in f list.now)) made.items) }
+    ensures { OnOk result (IsRisingListOf nat_lt (λ f. exactly_one (is_marked_odd marks.now f) (is_in f list.now)) made.new.items) }
 {
-    let mut made = Vec::new(alloc);
+    made.clear();
     let mut done = 0;
     for mark in marks {
         if mark.odd {
-            done += exchange(&mut made, &list[done..], mark.feature)?;
+            done += exchange(made, &list[done..], mark.feature)?;
         }
     }
     made.extend_from_slice(&list[done..])?;
-    Ok(made)
+    Ok(())
 }

@@ -1,8 +1,8 @@
 // The distinct lists that were found so far.
 
-ghost use Rattle.std.specs.Prelude.{◌≡◌, ℕ, ◌+◌, ◌<◌, ◌≤◌, ◌++◌, [], ◌∷◌, false, length, get_or, IfOk, IfErr};
+ghost use Rattle.std.specs.Prelude.{◌≡◌, ◌≢◌, ℕ, ◌+◌, ◌<◌, ◌≤◌, ◌^◌, ◌++◌, [], ◌∷◌, false, length, get_or, Some, None, IfOk, IfErr, IfSome, OnOk, OnErr};
 ghost use Rattle.loc_cover.specs.Legends.{most_members};
-ghost use Rattle.loc_cover.specs.Stores.{GainsAtMost, IsAt, IsStore, IsPast, is_among, lists_of};
+ghost use Rattle.loc_cover.specs.Stores.{GainsAtMost, IsAt, IsStore, IsPast, is_among, lists_of, short_list};
 
 use crate::LegendFault;
 use bumpalo::Bump;
@@ -14,18 +14,20 @@ use std::marker::Model;
 // How many members the distinct lists may have together.
 const MOST_MEMBERS: usize = 16_777_216;
 
-// Each list stands once in an arena. The rows have it by its number, and the numbers are in the lexicographic order of their lists.
+// Each list stands once in an arena. The rows have it by its number, and the numbers are in the lexicographic order of their lists. Those of
+// lists of at most one feature are noted apart too: that of the empty list, and then that of the list of each feature alone.
 #[derive(Drop)]
 pub(crate) struct Store<'a> {
     arena: &'a Bump,
     rows: Vec<&'a [u32]>,
     numbers: BTreeMap<&'a [u32], u32>,
     members: usize,
+    short: Vec<Option<u32>>,
 }
 
 impl<'a> Model for Store<'a> {
     ghost use Rattle.std.specs.Prelude.{map};
-    ghost use Rattle.loc_cover.specs.Stores.{StoreRows};
+    ghost use Rattle.loc_cover.specs.Stores.{AreShort, StoreRows};
 
     ghost Value = { StoreRows };
 
@@ -35,6 +37,34 @@ impl<'a> Model for Store<'a> {
       order = map (λ entry. entry.1) s.numbers.entries;
       members = s.members;
     } };
+
+    ghost invariant = { λ s. AreShort (map (λ row. row.now) s.rows.items) s.short.items };
+}
+
+// The place of a list among those of at most one feature, where it is one of them.
+fn short_place(list: &[u32]) -> Option<usize>
+    ensures within { IfSome result (λ place. place ≤ 2 ^ 32) }
+    ensures found { IfSome result (λ place. short_list place ≡ list.now) }
+{
+    match list.len() {
+        0 => Some(0),
+        1 => Some(list[0] as usize + 1),
+        _ => None,
+    }
+}
+
+// Notes a number at a place.
+fn note_at(numbers: &mut Vec<Option<u32>>, place: usize, number: u32) -> Result<(), AllocError>
+    requires within { place ≤ 2 ^ 32 }
+    ensures here { OnOk result (get_or numbers.new.items place None ≡ Some number) }
+    ensures others { (k : ℕ) → k ≢ place → get_or numbers.new.items k None ≡ get_or numbers.old.items k None }
+    ensures err { OnErr result (numbers.new.items ≡ numbers.old.items) }
+{
+    if place >= numbers.len() {
+        numbers.resize(place + 1, None)?;
+    }
+    numbers[place] = Some(number);
+    Ok(())
 }
 
 impl<'a> Store<'a> {
@@ -48,6 +78,7 @@ impl<'a> Store<'a> {
             rows: Vec::new(alloc),
             numbers: BTreeMap::new(alloc),
             members: 0,
+            short: Vec::new(alloc),
         }
     }
 
@@ -76,8 +107,8 @@ impl<'a> Store<'a> {
         Ok(number)
     }
 
-    // The number of a list, which is put where it is new.
-    pub(crate) fn number_of(&mut self, list: &[u32]) -> Result<u32, LegendFault>
+    // The number of a list, which is put where it is new, by the order of the lists.
+    fn number_by_order(&mut self, list: &[u32]) -> Result<u32, LegendFault>
         requires stands { IsStore self.old }
         ensures stands { IfOk result (λ _. IsStore self.new) }
         ensures within { IfOk result (λ n. n < length self.new.rows) }
@@ -92,6 +123,49 @@ impl<'a> Store<'a> {
             return Err(LegendFault::ManyCovers);
         }
         Ok(self.put(list)?)
+    }
+
+    // The number of a list of at most one feature, where it is noted.
+    fn short_number(&self, list: &[u32]) -> Option<u32>
+        ensures within { IfSome result (λ n. n < length self.now.rows) }
+        ensures found { IfSome result (λ n. get_or self.now.rows n [] ≡ list.now) }
+    {
+        let place = short_place(list)?;
+        if place < self.short.len() {
+            self.short[place]
+        } else {
+            None
+        }
+    }
+
+    // Notes the number of a list, where it has at most one feature.
+    fn note_short(&mut self, list: &[u32], number: u32) -> Result<(), AllocError>
+        requires within { number < length self.old.rows }
+        requires found { get_or self.old.rows number [] ≡ list.now }
+        ensures { self.new ≡ self.old }
+    {
+        let Some(place) = short_place(list) else {
+            return Ok(());
+        };
+        note_at(&mut self.short, place, number)?;
+        Ok(())
+    }
+
+    // The number of a list, which is put where it is new.
+    pub(crate) fn number_of(&mut self, list: &[u32]) -> Result<u32, LegendFault>
+        requires stands { IsStore self.old }
+        ensures stands { IfOk result (λ _. IsStore self.new) }
+        ensures within { IfOk result (λ n. n < length self.new.rows) }
+        ensures found { IfOk result (λ n. get_or self.new.rows n [] ≡ list.now) }
+        ensures kept { IfOk result (λ _. GainsAtMost list.now self.old.rows self.new.rows) }
+        ensures refused { IfErr result (IsPast (list.now ∷ lists_of self.old)) }
+    {
+        if let Some(number) = self.short_number(list) {
+            return Ok(number);
+        }
+        let number = self.number_by_order(list)?;
+        self.note_short(list, number)?;
+        Ok(number)
     }
 
     // The lists in their order.

@@ -1,22 +1,23 @@
-use Rattle.std.proofs.Common.{◌≡◌, ◌∙◌, List, [], sym, ap, subst}
+use Rattle.std.proofs.Common.{◌∙◌, List, [], sym, ap, subst}
 use Rattle.std.specs.Prelude.{nat_lt}
 use Rattle.std.proofs.lemmas.Option.{get_or_from_slice_get}
-use Rattle.std.proofs.lemmas.Result.{IfOk-weaker}
+use Rattle.std.proofs.lemmas.Result.{on_ok_weaker}
 use Rattle.loc_spec_plane.specs.declared.Mark.{Mark}
 use Rattle.loc_spec_plane.specs.Lists.{exactly_one, is_in, is_rising, IsRisingListOf}
-use Rattle.loc_spec_plane.specs.Covers.{cover_above, cover_of_floor}
+use Rattle.loc_spec_plane.specs.Covers.{cover_of_floor}
 use Rattle.loc_cover.specs.Exchanges.{is_marked_odd}
 use Rattle.loc_cover.proofs.Numbering.{list_is, under_rises}
 use Rattle.loc_cover.proofs.covers.list_above.Goals as goal
 
-pub exchanged-requires-clause-list_in_order : goal.exchanged-requires-clause-list_in_order
-exchanged-requires-clause-list_in_order c = ap (is_rising nat_lt) c.list_under-list.ensures ∙ under_rises c.args.table.now c.args.below
+pub exchange_marked-requires-clause-list_in_order : goal.exchange_marked-requires-clause-list_in_order
+exchange_marked-requires-clause-list_in_order c = ap (is_rising nat_lt) c.list_under-under.ensures ∙ under_rises c.args.table.now c.args.below
 
 pub returns : goal.returns
 returns c =
     let t = c.args.table.now in
     let marks = get_or_from_slice_get t.marks c.args.edge c.marks.result.now [] c.marks.ensures.value in
-    IfOk-weaker c.exchanged.result _ (λ list. list.items ≡ cover_above t c.args.edge)
-    (λ list made. list_is t c.law.ensures.in_order c.requires.even.all_ends c.requires.even.all_even c.requires.even.apart c.args.edge c.requires.in_range c.args.below list.items c.requires.just_below
-    (subst (λ (ms : List Mark). IsRisingListOf nat_lt (λ f. exactly_one (is_marked_odd ms f) (is_in f (cover_of_floor t c.args.below))) list.items) (sym marks) (subst (λ xs. IsRisingListOf nat_lt (λ f. exactly_one (is_marked_odd c.marks.result.now f) (is_in f xs)) list.items) c.list_under-list.ensures made)))
-    c.exchanged.ensures
+    let list = c.exchange_marked.new.made.items in
+    on_ok_weaker c.exchange_marked.result
+    (λ made. list_is t c.law.ensures.in_order c.requires.even.all_ends c.requires.even.all_even c.requires.even.apart c.args.edge c.requires.in_range c.args.below list c.requires.just_below
+    (subst (λ (ms : List Mark). IsRisingListOf nat_lt (λ f. exactly_one (is_marked_odd ms f) (is_in f (cover_of_floor t c.args.below))) list) (sym marks) (subst (λ xs. IsRisingListOf nat_lt (λ f. exactly_one (is_marked_odd c.marks.result.now f) (is_in f xs)) list) c.list_under-under.ensures made)))
+    c.exchange_marked.ensures

@@ -9,8 +9,8 @@ invariant-loop-next l = record {
   stands : IsStore l.store;
   numbered : IsNumbered l.table l.store.rows l.numbers.items;
   kept : KeepsKnown l.fn.numbers.items l.numbers.items;
-  way : IsPath l.table l.below l.numbers.items l.edge l.path.items;
+  way : IsPath l.table l.below l.numbers.items l.edge l.room.path.items;
 }
 
 abbrev pub decreases-loop-next : goal.decreases-loop-next
-decreases-loop-next l = length l.path.items
+decreases-loop-next l = length l.room.path.items

@@ -12,8 +12,8 @@ shown P Q (Err e) f h = f e h
 
 pub returns-in_err-number-clause-refused : goal.returns-in_err-number-clause-refused
 returns-in_err-number-clause-refused c = shown _ (IsRefused c.args.table.now) c.from_residual-in_err-number.result
-    (λ fault is. subst (IsRefused c.args.table.now) (sym is) (refused_is c.args.table.now c.args.store.now c.args.numbers.now.items c.args.edge c.deref-2.result.now c.in_err-number.field-0.0 c.requires.stands c.requires.numbered c.requires.in_range (c.deref-2.ensures.value ∙ c.in_ok-list.ensures) c.in_err-number.ensures.refused))
+    (λ fault is. subst (IsRefused c.args.table.now) (sym is) (refused_is c.args.table.now c.args.store.now c.args.numbers.now.items c.args.edge c.as_slice.result.now c.in_err-number.field-0.0 c.requires.stands c.requires.numbered c.requires.in_range (c.as_slice.ensures.value ∙ c.in_ok-list_above.ensures) c.in_err-number.ensures.refused))
     c.from_residual-in_err-number.ensures.1
 
 pub returns-clause-numbered : goal.returns-clause-numbered
-returns-clause-numbered c = numbered_more c.args.table.now c.args.store.now.rows c.args.numbers.now.items c.requires.numbered c.args.edge c.requires.in_range c.deref-2.result.now (c.deref-2.ensures.value ∙ c.in_ok-list.ensures) c.number_of.new.self.rows c.in_ok-number.number c.in_ok-number.ensures.kept c.in_ok-number.ensures.within c.in_ok-number.ensures.found
+returns-clause-numbered c = numbered_more c.args.table.now c.args.store.now.rows c.args.numbers.now.items c.requires.numbered c.args.edge c.requires.in_range c.as_slice.result.now (c.as_slice.ensures.value ∙ c.in_ok-list_above.ensures) c.number_of.new.self.rows c.in_ok-number.number c.in_ok-number.ensures.kept c.in_ok-number.ensures.within c.in_ok-number.ensures.found

@@ -5,7 +5,7 @@ use Rattle.loc_cover.proofs.Ranked.{below_ranked, below_within}
 use Rattle.loc_cover.proofs.covers.path_down.Goals as goal
 
 pub loop-next-init : goal.loop-next-init
-loop-next-init c = descent_start c.args.table.now c.args.below.now c.args.edge c.push.new.self.items c.requires.in_range (c.in_ok-push.ensures.items ∙ ap (λ xs. xs ++ c.args.edge ∷ []) c.new-path.ensures.items)
+loop-next-init c = descent_start c.args.table.now c.args.below.now c.args.edge c.push.new.self.items c.requires.in_range (c.in_ok-push.ensures.items ∙ ap (λ xs. xs ++ c.args.edge ∷ []) c.clear.ensures.items)
 
 pub unknown_below-requires-clause-in_range : goal.unknown_below-requires-clause-in_range
 unknown_below-requires-clause-in_range c = omega (arith, c.loop-next.invariant.last_within, c.requires.below.as_many)

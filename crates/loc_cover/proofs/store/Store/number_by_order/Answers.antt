@@ -5,7 +5,7 @@ use Rattle.loc_spec_plane.specs.Covers.{list_before}
 use Rattle.loc_cover.specs.Legends.{most_members}
 use Rattle.loc_cover.specs.Stores.{StoreRows, IsStore, is_among, lists_of}
 use Rattle.loc_cover.proofs.Stored.{entry_past, is_new, number_is}
-use Rattle.loc_cover.proofs.store.Store.number_of.Goals as goal
+use Rattle.loc_cover.proofs.store.Store.number_by_order.Goals as goal
 
 pub returns-in-Some-clause-found : goal.returns-in-Some-clause-found
 returns-in-Some-clause-found c =

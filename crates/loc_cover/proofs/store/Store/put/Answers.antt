@@ -4,9 +4,25 @@ use Rattle.std.specs.Cmp.Lexicographic.{slice_cmp}
 use Rattle.std.specs.Ordering.{nat_cmp}
 use Rattle.std.proofs.lemmas.List.{length-map, map_push}
 use Rattle.loc_cover.specs.Legends.{most_members}
-use Rattle.loc_cover.specs.Stores.{StoreRows, IsStore, is_among}
+use Rattle.loc_cover.specs.Stores.{AreShort, StoreRows, IsStore, is_among}
+use Rattle.loc_cover.proofs.ShortLists.{short_kept}
 use Rattle.loc_cover.proofs.Stored.{entry_stands, few_rows, stored}
 use Rattle.loc_cover.proofs.store.Store.put.Goals as goal
+
+pub invariant_of-self : goal.invariant_of-self
+invariant_of-self c = subst (λ xs. AreShort (map (λ row. row.now) xs) c.self.inside.short.items) (sym c.in_err-push.ensures.items) c.self.invariant
+
+pub invariant_of-self-in_err-insert : goal.invariant_of-self-in_err-insert
+invariant_of-self-in_err-insert c =
+    let key : Bor (List ℕ) = record { ref_ptr = c.in_ok-row.field-0.ref_ptr; now = c.in_ok-row.field-0.now } in
+    let rows = ap (map (λ row. row.now)) c.in_ok-push.ensures.items ∙ map_push (λ row. row.now) c.self.inside.rows.items key in
+    subst (λ xs. AreShort xs c.self.inside.short.items) (sym rows) (short_kept (map (λ row. row.now) c.self.inside.rows.items) key.now c.self.inside.short.items c.self.invariant)
+
+pub invariant_of-self-2 : goal.invariant_of-self-2
+invariant_of-self-2 c =
+    let key : Bor (List ℕ) = record { ref_ptr = c.in_ok-row.field-0.ref_ptr; now = c.in_ok-row.field-0.now } in
+    let rows = ap (map (λ row. row.now)) c.in_ok-push.ensures.items ∙ map_push (λ row. row.now) c.self.inside.rows.items key in
+    subst (λ xs. AreShort xs c.self.inside.short.items) (sym rows) (short_kept (map (λ row. row.now) c.self.inside.rows.items) key.now c.self.inside.short.items c.self.invariant)
 
 pub overflow_cast-number : goal.overflow_cast-number
 overflow_cast-number c =

@@ -1,8 +1,8 @@
 use Rattle.std.proofs.Common.{◌-◌, length, take, drop, arith}
 use Rattle.std.proofs.lemmas.List.{length-drop, take_all}
 use Rattle.loc_cover.proofs.Exchanging.{even_made, odd_made}
-use Rattle.loc_cover.proofs.exchange.exchanged.Goals as goal
-use Rattle.loc_cover.proofs.exchange.exchanged.Goals.{then-mark+in_ok-done, else-mark}
+use Rattle.loc_cover.proofs.exchange.exchange_marked.Goals as goal
+use Rattle.loc_cover.proofs.exchange.exchange_marked.Goals.{then-mark+in_ok-done, else-mark}
 
 pub loop-mark-preserved : goal.loop-mark-preserved
 loop-mark-preserved c = elim c.if-mark.branch [
