@@ -1,10 +1,12 @@
 #!/usr/bin/env python3
 """A plain reference, to compare the program with: reference.py LAYER POINTS [SCALE] prints the answers by whole numbers, from the texts alone.
 
-It reads lines POLYGON ((x y, ..)) and points x y, of numbers with at most SCALE decimals, and takes the layer as free of conflicts.
+It reads lines POLYGON ((x y, ..)) and points x y, of numbers with at most SCALE decimals, and takes the layer as one in which no two edges
+cross. An edge is cut at each corner that lies on it.
 """
 import re
 import sys
+from bisect import bisect_left, bisect_right
 
 NUMBER = r"[-+]?\d+(?:\.\d*)?"
 POINT = re.compile(rf"[ \t\r]*({NUMBER})[ \t\r]+({NUMBER})[ \t\r]*\n?")
@@ -38,6 +40,17 @@ def lies_on(edge, p):
     return turn(*edge, p) == 0 and edge[0] <= p <= edge[1]
 
 
+def noded(edges):
+    """The edges cut at each corner that lies on them: the pieces, each once, in order."""
+    corners = sorted({p for edge in edges for p in edge})
+    pieces = set()
+    for low, high in edges:
+        between = corners[bisect_right(corners, low):bisect_left(corners, high)]
+        inside = [p for p in between if turn(low, high, p) == 0]
+        pieces.update(zip([low] + inside, inside + [high]))
+    return sorted(pieces)
+
+
 def covers(ring, p):
     inside = False
     for a, b in segments(ring):
@@ -55,7 +68,7 @@ def touching_and_covering(features, p):
 def main():
     scale = int(sys.argv[3]) if len(sys.argv) > 3 else 0
     features = read_layer(sys.argv[1], scale)
-    edges = sorted({edge for _, ring in features for edge in segments(ring)})
+    edges = noded({edge for _, ring in features for edge in segments(ring)})
     corners = sorted({p for edge in edges for p in edge})
     for line in open(sys.argv[2]):
         found = POINT.fullmatch(line)

@@ -90,6 +90,9 @@ def lines_of(case):
         return of_header(case)
     if case.note == "layer: too long":
         return ["cause: the text of a layer has at most 2^28 = 268435456 bytes", *cut_up()]
+    if case.note.startswith("layer: pieces past"):
+        return ["cause: a border is cut at each corner of a neighbour that lies on it, and more pieces come of that than the program takes",
+                *cut_up()]
     if case.note.startswith("layer: covers past"):
         return ["cause: so many polygons lie one on another that the lists of those that cover a place are too long together",
                 "mend: cut the layer up by an attribute, so that fewer polygons overlap"]
