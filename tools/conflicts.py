@@ -1,8 +1,9 @@
-"""All pairs of edges that conflict, exactly, in whole numbers: what tools/faults writes, tools/mend mends, tools/view draws and tools/why
+"""All pairs of edges that cross, exactly, in whole numbers: what tools/faults writes, tools/mend mends, tools/view draws and tools/why
 explains.
 
-An edge is a pair of different points, the lower first, and a point is a pair of whole numbers: coordinates times 10^scale. Two edges
-conflict where they have a point in common that is no end of both: see `conflict`.
+An edge is a pair of different points, the lower first, and a point is a pair of whole numbers: coordinates times 10^scale. Two edges meet
+where they have a point in common that is no end of both: see `conflict`. `locate` cuts an edge at each corner that lies on it, and so two
+edges are refused only if pieces of them cross: see `crossings`.
 """
 from layer_text import names, printed_edge, turn
 
@@ -97,6 +98,34 @@ def all_conflicts(edges, fresh=None):
                 if how:
                     found[first, second] = how
     return sorted((first, second, how) for (first, second), how in found.items())
+
+
+def cuts_of(edges, found):
+    """The corners inside of edges, by the numbers of these; `found` are all pairs that meet."""
+    cuts = {}
+    for first, second, how in found:
+        if how == "touch":
+            for number, other in ((first, second), (second, first)):
+                low, high = edges[number]
+                inside = [point for point in edges[other] if low < point < high and turn(low, high, point) == 0]
+                if inside:
+                    cuts.setdefault(number, set()).update(inside)
+    return cuts
+
+
+def crossings(edges, owners):
+    """The pieces of edges that are cut at each corner on them, in order, each once; their owners; and the pairs of pieces that cross."""
+    found = all_conflicts(edges)
+    cuts = cuts_of(edges, found)
+    if not cuts:
+        return edges, owners, found
+    pieces = {}
+    for number, (low, high) in enumerate(edges):
+        chain = [low, *sorted(cuts.get(number, ())), high]
+        for piece in zip(chain, chain[1:]):
+            pieces.setdefault(piece, set()).update(owners[number])
+    parts = sorted(pieces)
+    return parts, [sorted(pieces[piece]) for piece in parts], all_conflicts(parts)
 
 
 def told(layer, edges, owners, found):

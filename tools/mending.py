@@ -18,7 +18,7 @@ from fractions import Fraction
 from math import isqrt
 from typing import NamedTuple
 
-from conflicts import all_conflicts
+from conflicts import all_conflicts, crossings
 from layer_text import edges_of, turn
 
 MOST_ROUNDS = 60
@@ -319,7 +319,8 @@ def mend(layer, bound):
     """
     edges, owners = edges_of(layer)
     shapes = Shapes(layer, edges)
-    conflicts = [(edges[first], edges[second], how) for first, second, how in all_conflicts(edges)]
+    count = len(crossings(edges, owners)[2])
+    conflicts = to_mend(edges) if count else []
     square, bounds, fixed = bound * bound, {}, set()
     while True:
         net = Net(edges, square, bounds, fixed)
@@ -327,7 +328,14 @@ def mend(layer, bound):
         changed = shapes.changed(owners, net)
         if not stiffen(shapes.lost(changed, net), shapes, square, bounds, fixed):
             break
-    return outcome(shapes, owners, net, changed, len(conflicts))
+    return outcome(shapes, owners, net, changed, count)
+
+
+def to_mend(edges):
+    """The edges that cross, and those that touch one that does: these are cut there first."""
+    found = all_conflicts(edges)
+    crossed = {number for first, second, how in found if how == "cross" for number in (first, second)}
+    return [(edges[first], edges[second], how) for first, second, how in found if first in crossed or second in crossed]
 
 
 def stiffen(rings, shapes, square, bounds, fixed):

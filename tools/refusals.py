@@ -30,7 +30,7 @@ LONGEST_SHOWN = 60
 MOST_SIZES = 5
 
 PLACED = re.compile(r"layer (line|row) ([0-9]+): (.*)", re.DOTALL)
-CONFLICT = re.compile(r"layer: edges (.*) and (.*) (cross|touch)")
+CONFLICT = re.compile(r"layer: edges (.*) and (.*) cross")
 OF_NUMBER = re.compile(r"number ([0-9]+) (off grid|out of range)")
 OF_RING = re.compile(r"ring ([0-9]+) (short|open)")
 
@@ -317,11 +317,10 @@ def written(value, scale, digits=3):
 
 def of_conflicts(case):
     layer = layer_text.read_layer(case.path, case.scale, case.form)
-    edges, owners = layer_text.edges_of(layer)
-    found = conflicts.all_conflicts(edges)
+    edges, owners, found = conflicts.crossings(*layer_text.edges_of(layer))
     sizes = [units(size(edges[first], edges[second])) for first, second, _ in found]
     at = shown_first(case, edges, found)
-    kinds = [kind_of(owners[first], owners[second], how, large) for (first, second, how), large in zip(found, sizes)]
+    kinds = [kind_of(owners[first], owners[second], large) for (first, second, _), large in zip(found, sizes)]
     features = {number for first, second, _ in found for number in (*owners[first], *owners[second])}
     return [*of_pair(case, layer, edges, owners, found[at], sizes[at]),
             f"cause: {KINDS[kinds[at]]}",
@@ -333,18 +332,15 @@ def of_conflicts(case):
 
 
 KINDS = {
-    "missing": "a corner of one polygon lies on an edge of another that has no corner there",
-    "itself": "a polygon crosses or touches itself",
+    "itself": "a polygon crosses itself",
     "rounding": "rounding, or noise in the last digits, brought a corner to the other side of an edge close by",
     "overlap": "two polygons overlap: a border was drawn twice, and not alike; or the polygons truly overlap",
 }
 
 
-def kind_of(owners, others, how, large):
+def kind_of(owners, others, large):
     if set(owners) & set(others):
         return "itself"
-    if how == "touch":
-        return "missing"
     return "rounding" if large <= UNITS_OF_ROUNDING * 10 ** MORE_DIGITS else "overlap"
 
 
@@ -358,15 +354,13 @@ def shown_first(case, edges, found):
 
 
 def of_pair(case, layer, edges, owners, found, large):
-    first, second, how = found
+    first, second, _ = found
     word = "line" if case.form == "lines" else "row"
     lines = []
     for which, number in (("first", first), ("second", second)):
         ends = [" ".join(printed(value, case.scale) for value in point) for point in edges[number]]
         names = ", ".join(f"{named(layer.features[owner].name)} ({word} {layer.features[owner].place})" for owner in owners[number])
         lines.append(f"{which} edge: from {ends[0]} to {ends[1]}, a side of {names}")
-    if how == "touch":
-        return lines + ["distance: 0, since an end of one edge lies on the other"]
     return lines + [f"distance: {written(large, case.scale + MORE_DIGITS)} from the other edge is the nearest of the four ends"]
 
 
@@ -391,7 +385,7 @@ def at_scales(edges, scale, here):
             parts.append("smaller scales were not tried, since the layer is large")
             break
         rounded = rounded_edges(edges, 10 ** (scale - smaller))
-        parts.append(f"{len(conflicts.all_conflicts(rounded))} at {smaller}")
+        parts.append(f"{len(conflicts.crossings(rounded, [()] * len(rounded))[2])} at {smaller}")
         if 2 * len(rounded) < len(edges):
             parts.append("where more than half of the edges collapse")
             break

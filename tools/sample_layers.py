@@ -55,8 +55,15 @@ def how_by_definition(one, other):
     return "cross" if apart else None
 
 
+def pieces_by_definition(segments):
+    """The segments cut at each corner that lies inside of one."""
+    corners = {p for segment in segments for p in segment}
+    chains = [sorted({*segment, *(p for p in corners if lies_inside(segment, p))}) for segment in segments]
+    return {piece for chain in chains for piece in zip(chain, chain[1:])}
+
+
 def pairs_by_definition(features):
-    segments = {tuple(sorted(side)) for rings in features for ring in rings for side in zip(ring, ring[1:]) if side[0] != side[1]}
+    segments = pieces_by_definition({tuple(sorted(side)) for rings in features for ring in rings for side in zip(ring, ring[1:]) if side[0] != side[1]})
     def written(edge):
         return ", ".join(f"{decimal(x)} {decimal(y)}" for x, y in edge)
     found = set()
