@@ -30,6 +30,18 @@ impl Model for Rings {
     ghost invariant = { λ r. AreKept r.starts.items (map (λ ring. ring.items) r.rings.items) };
 }
 
+// Puts an item at the end of a list. For a first one memory is taken for it alone, since most features have one ring. A refusal drops it.
+fn append<T: Drop>(list: &mut Vec<T>, item: T) -> Result<(), AllocError>
+    ensures ok { OnOk result (list.new.items ≡ list.old.items ++ item ∷ []) }
+    ensures err { OnErr result (list.new.items ≡ list.old.items) }
+{
+    if list.is_empty() {
+        list.reserve_exact(1)?;
+    }
+    list.push(item)?;
+    Ok(())
+}
+
 impl Rings {
     /// No polygons, and so no rings.
     pub fn new(alloc: Global) -> Rings
@@ -48,7 +60,7 @@ impl Rings {
         ensures err { OnErr result (self.new ≡ self.old) }
     {
         let start = self.rings.len() as u32;
-        self.starts.push(start)?;
+        append(&mut self.starts, start)?;
         Ok(())
     }
 
@@ -60,7 +72,7 @@ impl Rings {
         ensures ok { OnOk result (self.new ≡ with_ring self.old ring.items) }
         ensures err { OnErr result (self.new ≡ self.old) }
     {
-        self.rings.push(ring)?;
+        append(&mut self.rings, ring)?;
         Ok(())
     }
 

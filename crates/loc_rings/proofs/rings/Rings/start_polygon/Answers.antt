@@ -10,7 +10,7 @@ invariant_of-self-2 c =
     let starts = c.self.inside.starts.items in
     let rings = map (λ ring. ring.items) c.self.inside.rings.items in
     let count : length rings ≡ c.len-start.result = omega (arith, length-map c.self.inside.rings.items (λ ring. ring.items), c.len-start.ensures) in
-    let pushed = c.in_ok-push.ensures.items ∙ ap (λ n. starts ++ n ∷ []) (sym count) in
+    let pushed = c.in_ok-append.ensures.ok ∙ ap (λ n. starts ++ n ∷ []) (sym count) in
     record {
       each = c.self.invariant.each;
       few_rings = c.self.invariant.few_rings;
@@ -23,4 +23,4 @@ returns-clause-ok c =
     let starts = c.self.inside.starts.items in
     let rings = map (λ ring. ring.items) c.self.inside.rings.items in
     let count : length rings ≡ c.len-start.result = omega (arith, length-map c.self.inside.rings.items (λ ring. ring.items), c.len-start.ensures) in
-    ap (λ ns. cut_into ns rings) (c.in_ok-push.ensures.items ∙ ap (λ n. starts ++ n ∷ []) (sym count)) ∙ seen-start starts rings c.args.self.now c.self.view_is c.self.invariant.begin
+    ap (λ ns. cut_into ns rings) (c.in_ok-append.ensures.ok ∙ ap (λ n. starts ++ n ∷ []) (sym count)) ∙ seen-start starts rings c.args.self.now c.self.view_is c.self.invariant.begin
