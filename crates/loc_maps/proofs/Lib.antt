@@ -1,4 +1,6 @@
 mod Examples
 pub mod Checked
 pub mod Judged
+pub mod Plain
 pub mod Shown
+pub mod TableLaws

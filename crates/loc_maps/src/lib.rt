@@ -6,8 +6,12 @@ mod laws;
 mod lines;
 mod maps;
 mod plane;
+mod statuses;
+mod sweeping;
 
 pub use checking::check;
 pub use laws::check_law;
 pub use maps::read_layer_file;
-pub use plane::{Plane, judge, judge_table, layer_table};
+pub use plane::{Plane, judge, judge_over};
+pub use statuses::FreshStatus;
+pub use sweeping::{SweptTable, layer_table, sweep_layer, sweep_table};
