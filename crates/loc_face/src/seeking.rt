@@ -111,7 +111,7 @@ pub fn face<F: Shelf, O: Sink, L: Ledger>(
     ensures { Follows (face_course (layer_file layer_name.now form scale) point.now) (moment (F.meaning shelf.old) (O.meaning out.old) steps.old) (moment (F.meaning shelf.new) (O.meaning out.new) steps.new) (end_of result) }
 {
     let layer = read_layer_file(alloc, shelf, layer_name, form, scale)?;
-    let plane = judge(alloc, layer, scale, TreeIndex::new(alloc))?;
+    let plane: Plane<TreeIndex> = judge(alloc, layer, scale)?;
     swept_stands(&plane.table, &plane.status);
     write_for(alloc, &plane, point.as_bytes(), scale, out, steps)
 }

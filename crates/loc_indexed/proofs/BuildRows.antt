@@ -21,11 +21,11 @@ use Rattle.loc_course.proofs.Endings.{at_cut}
 use Rattle.loc_course.proofs.Statuses.{ended_so, rose_not, succeeds_case}
 use Rattle.loc_course.proofs.Told.{ends_so, it_exactly}
 use Rattle.loc_maps.specs.Conflicts.{Accepts, names_conflict}
-use Rattle.loc_maps.specs.LineTexts.{layer_fault_text, covers_text}
+use Rattle.loc_maps.specs.LineTexts.{layer_fault_text, covers_text, pieces_text}
 use Rattle.loc_maps.specs.Located.{edges_of, table_in}
 use Rattle.loc_maps.specs.MapCourses.{LayerFile, accepted_course, covers_course, layer_in, limit}
-use Rattle.loc_maps.specs.Maps.{has_many_covers}
-use Rattle.loc_maps.proofs.Judged.{on_apart, on_few_covers}
+use Rattle.loc_maps.specs.Maps.{HasFewPieces, has_many_covers, has_many_pieces}
+use Rattle.loc_maps.proofs.Judged.{on_apart, on_few_covers, on_few_pieces}
 use Rattle.loc_query.specs.Headline.{IsAccepted}
 use Rattle.loc_indexed.specs.Asks.{OrMemory}
 use Rattle.loc_indexed.specs.Building.{build_course, is_index_text}
@@ -52,17 +52,24 @@ module _ (told : Text → Told) (f : LayerFile) (index text : Text) (is : told f
       ∙ ap (λ (q : LayerRead). outcome told (layer_in f.form q (λ layer. accepted_course f.scale layer (next layer)))) reads)
 
   module _ (layer : List Feature) (few : length text ≤ limit) (reads : layer_of f.form f.scale text ≡ Ok layer) where
-    conflict : has_conflict (edges_of layer) ≡ true → outcome told (build_course f index) ≡ refusal (names_conflict f.scale (edges_of layer))
-    conflict has = layer_read few (Ok layer) reads
+    pieces : has_many_pieces layer ≡ true → outcome told (build_course f index) ≡ refusal (exactly (ended pieces_text))
+    pieces many = layer_read few (Ok layer) reads ∙ ap (outcome told) (cond-true (has_many_pieces layer) (refuses (exactly (ended pieces_text))) (accepted_course f.scale layer (next layer)) many)
+
+    -- a layer whose pieces are few
+    cut : HasFewPieces layer → outcome told (build_course f index) ≡ outcome told (accepted_course f.scale layer (next layer))
+    cut few_pieces = layer_read few (Ok layer) reads ∙ ap (outcome told) (on_few_pieces layer (accepted_course f.scale layer (next layer)) few_pieces)
+
+    conflict : HasFewPieces layer → has_conflict (edges_of layer) ≡ true → outcome told (build_course f index) ≡ refusal (names_conflict f.scale (edges_of layer))
+    conflict few_pieces has = cut few_pieces
         ∙ ap (outcome told) (cond-true (has_conflict (edges_of layer)) (refuses (names_conflict f.scale (edges_of layer))) (covers_course (table_in layer) (next layer)) has)
 
-    covers : Accepts layer → most_members < cover_sum (table_in layer) → outcome told (build_course f index) ≡ refusal (exactly (ended covers_text))
-    covers apart many = layer_read few (Ok layer) reads
+    covers : HasFewPieces layer → Accepts layer → most_members < cover_sum (table_in layer) → outcome told (build_course f index) ≡ refusal (exactly (ended covers_text))
+    covers few_pieces apart many = cut few_pieces
         ∙ (ap (outcome told) (on_apart f.scale (edges_of layer) (covers_course (table_in layer) (next layer)) apart)
         ∙ ap (outcome told) (cond-true (has_many_covers (table_in layer)) (refuses (exactly (ended covers_text))) (next layer) ((Decides-ltb most_members (cover_sum (table_in layer))).1 many)))
 
-    accepted : Accepts layer → cover_sum (table_in layer) ≤ most_members → outcome told (build_course f index) ≡ file index (is_index_text f.scale layer)
-    accepted apart few_covers = layer_read few (Ok layer) reads
+    accepted : HasFewPieces layer → Accepts layer → cover_sum (table_in layer) ≤ most_members → outcome told (build_course f index) ≡ file index (is_index_text f.scale layer)
+    accepted few_pieces apart few_covers = cut few_pieces
         ∙ (ap (outcome told) (on_apart f.scale (edges_of layer) (covers_course (table_in layer) (next layer)) apart)
         ∙ ap (outcome told) (on_few_covers (table_in layer) (next layer) few_covers))
 
@@ -97,7 +104,7 @@ module _ (f : LayerFile) (index : Text) (old new : Moment) (n n' : Stream) (stat
   builds_all : (text : Text) (layer : List Feature) → old.shelf.told f.name ≡ holds text → IsAccepted f text layer → Steady old.shelf.read_faults new.shelf.read_faults → Steady old.shelf.write_faults new.shelf.write_faults
       → OrMemory old new status (status ≡ 0)
   builds_all text layer is a reads writes =
-      let to = accepted old.shelf.told f index text is layer a.within a.reads a.apart a.few_covers in
+      let to = accepted old.shelf.told f index text is layer a.within a.reads a.few_pieces a.apart a.few_covers in
       let no_read : status_of e.end ≡ 3 → ⊥ = λ three. (let rose = (s.reads_fail reads.0).0 (e.status_is ∙ three) in omega (arith, rose, reads.1)) in
       let end = by_end e.end (came (is_index_text f.scale) f index e.follows) (is_index_text f.scale layer)
       (subst (λ (o : Outcome). EndsSo o old.out.written new e.end) to (ends_so e.follows)) no_read writes in
@@ -120,8 +127,9 @@ module _ (f : LayerFile) (index : Text) (old new : Moment) (n n' : Stream) (stat
     builds = builds_all;
     layer_long = λ text is long steady. refused_by (ended (codes "layer: too long")) (layer_long old.shelf.told f index text is long) steady;
     layer_fault = λ text fault is few reads steady. refused_by (ended (layer_fault_text f.form fault)) (layer_read old.shelf.told f index text is few (Err fault) reads) steady;
-    conflict = λ text layer is few reads has steady. refused_so (names_conflict f.scale (edges_of layer)) (conflict old.shelf.told f index text is layer few reads has) steady;
-    covers = λ text layer is few reads apart many steady. refused_by (ended covers_text) (covers old.shelf.told f index text is layer few reads apart many) steady;
+    pieces = λ text layer is few reads many steady. refused_by (ended pieces_text) (pieces old.shelf.told f index text is layer few reads many) steady;
+    conflict = λ text layer is few reads few_pieces has steady. refused_so (names_conflict f.scale (edges_of layer)) (conflict old.shelf.told f index text is layer few reads few_pieces has) steady;
+    covers = λ text layer is few reads few_pieces apart many steady. refused_by (ended covers_text) (covers old.shelf.told f index text is layer few reads few_pieces apart many) steady;
     out = out_kept (is_index_text f.scale) f index e.follows;
     kept = s.files.kept;
     others = λ name differ. s.files.others name (makes_one (is_index_text f.scale) f index name differ);

@@ -9,7 +9,7 @@ use Rattle.loc_spec_text.specs.Bytes.{Text}
 use Rattle.loc_spec_plane.specs.declared.Mark.{Mark}
 use Rattle.loc_spec_plane.specs.Lists.{exactly_one}
 use Rattle.loc_spec_plane.specs.Points.{Point, same_point}
-use Rattle.loc_spec_plane.specs.Tables.{Table, table_of}
+use Rattle.loc_spec_plane.specs.Tables.{Table, noded_table_of}
 use Rattle.loc_spec_index.specs.Content.{Content, table_in}
 use Rattle.loc_spec_index.specs.IndexFile.{IsFileOf}
 use Rattle.loc_spec_index.specs.TrueIndex.{IsIndexOf, IsTrueIndex}
@@ -76,9 +76,9 @@ module _ (scale : ℕ) (layer : List Feature) where
   contents_decide c = (
     λ is. (let first = and_parts (c.scale == scale) _ is in
         let second = and_parts (pointwise bytes_eq c.ids ids) _ first.1 in
-        (eqb-true c.scale scale first.0, (slice_eq-Decides bytes_eq-Decides c.ids ids _ refl).0 second.0, (tables_decide (table_in c) (table_of (map rings_of layer))).0 second.1)),
+        (eqb-true c.scale scale first.0, (slice_eq-Decides bytes_eq-Decides c.ids ids _ refl).0 second.0, (tables_decide (table_in c) (noded_table_of (map rings_of layer))).0 second.1)),
     λ of. and_from (c.scale == scale) _ (eq-eqb c.scale scale of.0)
-        (and_from (pointwise bytes_eq c.ids ids) _ ((slice_eq-Decides bytes_eq-Decides c.ids ids _ refl).1 of.1) ((tables_decide (table_in c) (table_of (map rings_of layer))).1 of.2)),
+        (and_from (pointwise bytes_eq c.ids ids) _ ((slice_eq-Decides bytes_eq-Decides c.ids ids _ refl).1 of.1) ((tables_decide (table_in c) (noded_table_of (map rings_of layer))).1 of.2)),
   )
 
   -- what bytes are read as

@@ -8,7 +8,10 @@ use Rattle.loc_spec_plane.specs.Covers.{cover_sum}
 use Rattle.loc_spec_text.specs.Points.{ended}
 use Rattle.loc_rings.specs.Values.{Feature}
 use Rattle.loc_csvform.specs.Layer.{LayerRead, layer_of}
+use Rattle.loc_spec_plane.specs.Tables.{piece_count}
 use Rattle.loc_edges.specs.Conflicts.{has_conflict}
+use Rattle.loc_edges.specs.Layers.{layer_rings}
+use Rattle.loc_node.specs.Pieces.{most_pieces}
 use Rattle.loc_course.specs.Courses.{Source, Course, reads, refuses, makes, Stopped}
 pub use Rattle.loc_course.specs.Endings.{AtEnd, Did, MadeOf}
 use Rattle.loc_course.specs.Following.{Follows, Moment, lacks, refuses_by, reads_not, reads_by, makes_by}
@@ -19,11 +22,11 @@ use Rattle.loc_course.proofs.Endings.{at_both, did_at}
 use Rattle.loc_maps.specs.Conflicts.{names_conflict}
 use Rattle.loc_maps.specs.Located.{edges_of, table_in}
 use Rattle.loc_maps.specs.MapCourses.{LayerFile, accepted_course, covers_course, layer_in, limit}
-use Rattle.loc_maps.specs.Maps.{has_many_covers}
+use Rattle.loc_maps.specs.Maps.{has_many_covers, has_many_pieces}
 use Rattle.loc_maps.proofs.Judged.{accepted_all, layer_all}
 use Rattle.loc_query.specs.Headline.{IsAccepted}
 use Rattle.loc_indexed.specs.Building.{made_course}
-use Rattle.loc_maps.specs.LineTexts.{covers_text}
+use Rattle.loc_maps.specs.LineTexts.{covers_text, pieces_text}
 use Rattle.loc_cover.specs.Legends.{most_members}
 
 -- ---- a wider test
@@ -43,8 +46,9 @@ module _ (p q : List Feature → Text → Bool) (wider : (layer : List Feature) 
   behind m n end (Err fault) follows = follows
   behind m n end (Ok layer) follows =
       let F : Course → Type 0 = λ c. Follows c m n end in
-      exchanged F (has_conflict (edges_of layer)) (refuses (names_conflict file.scale (edges_of layer))) (covers_course (table_in layer) (makes index (p layer))) (covers_course (table_in layer) (makes index (q layer)))
-      (exchanged F (has_many_covers (table_in layer)) (refuses (exactly (ended covers_text))) (makes index (p layer)) (makes index (q layer)) (making layer)) follows
+      exchanged F (has_many_pieces layer) (refuses (exactly (ended pieces_text))) (accepted_course file.scale layer (makes index (p layer))) (accepted_course file.scale layer (makes index (q layer)))
+      (exchanged F (has_conflict (edges_of layer)) (refuses (names_conflict file.scale (edges_of layer))) (covers_course (table_in layer) (makes index (p layer))) (covers_course (table_in layer) (makes index (q layer)))
+      (exchanged F (has_many_covers (table_in layer)) (refuses (exactly (ended covers_text))) (makes index (p layer)) (makes index (q layer)) (making layer))) follows
 
   reading_on : (s : Source) {m n : Moment} {end : Option Stopped} → Follows (reads s (λ text. layer_in file.form (layer_of file.form file.scale text) (λ l. accepted_course file.scale l (makes index (p l))))) m n end
       → Follows (reads s (λ text. layer_in file.form (layer_of file.form file.scale text) (λ l. accepted_course file.scale l (makes index (q l))))) m n end
@@ -78,14 +82,15 @@ module _ (passes : List Feature → Text → Bool) (file : LayerFile) (index : T
   by_layer text m n end few told (Ok layer) is did =
       let P : Course → Type 0 = λ c. Did c m n end → AcceptedSo passes file index m.shelf n.shelf end in
       let many = exactly (ended covers_text) in
-      cond_both (has_conflict (edges_of layer)) (refuses (names_conflict file.scale (edges_of layer))) (covers_course (table_in layer) (makes index (passes layer))) P (λ _ none. absurd none)
+      cond_both (has_many_pieces layer) (refuses (exactly (ended pieces_text))) (accepted_course file.scale layer (makes index (passes layer))) P (λ _ none. absurd none)
+      (λ cut. cond_both (has_conflict (edges_of layer)) (refuses (names_conflict file.scale (edges_of layer))) (covers_course (table_in layer) (makes index (passes layer))) P (λ _ none. absurd none)
       (λ apart. cond_both (has_many_covers (table_in layer)) (refuses many) (makes index (passes layer)) P (λ _ none. absurd none) (λ covers made. record {
         text = text;
         layer = layer;
         told = told;
-        accepted = record { within = few; reads = is; apart = not_from_false (has_conflict (edges_of layer)) apart; few_covers = ltb-false most_members (cover_sum (table_in layer)) covers };
+        accepted = record { within = few; reads = is; few_pieces = ltb-false most_pieces (piece_count (layer_rings layer)) cut; apart = not_from_false (has_conflict (edges_of layer)) apart; few_covers = ltb-false most_members (cover_sum (table_in layer)) covers };
         made = made;
-      })) did
+      }))) did
 
   -- where it was done or a write failed, the layer was accepted and a text that passes was made, or cut
   pub came : {m n : Moment} {end : Option Stopped} → Follows (made_course passes file index) m n end → AtEnd (AcceptedSo passes file index m.shelf n.shelf) end

@@ -16,7 +16,7 @@ use Rattle.loc_spec_plane.specs.Places.{IsFloor, IsPlace, alive, alive_at, is_ed
 use Rattle.loc_spec_plane.specs.Points.{Point, is_above, lies_on, same_point}
 use Rattle.loc_spec_plane.specs.Rays.{crosses_right}
 use Rattle.loc_spec_plane.specs.Rings.{Rings, covers, touches}
-use Rattle.loc_spec_plane.specs.Tables.{IsTable, Table, corner, covers_by_marks, edge, edge_numbers, has, has_odd, table_of, touches_by_marks}
+use Rattle.loc_spec_plane.specs.Tables.{IsTable, Table, corner, covers_by_marks, edge, edge_numbers, has, has_odd, touches_by_marks}
 use Rattle.loc_spec_text.specs.Points.{answer_text, answer_to, ended, in_face, no_point, on_border, on_corner, point_of}
 use Rattle.loc_spec_index.specs.Content.{Content, search_in, table_in}
 use Rattle.loc_spec_index.specs.IndexFile.{IsFileOf}
@@ -29,7 +29,6 @@ use Rattle.loc_laws_rays.proofs.Members.{feature_below, has-from_odd}
 use Rattle.loc_laws_rays.proofs.Parity.{never, odd_many-same}
 use Rattle.loc_laws_search.proofs.FindsPlace.{search_finds_place}
 use Rattle.loc_rings.specs.Values.{Feature}
-use Rattle.loc_edges.proofs.RingMarks.{covers_is, touches_is}
 use Rattle.loc_edges.specs.Layers.{layer_rings}
 use Rattle.loc_treeidx.specs.Steps.{most_steps}
 use Rattle.loc_place.specs.Found.{place_at}
@@ -48,6 +47,7 @@ use Rattle.loc_course.specs.Courses.{answers}
 use Rattle.loc_course.specs.Stops.{source}
 use Rattle.loc_maps.specs.Located as maps
 use Rattle.loc_maps.specs.MapCourses.{limit}
+use Rattle.loc_maps.proofs.TableLaws.{covers_is, touches_is}
 use Rattle.loc_query.specs.Answered.{answer_at, answer_line, ids_where, located}
 use Rattle.loc_query.specs.QueryCourses.{points_course}
 use Rattle.loc_query.proofs.LegendAnswers.{named_are}
@@ -201,19 +201,19 @@ module _ (scale : ℕ) (layer : List Feature) (c : Content) (of : IsIndexOf scal
   same_table = of.2
 
   ids_same : (p : Point) (by_marks : Table → ℕ → Point → Bool) (test : Rings → Point → Bool) → test [] p ≡ false
-      → ((f : ℕ) → by_marks (table_of (layer_rings layer)) f p ≡ test (get_or (layer_rings layer) f []) p) → ((f : ℕ) → by_marks (table_in c) f p ≡ true → f < feature_count (table_in c))
+      → ((f : ℕ) → by_marks (maps.table_in layer) f p ≡ test (get_or (layer_rings layer) f []) p) → ((f : ℕ) → by_marks (table_in c) f p ≡ true → f < feature_count (table_in c))
       → ids_marked c (λ f. by_marks (table_in c) f p) ≡ ids_where (λ rings. test rings p) layer
   ids_same p by_marks test none same few =
       let list = listed (table_in c) (λ f. by_marks (table_in c) f p) few in
       ap (λ (ids : List (List ℕ)). map (λ f. get_or ids f []) (features_where (table_in c) (λ f. by_marks (table_in c) f p))) (sym (ids_are c))
       ∙ named_are (λ rings. test rings p) none layer (rows_in c) (features_where (table_in c) (λ f. by_marks (table_in c) f p)) (ids_are c ∙ of.1) list.rising
-      (λ f. list.exact f ∙ (ap (λ (t : Table). by_marks t f p) of.2 ∙ same f))
+      (λ f. list.exact f ∙ (ap (λ (t : Table). by_marks t f p) same_table ∙ same f))
 
   marked_is : (p : Point) → marked c p ≡ located false layer p
   unfolding marked located
   marked_is p =
-      let on = ids_same p (λ t f p. touches_by_marks t f p) touches refl (λ f. touches_is (layer_rings layer) f p) (touching_below (table_in c) p) in
-      let over = ids_same p (λ t f p. covers_by_marks t f p) covers refl (λ f. covers_is (layer_rings layer) f p) (covering_below (table_in c) p) in
+      let on = ids_same p (λ t f p. touches_by_marks t f p) touches refl (λ f. touches_is layer f p) (touching_below (table_in c) p) in
+      let over = ids_same p (λ t f p. covers_by_marks t f p) covers refl (λ f. covers_is layer f p) (covering_below (table_in c) p) in
       ap₂ (λ (t : Table) (ids : List (List ℕ)). answer_at unnumbered (place_at t p) ids (ids_marked c (λ f. covers_by_marks (table_in c) f p))) same_table on
       ∙ ap (answer_at unnumbered (place_at (maps.table_in layer) p) (ids_where (λ rings. touches rings p) layer)) over
 

@@ -6,14 +6,13 @@ use Rattle.std.proofs.lemmas.List.Elements.{All-append, All-cons}
 use Rattle.loc_spec_text.specs.Bytes.{Text}
 use Rattle.loc_io.specs.Meaning.{Meaning, Told, untold, absent, holds}
 use Rattle.loc_spec_plane.specs.Covers.{feature_count}
-use Rattle.loc_spec_plane.specs.Tables.{Table, AllEnds, AllEven, NoConflict, table_of}
+use Rattle.loc_spec_plane.specs.Tables.{Table, AllEnds, AllEven, NoConflict, noded_table_of}
 use Rattle.loc_spec_index.specs.Content.{Content}
 use Rattle.loc_spec_index.specs.IndexFile.{IsFileOf, bytes_of}
 use Rattle.loc_spec_index.specs.TrueIndex.{IsIndexOf}
 use Rattle.loc_laws_index.specs.IndexReading.{AreBytes}
-use Rattle.loc_rings.specs.Values.{Feature, rings_of, most_id_bytes}
+use Rattle.loc_rings.specs.Values.{Feature, most_id_bytes}
 use Rattle.loc_edges.specs.Layers.{layer_rings}
-use Rattle.loc_edges.proofs.RingMarks.{table_of-features}
 use Rattle.loc_status.specs.Versions.{AreVersions}
 use Rattle.loc_persist.specs.Meaning.{VersionsMeaning, IsMeaning}
 use Rattle.loc_cover.specs.Legends.{LegendRows, IsSound, IsTrueLegend}
@@ -26,6 +25,7 @@ use Rattle.loc_laws_built.proofs.True.{content_is_true}
 use Rattle.loc_course.specs.Courses.{unwritten}
 use Rattle.loc_course.specs.Following.{IsCut, IsMade, MakesFile}
 use Rattle.loc_maps.specs.Located.{table_in}
+use Rattle.loc_maps.proofs.TableLaws.{few_features}
 use Rattle.loc_indexed.specs.Builds.{IsIndexFileOf}
 use Rattle.loc_indexed.specs.Followed.{IsLaidOut}
 
@@ -70,28 +70,27 @@ module _ {T E : Type 0} (name text : Text) (old new : Meaning) where
 -- ---- the table and the legend of a layer
 
 -- the table of a layer, in the words of the plane
-table_is : (layer : List Feature) → table_in layer ≡ table_of (layer_rings layer)
+table_is : (layer : List Feature) → table_in layer ≡ noded_table_of (layer_rings layer)
 unfolding table_in
 table_is layer = refl
 
 module _ (layer : List Feature) (t : Table) (rows : LegendRows) (laid : IsLaidOut layer t rows) where
-  same : t ≡ table_of (layer_rings layer)
+  same : t ≡ noded_table_of (layer_rings layer)
   same = laid.map.table ∙ table_is layer
 
   pub few_edges : length t.ends ≤ 2 ^ 20
-  few_edges = let few = (layer_fits layer laid.ids.within).0 in let is = ap (λ (u : Table). length u.ends) same in omega (arith, few, is)
+  few_edges = let few = (layer_fits layer laid.map.few_pieces).0 in let is = ap (λ (u : Table). length u.ends) same in omega (arith, few, is)
 
   pub few_marks : sum_by length t.marks ≤ 2 ^ 20
-  few_marks = subst (λ (u : Table). sum_by length u.marks ≤ 2 ^ 20) (sym same) (layer_fits layer laid.ids.within).1
+  few_marks = subst (λ (u : Table). sum_by length u.marks ≤ 2 ^ 20) (sym same) (layer_fits layer laid.map.few_pieces).1
 
   pub features_within : feature_count t ≤ length rows.ids
   features_within =
-      let few = table_of-features (layer_rings layer) in
-      let is = ap feature_count same in
+      let few = few_features layer in
+      let is = ap feature_count laid.map.table in
       let a = ap (λ (ids : List (List ℕ)). length ids) laid.map.ids in
       let b = length-map layer (λ (f : Feature). f.id) in
-      let d = length-map layer rings_of in
-      omega (arith, few, is, a, b, d)
+      omega (arith, few, is, a, b)
 
   -- what holds of the ids in the layer holds of those of the legend
   all_ids : (P : List ℕ → Type 0) → All (λ (f : Feature). P f.id) layer → All P rows.ids

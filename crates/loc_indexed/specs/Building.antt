@@ -12,7 +12,7 @@ use Rattle.loc_spec_text.specs.Bytes.{Text}
 use Rattle.loc_spec_plane.specs.declared.Mark.{Mark}
 use Rattle.loc_spec_plane.specs.Lists.{exactly_one}
 use Rattle.loc_spec_plane.specs.Points.{same_point}
-use Rattle.loc_spec_plane.specs.Tables.{Table, table_of}
+use Rattle.loc_spec_plane.specs.Tables.{Table, noded_table_of}
 use Rattle.loc_spec_index.specs.declared.IndexFault.{IndexFault}
 use Rattle.loc_spec_index.specs.Content.{Content, table_in}
 use Rattle.loc_laws_index.specs.IndexReading.{reading}
@@ -35,7 +35,7 @@ same_table s t = pointwise same_point s.corners t.corners && (pointwise same_pai
 -- a content has the scale, the ids and the table of a layer
 abbrev pub is_content_for : ℕ → List Feature → Content → Bool
 is_content_for scale layer c =
-    (c.scale == scale) && (pointwise bytes_eq c.ids (map (λ (f : Feature). f.id) layer) && same_table (table_in c) (table_of (map rings_of layer)))
+    (c.scale == scale) && (pointwise bytes_eq c.ids (map (λ (f : Feature). f.id) layer) && same_table (table_in c) (noded_table_of (map rings_of layer)))
 
 -- what was read is such a content
 abbrev pub is_read_for : ℕ → List Feature → Result Content IndexFault → Bool

@@ -21,9 +21,10 @@ use Rattle.loc_course.specs.Following.{IsCut, IsMade, IsToldAtMost}
 use Rattle.loc_course.specs.Moments.{Moment, IsToldText}
 use Rattle.loc_course.specs.Sentences.{Steady, Wrote}
 use Rattle.loc_maps.specs.Conflicts.{Accepts, names_conflict}
-use Rattle.loc_maps.specs.LineTexts.{layer_fault_text, covers_text}
+use Rattle.loc_maps.specs.LineTexts.{layer_fault_text, covers_text, pieces_text}
 use Rattle.loc_maps.specs.Located.{edges_of, table_in}
 use Rattle.loc_maps.specs.MapCourses.{LayerFile, limit}
+use Rattle.loc_maps.specs.Maps.{HasFewPieces, has_many_pieces}
 use Rattle.loc_query.specs.Headline.{IsAccepted}
 use Rattle.loc_indexed.specs.Asks.{OrMemory}
 use Rattle.loc_cover.specs.Legends.{most_members}
@@ -63,12 +64,16 @@ pub record Builds (file : LayerFile) (index : Text) (old new : Moment) (n n' : S
   -- or is at fault,
   pub layer_fault : (text : Text) (fault : LayerFault) → old.shelf.told file.name ≡ holds text → length text ≤ limit → layer_of file.form file.scale text ≡ Err fault
       → Steady old.shelf.read_faults new.shelf.read_faults → OrMemory old new status ((status ≡ 1) × Wrote n n' (ended (layer_fault_text file.form fault)))
+  -- or its segments have too many pieces together,
+  pub pieces : (text : Text) (layer : List Feature) → old.shelf.told file.name ≡ holds text → length text ≤ limit → layer_of file.form file.scale text ≡ Ok layer
+      → IsTrue (has_many_pieces layer) → Steady old.shelf.read_faults new.shelf.read_faults
+      → OrMemory old new status ((status ≡ 1) × Wrote n n' (ended pieces_text))
   -- or two of its edges conflict, and the line names two that do,
-  pub conflict : (text : Text) (layer : List Feature) → old.shelf.told file.name ≡ holds text → length text ≤ limit → layer_of file.form file.scale text ≡ Ok layer
+  pub conflict : (text : Text) (layer : List Feature) → old.shelf.told file.name ≡ holds text → length text ≤ limit → layer_of file.form file.scale text ≡ Ok layer → HasFewPieces layer
       → IsTrue (has_conflict (edges_of layer)) → Steady old.shelf.read_faults new.shelf.read_faults
       → OrMemory old new status ((status ≡ 1) × (line : Text) × IsTrue (names_conflict file.scale (edges_of layer) line) × Wrote n n' line)
   -- or its distinct cover lists have too many members together.
-  pub covers : (text : Text) (layer : List Feature) → old.shelf.told file.name ≡ holds text → length text ≤ limit → layer_of file.form file.scale text ≡ Ok layer
+  pub covers : (text : Text) (layer : List Feature) → old.shelf.told file.name ≡ holds text → length text ≤ limit → layer_of file.form file.scale text ≡ Ok layer → HasFewPieces layer
       → Accepts layer → most_members < cover_sum (table_in layer) → Steady old.shelf.read_faults new.shelf.read_faults
       → OrMemory old new status ((status ≡ 1) × Wrote n n' (ended covers_text))
   -- Nothing is on out, whatever the status.

@@ -84,7 +84,7 @@ fn make_index<F: Shelf>(
 {
     let layer = read_layer_file(alloc, shelf, name, form, scale)?;
     ids_are_short(&layer);
-    let plane = judge(alloc, layer, scale, TreeIndex::new(alloc))?;
+    let plane: Plane<TreeIndex> = judge(alloc, layer, scale)?;
     write_plane(shelf, index, scale, &plane)
 }
 

@@ -1,17 +1,14 @@
--- How many edges and marks the table of a layer has: no more of either than the layer has points, since each mark stands for a segment.
+-- How many edges and marks the table of a layer has: no more of either than there are pieces.
 use Rattle.std.proofs.Common.{arith}
-use Rattle.loc_spec_plane.specs.Tables.{whole}
+use Rattle.loc_spec_plane.specs.Tables.{cut_at, layer_corners}
 use Rattle.loc_laws_noding.proofs.Counted.{few_marks}
 use Rattle.loc_laws_noding.proofs.Tables.{few_ends}
 use Rattle.loc_edges.specs.Layers.{layer_rings}
-use Rattle.loc_edges.proofs.Counts.{few_pieces}
-use Rattle.loc_edges.proofs.SmallLayers.{few_written_points}
 use Rattle.loc_laws_built.specs.Built.{LayerFits}
 
--- a layer within its limits has few edges and few marks
+-- a layer of few pieces has few edges and few marks
 pub layer_fits : LayerFits
-layer_fits features within =
-    let small = few_written_points features within in
+layer_fits features few =
     let layer = layer_rings features in
-    let pieces = few_pieces layer in
-    (omega (arith, small, pieces, few_ends whole layer), omega (arith, small, pieces, few_marks whole layer))
+    let cut = cut_at (layer_corners layer) in
+    (omega (arith, few, few_ends cut layer), omega (arith, few, few_marks cut layer))

@@ -5,7 +5,7 @@ use Rattle.std.proofs.lemmas.Bool.{both_ways, ltb-true, not_from_false, not-true
 use Rattle.std.proofs.lemmas.List.Sums.{length-filter}
 use Rattle.std.proofs.lemmas.Option.{get_or_from_slice_get, slice_get-get_or}
 use Rattle.loc_spec_plane.specs.Rings.{Rings}
-use Rattle.loc_spec_plane.specs.Tables.{Table, IsTable, AllEnds, AllEven, NoConflict, corner, edge_numbers, table_of, whole}
+use Rattle.loc_spec_plane.specs.Tables.{Table, IsTable, AllEnds, AllEven, NoConflict, corner, edge_numbers, cut_at, layer_corners, noded_table_of}
 use Rattle.loc_spec_plane.specs.Places.{IsFloor, IsVersion, alive_at}
 use Rattle.loc_spec_plane.specs.Covers.{cover_above}
 use Rattle.loc_spec_plane.specs.Lists.{is_in}
@@ -13,7 +13,6 @@ use Rattle.loc_spec_index.specs.declared.NodeRow.{NodeRow}
 use Rattle.loc_spec_index.specs.Content.{Content, cover_numbers, floor_of_corner, root_of}
 use Rattle.loc_spec_index.specs.Nodes.{IsShallow, is_deep}
 use Rattle.loc_spec_index.specs.TrueIndex.{IsIndexOf, IsTrueIndex, IsTrueVersion, alive_count, is_on_source}
-use Rattle.loc_edges.proofs.Ordered.{table_of-is_table}
 use Rattle.loc_persist.specs.Meaning.{VersionsMeaning}
 use Rattle.loc_persist.proofs.ByNumber.{rows_by_number_read}
 use Rattle.loc_treeidx.proofs.Standing.{listed_count, square_rises}
@@ -22,6 +21,8 @@ use Rattle.loc_write.specs.Written.{HoldsParts, IsContentOf}
 use Rattle.loc_laws_index.proofs.FlawKinds.{as_many, as_many_corners}
 use Rattle.loc_laws_index.proofs.OwnSources.{on_source}
 use Rattle.loc_laws_noding.proofs.Counted.{every_marked}
+use Rattle.loc_laws_noding.proofs.Noded.{cutting_noded}
+use Rattle.loc_laws_noding.proofs.Tables.{is_table}
 use Rattle.loc_laws_built.specs.Built.{ContentIsTrue, IsPlaneOf}
 use Rattle.loc_laws_built.proofs.Named.{every_named}
 
@@ -35,9 +36,9 @@ fewer_shallow rows i n k l le shallow = λ sides leads.
     let square = square_rises k l le in
     both_ways (is_deep k d) not_deep (lt-ltb ((k + 1) * (k + 1)) (2 ^ d) (omega (arith, more, square))))))
 
-module _ (scale : ℕ) (layer : List Rings) (rows : LegendRows) (m : VersionsMeaning) (c : Content) (p : IsPlaneOf layer rows m) (of : IsContentOf scale (table_of layer) rows m c) (holds : HoldsParts (table_of layer) rows c) where
+module _ (scale : ℕ) (layer : List Rings) (rows : LegendRows) (m : VersionsMeaning) (c : Content) (p : IsPlaneOf layer rows m) (of : IsContentOf scale (noded_table_of layer) rows m c) (holds : HoldsParts (noded_table_of layer) rows c) where
   abbrev t : Table
-  t = table_of layer
+  t = noded_table_of layer
 
   as_many_above : length rows.above ≡ length t.ends
   as_many_above = p.sound.as_many_above ∙ p.as_many
@@ -55,7 +56,7 @@ module _ (scale : ℕ) (layer : List Rings) (rows : LegendRows) (m : VersionsMea
   floors_are = ap (λ (x : Content). x.floors) of.parts
 
   sources_on : (e : ℕ) → e < length c.edges → is_on_source c e ≡ true
-  sources_on = on_source c (subst IsTable (sym holds.table) (table_of-is_table layer)) (holds.sources ∙ sym (ap (λ (u : Table). u.ends) holds.table))
+  sources_on = on_source c (subst IsTable (sym holds.table) (is_table (cut_at (layer_corners layer)) layer (cutting_noded layer))) (holds.sources ∙ sym (ap (λ (u : Table). u.ends) holds.table))
 
   -- version i
   version_true : (i : ℕ) → i < length c.corners → IsTrueVersion c i
@@ -78,7 +79,7 @@ module _ (scale : ℕ) (layer : List Rings) (rows : LegendRows) (m : VersionsMea
   is_true : IsTrueIndex c
   is_true = record {
     ended = subst AllEnds (sym holds.table) p.ended;
-    marked = λ e lt. subst (λ (u : Table). get_or u.marks e [] ≢ []) (sym holds.table) (every_marked whole layer e (within e lt));
+    marked = λ e lt. subst (λ (u : Table). get_or u.marks e [] ≢ []) (sym holds.table) (every_marked (cut_at (layer_corners layer)) layer e (within e lt));
     even = subst AllEven (sym holds.table) p.even;
     apart = subst NoConflict (sym holds.table) p.apart;
     floors = λ n lt. subst (λ (u : Table). IsFloor u (corner u n) (floor_of_corner c n)) (sym holds.table)

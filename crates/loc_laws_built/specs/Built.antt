@@ -1,16 +1,15 @@
 -- What is written of a layer is a true index of it. The words:
 --   IsPlaneOf      a legend and versions are those of a layer
 --   ContentIsTrue  as a law: what holds them is a true index of the layer
---   LayerFits      as a law: a layer within its limits has few edges and marks
+--   LayerFits      as a law: a layer of few pieces has few edges and marks
 --   BytesOf        as a law: what is written of a content is bytes
 use Rattle.std.specs.Prelude.{◌≡◌, ℕ, ◌≤◌, ◌^◌, All, List, length, sum_by}
 use Rattle.loc_spec_plane.specs.Rings.{Rings}
-use Rattle.loc_spec_plane.specs.Tables.{AllEnds, AllEven, NoConflict, table_of}
+use Rattle.loc_spec_plane.specs.Tables.{AllEnds, AllEven, NoConflict, noded_table_of, piece_count}
 use Rattle.loc_spec_index.specs.Content.{Content}
 use Rattle.loc_spec_index.specs.TrueIndex.{IsIndexOf, IsTrueIndex}
 use Rattle.loc_spec_index.specs.IndexFile.{bytes_of}
 use Rattle.loc_laws_index.specs.IndexReading.{AreBytes}
-use Rattle.loc_rings.specs.Layers.{IsLayer}
 use Rattle.loc_rings.specs.Values.{Feature}
 use Rattle.loc_edges.specs.Layers.{layer_rings}
 use Rattle.loc_status.specs.Versions.{AreVersions}
@@ -20,24 +19,24 @@ use Rattle.loc_write.specs.Written.{HoldsParts, IsContentOf}
 
 -- in the table of the layer every corner is an end, marks are even and no two edges conflict; the legend is true of it, and the sealed lists are its versions
 pub record IsPlaneOf (layer : List Rings) (rows : LegendRows) (m : VersionsMeaning) : Type 0 where
-  pub ended : AllEnds (table_of layer)
-  pub even : AllEven (table_of layer)
-  pub apart : NoConflict (table_of layer)
+  pub ended : AllEnds (noded_table_of layer)
+  pub even : AllEven (noded_table_of layer)
+  pub apart : NoConflict (noded_table_of layer)
   pub sound : IsSound rows
-  pub as_many : length rows.on_edge ≡ length (table_of layer).ends
-  pub legend : IsTrueLegend (table_of layer) rows
+  pub as_many : length rows.on_edge ≡ length (noded_table_of layer).ends
+  pub legend : IsTrueLegend (noded_table_of layer) rows
   pub meaning : IsMeaning m
-  pub versions : AreVersions (table_of layer) m.sealed_lists
+  pub versions : AreVersions (noded_table_of layer) m.sealed_lists
 
 -- a content of the table, the legend and the versions of a layer is a true index of it
 abbrev pub ContentIsTrue : Type 0
 ContentIsTrue =
-    (scale : ℕ) (layer : List Rings) (rows : LegendRows) (m : VersionsMeaning) (c : Content) → IsPlaneOf layer rows m → IsContentOf scale (table_of layer) rows m c
-    → HoldsParts (table_of layer) rows c → IsTrueIndex c × IsIndexOf scale rows.ids layer c
+    (scale : ℕ) (layer : List Rings) (rows : LegendRows) (m : VersionsMeaning) (c : Content) → IsPlaneOf layer rows m → IsContentOf scale (noded_table_of layer) rows m c
+    → HoldsParts (noded_table_of layer) rows c → IsTrueIndex c × IsIndexOf scale rows.ids layer c
 
--- a layer within its limits has at most 2^20 edges, and at most as many marks
+-- a layer of at most 2^20 pieces has no more edges, and no more marks
 abbrev pub LayerFits : Type 0
-LayerFits = (layer : List Feature) → IsLayer layer → (length (table_of (layer_rings layer)).ends ≤ 2 ^ 20) × (sum_by length (table_of (layer_rings layer)).marks ≤ 2 ^ 20)
+LayerFits = (layer : List Feature) → piece_count (layer_rings layer) ≤ 2 ^ 20 → (length (noded_table_of (layer_rings layer)).ends ≤ 2 ^ 20) × (sum_by length (noded_table_of (layer_rings layer)).marks ≤ 2 ^ 20)
 
 -- where the ids are bytes, all that is written of a content is
 abbrev pub BytesOf : Type 0

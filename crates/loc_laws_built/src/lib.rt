@@ -4,7 +4,7 @@
 ghost use Rattle.loc_laws_built.specs.Built.{BytesOf, ContentIsTrue, LayerFits};
 
 /// A content of the table of a layer, of its true legend and of the versions of the tree that swept it is a true index of the layer. A layer
-/// within its limits has room in the format, and what is written of a content is bytes.
+/// of few pieces has room in the format, and what is written of a content is bytes.
 pub fn built_law()
     ensures is_true { ContentIsTrue }
     ensures fits { LayerFits }

@@ -3,6 +3,7 @@ use Rattle.std.proofs.Common.{◌≡◌, ◌⊎◌, ℕ, ◌*◌, ◌<◌, ◌�
 use Rattle.std.specs.Prelude.{IsTrue, codes, not}
 use Rattle.std.specs.Io.KnownBytes.{Appends}
 use Rattle.std.proofs.lemmas.Bool.{cases_lt}
+use Rattle.std.proofs.lemmas.Bool.Decides.{Decides-ltb}
 use Rattle.loc_io.specs.Streams.{Stream}
 use Rattle.loc_io.specs.Meaning.{Told, holds}
 use Rattle.loc_spec_plane.specs.Covers.{cover_sum}
@@ -13,7 +14,10 @@ use Rattle.loc_spec_text.specs.Points.{ended}
 use Rattle.loc_spec_text.proofs.LineLaws.{lines-front}
 use Rattle.loc_rings.specs.Values.{Feature}
 use Rattle.loc_csvform.specs.Layer.{LayerRead, layer_of}
+use Rattle.loc_spec_plane.specs.Tables.{piece_count}
 use Rattle.loc_edges.specs.Conflicts.{has_conflict}
+use Rattle.loc_edges.specs.Layers.{layer_rings}
+use Rattle.loc_node.specs.Pieces.{most_pieces}
 use Rattle.loc_course.specs.Courses.{Source, Course, reads as reads_from, refuses}
 use Rattle.loc_course.specs.Moments.{Moment, IsToldText}
 use Rattle.loc_course.specs.Outcomes.{Outcome, refusal, output, exactly, outcome}
@@ -22,10 +26,11 @@ use Rattle.loc_course.specs.Streams.{IsToldFront}
 use Rattle.loc_course.proofs.Streamed.{long_or_short}
 use Rattle.loc_course.proofs.Told.{it_exactly}
 use Rattle.loc_maps.specs.Conflicts.{Accepts, names_conflict}
-use Rattle.loc_maps.specs.LineTexts.{layer_fault_text, covers_text}
+use Rattle.loc_maps.specs.LineTexts.{layer_fault_text, covers_text, pieces_text}
 use Rattle.loc_maps.specs.Located.{edges_of, table_in}
 use Rattle.loc_maps.specs.MapCourses.{LayerFile, accepted_course, layer_in, limit}
-use Rattle.loc_maps.proofs.Judged.{accepted_all, layer_all}
+use Rattle.loc_maps.specs.Maps.{HasFewPieces, has_many_pieces}
+use Rattle.loc_maps.proofs.Judged.{accepted_all, layer_all, pieces_all}
 use Rattle.loc_trapdag.specs.Orders.{order_of}
 use Rattle.loc_trapdag.specs.declared.order.OrderFault.{OrderFault}
 use Rattle.loc_orders.specs.OrderTexts.{order_fault_text}
@@ -89,34 +94,40 @@ module _ (told : Text → Told) (index : Index) (order : AskedOrder) (faces : Bo
     where
       by_points : (features : List Feature) → IsAccepted file layer features → IsInOrder told order (edge_count features) → WasAccepted
       by_points features a o = elim (long_or_short limit text) [
-        | inl long ↦ absurd (not_done _ _ before new (rows.points_long told index order faces file points layer is features a.within a.reads o a.apart a.few_covers text also long.0) (λ e. e) ends)
+        | inl long ↦ absurd (not_done _ _ before new (rows.points_long told index order faces file points layer is features a.within a.reads a.few_pieces o a.apart a.few_covers text also long.0) (λ e. e) ends)
         | inr short ↦ (features, a, o, short.0)
       ]
 
-      by_covers : (features : List Feature) → length layer ≤ limit → layer_of file.form file.scale layer ≡ Ok features → IsInOrder told order (edge_count features) → Accepts features → WasAccepted
-      by_covers features few reads o apart = elim (cases_lt most_members (cover_sum (table_in features))) [
-        | inl many ↦ absurd (not_done _ _ before new (rows.covers told index order faces file points layer is features few reads o apart many) (λ e. e) ends)
-        | inr less ↦ by_points features (record { within = few; reads = reads; apart = apart; few_covers = less }) o
+      by_covers : (features : List Feature) → length layer ≤ limit → layer_of file.form file.scale layer ≡ Ok features → HasFewPieces features → IsInOrder told order (edge_count features) → Accepts features → WasAccepted
+      by_covers features few reads cut o apart = elim (cases_lt most_members (cover_sum (table_in features))) [
+        | inl many ↦ absurd (not_done _ _ before new (rows.covers told index order faces file points layer is features few reads cut o apart many) (λ e. e) ends)
+        | inr less ↦ by_points features (record { within = few; reads = reads; few_pieces = cut; apart = apart; few_covers = less }) o
       ]
 
-      by_conflict : (features : List Feature) → length layer ≤ limit → layer_of file.form file.scale layer ≡ Ok features → IsInOrder told order (edge_count features) → (b : Bool) → has_conflict (edges_of features) ≡ b → WasAccepted
-      by_conflict features few reads o true has = absurd (not_done _ _ before new (rows.conflict told index order faces file points layer is features few reads o has) (λ e. e) ends)
-      by_conflict features few reads o false has = by_covers features few reads o (subst (λ (b : Bool). IsTrue (not b)) (sym has) refl)
+      by_conflict : (features : List Feature) → length layer ≤ limit → layer_of file.form file.scale layer ≡ Ok features → HasFewPieces features → IsInOrder told order (edge_count features) → (b : Bool) → has_conflict (edges_of features) ≡ b → WasAccepted
+      by_conflict features few reads cut o true has = absurd (not_done _ _ before new (rows.conflict told index order faces file points layer is features few reads cut o has) (λ e. e) ends)
+      by_conflict features few reads cut o false has = by_covers features few reads cut o (subst (λ (b : Bool). IsTrue (not b)) (sym has) refl)
 
-      by_failure : (features : List Feature) → length layer ≤ limit → layer_of file.form file.scale layer ≡ Ok features → (name text : Text) → order ≡ in_file name → told name ≡ holds text → FailsSo (edge_count features) text → WasAccepted
-      by_failure features few reads name text named holds_it (inl long) = absurd (not_done _ _ before new (rows.order_long told index order faces file points layer is features few reads name text named holds_it long) (λ e. e) ends)
-      by_failure features few reads name text named holds_it (inr fails) = absurd (not_done _ _ before new (rows.order_line told index order faces file points layer is features few reads name text fails.1 named holds_it fails.0 fails.2) (λ e. e) ends)
+      by_failure : (features : List Feature) → length layer ≤ limit → layer_of file.form file.scale layer ≡ Ok features → HasFewPieces features → (name text : Text) → order ≡ in_file name → told name ≡ holds text → FailsSo (edge_count features) text → WasAccepted
+      by_failure features few reads cut name text named holds_it (inl long) = absurd (not_done _ _ before new (rows.order_long told index order faces file points layer is features few reads cut name text named holds_it long) (λ e. e) ends)
+      by_failure features few reads cut name text named holds_it (inr fails) = absurd (not_done _ _ before new (rows.order_line told index order faces file points layer is features few reads cut name text fails.1 named holds_it fails.0 fails.2) (λ e. e) ends)
+
+      by_order : (features : List Feature) → length layer ≤ limit → layer_of file.form file.scale layer ≡ Ok features → HasFewPieces features → WasAccepted
+      by_order features few reads cut = elim (order_cases told order (edge_count features) order_told) [
+        | inl o ↦ by_conflict features few reads cut o (has_conflict (edges_of features)) refl
+        | inr fails ↦ by_failure features few reads cut fails.0 fails.1 fails.2 fails.3 fails.4
+      ]
 
       by_read : length layer ≤ limit → (r : LayerRead) → layer_of file.form file.scale layer ≡ r → WasAccepted
       by_read few (Err fault) reads = absurd (not_done _ _ before new (rows.layer_line told index order faces file points layer is fault few reads) (λ e. e) ends)
-      by_read few (Ok features) reads = elim (order_cases told order (edge_count features) order_told) [
-        | inl o ↦ by_conflict features few reads o (has_conflict (edges_of features)) refl
-        | inr fails ↦ by_failure features few reads fails.0 fails.1 fails.2 fails.3 fails.4
+      by_read few (Ok features) reads = elim (cases_lt most_pieces (piece_count (layer_rings features))) [
+        | inl many ↦ absurd (not_done _ _ before new (rows.pieces told index order faces file points layer is features few reads ((Decides-ltb most_pieces (piece_count (layer_rings features))).1 many)) (λ e. e) ends)
+        | inr cut ↦ by_order features few reads cut
       ]
 
   -- an accepted layer and points that are not too long come to the answers
   comes_to : (features : List Feature) → IsAccepted file layer features → IsInOrder told order (edge_count features) → length text ≤ limit → outcome told (query_course index order faces file points) ≡ output (exactly (output_of faces file.scale features text))
-  comes_to features a o short = rows.answered_all told index order faces file points layer is features a.within a.reads o a.apart a.few_covers text also short
+  comes_to features a o short = rows.answered_all told index order faces file points layer is features a.within a.reads a.few_pieces o a.apart a.few_covers text also short
 
   steps_within : (k : ℕ) → length (lines text) * steps_in index (layer_of file.form file.scale layer) ≤ k → WithinSteps told (query_course index order faces file points) k
   steps_within k most other few told_so =
@@ -132,9 +143,10 @@ module _ (told : Text → Told) (index : Index) (order : AskedOrder) (faces : Bo
 
       by_read : (r : LayerRead) → length (lines text) * steps_in index r ≤ k → WithinSteps told (layer_in file.form r (λ l. asked_layer index order faces file.scale points l)) k
       by_read (Err fault) most = tt
-      by_read (Ok features) most = asked_all (λ (c : Course). WithinSteps told c k) (λ passes. tt) (λ s next within text few told_so. within text) order (edge_count features)
+      by_read (Ok features) most = pieces_all (λ (c : Course). WithinSteps told c k) (λ passes. tt) features (asked_layer index order faces file.scale points features)
+          (asked_all (λ (c : Course). WithinSteps told c k) (λ passes. tt) (λ s next within text few told_so. within text) order (edge_count features)
           (λ _. accepted_course file.scale features (points_course index faces file.scale points features))
-          (λ _. accepted_all (λ (c : Course). WithinSteps told c k) (λ passes. tt) file.scale features (points_course index faces file.scale points features) (by_points features most))
+          (λ _. accepted_all (λ (c : Course). WithinSteps told c k) (λ passes. tt) file.scale features (points_course index faces file.scale points features) (by_points features most)))
 
 module _ (index : Index) (order : AskedOrder) (faces : Bool) (file : LayerFile) (points : Text) (old new : Moment) (n n' : Stream) (status : ℕ) (s : Sentences (query_course index order faces file points) old new n n' status) where
   none_failed : Steady old.shelf.read_faults new.shelf.read_faults → Steady old.out.faults new.out.faults → NoneFailed (query_course index order faces file points) old new
@@ -178,15 +190,16 @@ module _ (index : Index) (order : AskedOrder) (faces : Bool) (file : LayerFile) 
         ];
     layer_long = λ layer is long steady. refused_by (ended (codes "layer: too long")) (rows.layer_long old.shelf.told index order faces file points layer is long) steady;
     layer_fault = λ layer fault is few reads steady. refused_by (ended (layer_fault_text file.form fault)) (rows.layer_line old.shelf.told index order faces file points layer is fault few reads) steady;
-    order_long = λ layer text name features named is few reads holds_it long steady.
-        refused_by (ended (codes "order: too long")) (rows.order_long old.shelf.told index order faces file points layer is features few reads name text named holds_it long) steady;
-    order_fault = λ layer text name features fault named is few reads holds_it short faulty steady.
-        refused_by (ended (order_fault_text fault)) (rows.order_line old.shelf.told index order faces file points layer is features few reads name text fault named holds_it short faulty) steady;
-    conflict = λ layer features is few reads o has steady. refused (names_conflict file.scale (edges_of features)) (rows.conflict old.shelf.told index order faces file points layer is features few reads o has) steady;
-    covers = λ layer features is few reads o apart many steady. refused_by (ended covers_text) (rows.covers old.shelf.told index order faces file points layer is features few reads o apart many) steady;
+    pieces = λ layer features is few reads many steady. refused_by (ended pieces_text) (rows.pieces old.shelf.told index order faces file points layer is features few reads many) steady;
+    order_long = λ layer text name features named is few reads cut holds_it long steady.
+        refused_by (ended (codes "order: too long")) (rows.order_long old.shelf.told index order faces file points layer is features few reads cut name text named holds_it long) steady;
+    order_fault = λ layer text name features fault named is few reads cut holds_it short faulty steady.
+        refused_by (ended (order_fault_text fault)) (rows.order_line old.shelf.told index order faces file points layer is features few reads cut name text fault named holds_it short faulty) steady;
+    conflict = λ layer features is few reads cut o has steady. refused (names_conflict file.scale (edges_of features)) (rows.conflict old.shelf.told index order faces file points layer is features few reads cut o has) steady;
+    covers = λ layer features is few reads cut o apart many steady. refused_by (ended covers_text) (rows.covers old.shelf.told index order faces file points layer is features few reads cut o apart many) steady;
     points_long = λ layer text features is also a o long reads out.
         elim (s.refuses_partly (output_within limit faces file.scale features text) (ended (codes "points: too long"))
-        (rows.points_long old.shelf.told index order faces file points layer is features a.within a.reads o a.apart a.few_covers text also long) (none_failed reads out)) [
+        (rows.points_long old.shelf.told index order faces file points layer is features a.within a.reads a.few_pieces o a.apart a.few_covers text also long) (none_failed reads out)) [
           | inl one ↦ inl one
           | inr five ↦ inr (memory five)
         ];

@@ -22,8 +22,6 @@ use Rattle.loc_laws_order.proofs.Unique.{rising-unique}
 use Rattle.loc_laws_rays.proofs.Members.{in_numbers, is_in-filter}
 use Rattle.loc_rings.specs.Values.{Feature, rings_of}
 use Rattle.loc_edges.specs.Layers.{layer_rings}
-use Rattle.loc_edges.proofs.Ordered.{table_of-is_table}
-use Rattle.loc_edges.proofs.RingMarks.{touches_is, covers_is}
 use Rattle.loc_place.specs.Found.{place_at}
 use Rattle.loc_place.specs.Planar.{IsPlanar}
 use Rattle.loc_place.proofs.FoundPlace.{place_at_is}
@@ -37,6 +35,7 @@ use Rattle.loc_course.specs.Following.{Follows}
 use Rattle.loc_course.specs.Moments.{Moment}
 use Rattle.loc_course.specs.Stops.{source}
 use Rattle.loc_course.specs.Streams.{Answering}
+use Rattle.loc_maps.proofs.TableLaws.{covers_is, is_table, touches_is}
 use Rattle.loc_maps.specs.Located.{table_in}
 use Rattle.loc_maps.specs.MapCourses.{limit}
 use Rattle.loc_maps.specs.Maps.{IsMapOf}
@@ -89,8 +88,7 @@ module _ (test : Rings → Bool) where
 
 module _ (layer : List Feature) (t : Table) (rows : LegendRows) (sound : IsSound rows) (m : IsMapOf layer t rows) where
   in_order : IsTable t
-  unfolding table_in
-  in_order = subst IsTable (sym m.table) (table_of-is_table (layer_rings layer))
+  in_order = subst IsTable (sym m.table) (is_table layer)
 
   -- the table is one in which every point has one place
   pub planar : IsPlanar t
@@ -110,14 +108,12 @@ module _ (layer : List Feature) (t : Table) (rows : LegendRows) (sound : IsSound
 
   module _ (p : Point) (place : Place) (is : IsPlace t p place) where
     touching_named : is_rising nat_lt (touching rows place) ≡ true → names rows (touching rows place) ≡ ids_where (λ rings. touches rings p) layer
-    unfolding table_in
     touching_named rises = named_are (λ rings. touches rings p) refl layer rows (touching rows place) m.ids rises
-        (λ f. touching_touches t rows m.fits in_order m.ended m.even m.apart p place is f ∙ (ap (λ s. touches_by_marks s f p) m.table ∙ touches_is (layer_rings layer) f p))
+        (λ f. touching_touches t rows m.fits in_order m.ended m.even m.apart p place is f ∙ (ap (λ s. touches_by_marks s f p) m.table ∙ touches_is layer f p))
 
     covering_named : names rows (covering rows place) ≡ ids_where (λ rings. covers rings p) layer
-    unfolding table_in
     covering_named = named_are (λ rings. covers rings p) refl layer rows (covering rows place) m.ids (covering_rises place)
-        (λ f. covering_covers t rows m.fits m.is_true in_order m.ended m.even m.apart p place is f ∙ (ap (λ s. covers_by_marks s f p) m.table ∙ covers_is (layer_rings layer) f p))
+        (λ f. covering_covers t rows m.fits m.is_true in_order m.ended m.even m.apart p place is f ∙ (ap (λ s. covers_by_marks s f p) m.table ∙ covers_is layer f p))
 
   answer_is : (shown : Option ℕ → Option ℕ) (p : Point) (place : Place) → IsPlace t p place
       → answer_by_rows rows (face_at shown place) place ≡ answer_at shown place (ids_where (λ rings. touches rings p) layer) (ids_where (λ rings. covers rings p) layer)

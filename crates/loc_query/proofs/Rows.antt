@@ -21,11 +21,11 @@ use Rattle.loc_course.specs.Stops.{source}
 use Rattle.loc_course.specs.Streams.{Answering, answered_long, out_of}
 use Rattle.loc_course.proofs.Streamed.{of_whole}
 use Rattle.loc_maps.specs.Conflicts.{Accepts, names_conflict}
-use Rattle.loc_maps.specs.LineTexts.{layer_fault_text, covers_text}
+use Rattle.loc_maps.specs.LineTexts.{layer_fault_text, covers_text, pieces_text}
 use Rattle.loc_maps.specs.Located.{edges_of, table_in}
-use Rattle.loc_maps.specs.MapCourses.{LayerFile, accepted_course, covers_course, layer_in, limit}
-use Rattle.loc_maps.specs.Maps.{has_many_covers}
-use Rattle.loc_maps.proofs.Judged.{on_apart, on_few_covers}
+use Rattle.loc_maps.specs.MapCourses.{LayerFile, accepted_course, covers_course, layer_in, limit, pieces_course}
+use Rattle.loc_maps.specs.Maps.{HasFewPieces, has_many_covers, has_many_pieces}
+use Rattle.loc_maps.proofs.Judged.{on_apart, on_few_covers, on_few_pieces}
 use Rattle.loc_trapdag.specs.Orders.{order_of}
 use Rattle.loc_trapdag.specs.declared.order.OrderFault.{OrderFault}
 use Rattle.loc_orders.specs.OrderCourses.{asked_course, order_in}
@@ -76,7 +76,15 @@ module _ (told : Text → Told) (index : Index) (order : AskedOrder) (faces : Bo
   pub layer_line : (fault : LayerFault) → length layer ≤ limit → layer_of file.form file.scale layer ≡ Err fault → outcome told (query_course index order faces file points) ≡ refusal (exactly (ended (layer_fault_text file.form fault)))
   layer_line fault few reads = read few (Err fault) reads
 
-  module _ (features : List Feature) (few : length layer ≤ limit) (reads : layer_of file.form file.scale layer ≡ Ok features) where
+  pub pieces : (features : List Feature) → length layer ≤ limit → layer_of file.form file.scale layer ≡ Ok features → has_many_pieces features ≡ true → outcome told (query_course index order faces file points) ≡ refusal (exactly (ended pieces_text))
+  pieces features few reads many = read few (Ok features) reads
+      ∙ ap (outcome told) (cond-true (has_many_pieces features) (refuses (exactly (ended pieces_text))) (asked_layer index order faces file.scale points features) many)
+
+  module _ (features : List Feature) (few : length layer ≤ limit) (reads : layer_of file.form file.scale layer ≡ Ok features) (few_pieces : HasFewPieces features) where
+    -- a layer whose pieces are few
+    cut : outcome told (query_course index order faces file points) ≡ outcome told (asked_layer index order faces file.scale points features)
+    cut = read few (Ok features) reads ∙ ap (outcome told) (on_few_pieces features (asked_layer index order faces file.scale points features) few_pieces)
+
     abbrev behind_order : Course
     behind_order = accepted_course file.scale features (points_course index faces file.scale points features)
 
@@ -84,7 +92,7 @@ module _ (told : Text → Told) (index : Index) (order : AskedOrder) (faces : Bo
     by_order text = outcome told (order_in (order_of (edge_count features) text) (λ _. behind_order))
 
     named : (name : Text) → order ≡ in_file name → outcome told (query_course index order faces file points) ≡ by_text (order_source name) by_order (told name)
-    named name is_named = read few (Ok features) reads ∙ ap (λ (o : AskedOrder). outcome told (asked_layer index o faces file.scale points features)) is_named
+    named name is_named = cut ∙ ap (λ (o : AskedOrder). outcome told (asked_layer index o faces file.scale points features)) is_named
 
     pub order_long : (name text : Text) → order ≡ in_file name → told name ≡ holds text → limit < length text → outcome told (query_course index order faces file points) ≡ refusal (exactly (ended (codes "order: too long")))
     order_long name text is_named also more = named name is_named ∙ long (order_source name) by_order (told name) text also more
@@ -96,7 +104,7 @@ module _ (told : Text → Told) (index : Index) (order : AskedOrder) (faces : Bo
 
     -- an order of the edges does not show
     ordered : IsInOrder told order (edge_count features) → outcome told (query_course index order faces file points) ≡ outcome told behind_order
-    ordered o = read few (Ok features) reads ∙ in_order told order (edge_count features) behind_order o
+    ordered o = cut ∙ in_order told order (edge_count features) behind_order o
 
     pub conflict : IsInOrder told order (edge_count features) → has_conflict (edges_of features) ≡ true → outcome told (query_course index order faces file points) ≡ refusal (names_conflict file.scale (edges_of features))
     conflict o has = ordered o

@@ -16,9 +16,10 @@ use Rattle.loc_edges.specs.Conflicts.{has_conflict}
 use Rattle.loc_course.specs.Moments.{Moment}
 use Rattle.loc_course.specs.Sentences.{Steady, Wrote}
 use Rattle.loc_maps.specs.Conflicts.{Accepts, names_conflict}
-use Rattle.loc_maps.specs.LineTexts.{layer_fault_text, covers_text}
+use Rattle.loc_maps.specs.LineTexts.{layer_fault_text, covers_text, pieces_text}
 use Rattle.loc_maps.specs.Located.{edges_of, table_in}
 use Rattle.loc_maps.specs.MapCourses.{LayerFile, limit}
+use Rattle.loc_maps.specs.Maps.{HasFewPieces, has_many_pieces}
 use Rattle.loc_trapdag.specs.Orders.{order_of}
 use Rattle.loc_trapdag.specs.declared.order.OrderFault.{OrderFault}
 use Rattle.loc_orders.specs.OrderTexts.{order_fault_text}
@@ -26,10 +27,11 @@ use Rattle.loc_query.specs.Answered.{output_of, output_within}
 use Rattle.loc_query.specs.QueryCourses.{steps_by}
 use Rattle.loc_cover.specs.Legends.{most_members}
 
--- the text is within the limit and reads as a layer of these features, no two of its edges conflict, and its cover lists are few
+-- the text is within the limit and reads as a layer of these features, its pieces are few, no two of its edges conflict, and its cover lists are few
 pub record IsAccepted (file : LayerFile) (layer : Text) (features : List Feature) : Type 0 where
   pub within : length layer ≤ limit
   pub reads : layer_of file.form file.scale layer ≡ Ok features
+  pub few_pieces : HasFewPieces features
   pub apart : Accepts features
   pub few_covers : cover_sum (table_in features) ≤ most_members
 
@@ -67,20 +69,24 @@ pub record Headline (index : Index) (order : AskedOrder) (faces : Bool) (file : 
   -- or is at fault,
   pub layer_fault : (layer : Text) (fault : LayerFault) → old.shelf.told file.name ≡ holds layer → length layer ≤ limit → layer_of file.form file.scale layer ≡ Err fault → Steady old.shelf.read_faults new.shelf.read_faults
       → ((status ≡ 1) × (new.out.written ≡ old.out.written) × Wrote n n' (ended (layer_fault_text file.form fault))) ⊎ ((status ≡ 5) × (new.out.written ≡ old.out.written))
-  -- or it reads, and the order is too long,
-  pub order_long : (layer text name : Text) (features : List Feature) → order ≡ in_file name → old.shelf.told file.name ≡ holds layer → length layer ≤ limit → layer_of file.form file.scale layer ≡ Ok features
+  -- or it reads, and its segments have too many pieces together,
+  pub pieces : (layer : Text) (features : List Feature) → old.shelf.told file.name ≡ holds layer → length layer ≤ limit → layer_of file.form file.scale layer ≡ Ok features
+      → IsTrue (has_many_pieces features) → Steady old.shelf.read_faults new.shelf.read_faults
+      → ((status ≡ 1) × (new.out.written ≡ old.out.written) × Wrote n n' (ended pieces_text)) ⊎ ((status ≡ 5) × (new.out.written ≡ old.out.written))
+  -- or they are few, and the order is too long,
+  pub order_long : (layer text name : Text) (features : List Feature) → order ≡ in_file name → old.shelf.told file.name ≡ holds layer → length layer ≤ limit → layer_of file.form file.scale layer ≡ Ok features → HasFewPieces features
       → old.shelf.told name ≡ holds text → limit < length text → Steady old.shelf.read_faults new.shelf.read_faults
       → ((status ≡ 1) × (new.out.written ≡ old.out.written) × Wrote n n' (ended (codes "order: too long"))) ⊎ ((status ≡ 5) × (new.out.written ≡ old.out.written))
   -- or is at fault,
-  pub order_fault : (layer text name : Text) (features : List Feature) (fault : OrderFault) → order ≡ in_file name → old.shelf.told file.name ≡ holds layer → length layer ≤ limit → layer_of file.form file.scale layer ≡ Ok features
+  pub order_fault : (layer text name : Text) (features : List Feature) (fault : OrderFault) → order ≡ in_file name → old.shelf.told file.name ≡ holds layer → length layer ≤ limit → layer_of file.form file.scale layer ≡ Ok features → HasFewPieces features
       → old.shelf.told name ≡ holds text → length text ≤ limit → order_of (edge_count features) text ≡ Err fault → Steady old.shelf.read_faults new.shelf.read_faults
       → ((status ≡ 1) × (new.out.written ≡ old.out.written) × Wrote n n' (ended (order_fault_text fault))) ⊎ ((status ≡ 5) × (new.out.written ≡ old.out.written))
   -- or two edges of the layer conflict, and the line names two that do,
-  pub conflict : (layer : Text) (features : List Feature) → old.shelf.told file.name ≡ holds layer → length layer ≤ limit → layer_of file.form file.scale layer ≡ Ok features
+  pub conflict : (layer : Text) (features : List Feature) → old.shelf.told file.name ≡ holds layer → length layer ≤ limit → layer_of file.form file.scale layer ≡ Ok features → HasFewPieces features
       → IsInOrder old.shelf.told order (edge_count features) → IsTrue (has_conflict (edges_of features)) → Steady old.shelf.read_faults new.shelf.read_faults
       → ((status ≡ 1) × (new.out.written ≡ old.out.written) × (line : Text) × IsTrue (names_conflict file.scale (edges_of features) line) × Wrote n n' line) ⊎ ((status ≡ 5) × (new.out.written ≡ old.out.written))
   -- or its distinct cover lists have too many members together,
-  pub covers : (layer : Text) (features : List Feature) → old.shelf.told file.name ≡ holds layer → length layer ≤ limit → layer_of file.form file.scale layer ≡ Ok features
+  pub covers : (layer : Text) (features : List Feature) → old.shelf.told file.name ≡ holds layer → length layer ≤ limit → layer_of file.form file.scale layer ≡ Ok features → HasFewPieces features
       → IsInOrder old.shelf.told order (edge_count features) → Accepts features → most_members < cover_sum (table_in features) → Steady old.shelf.read_faults new.shelf.read_faults
       → ((status ≡ 1) × (new.out.written ≡ old.out.written) × Wrote n n' (ended covers_text)) ⊎ ((status ≡ 5) × (new.out.written ≡ old.out.written))
   -- or the layer is accepted and the points are too long: then the lines that end within the limit are answered, unless a write failed.

@@ -14,8 +14,8 @@ use Rattle.loc_course.specs.Outcomes.{exactly, outcome, output, refusal}
 use Rattle.loc_course.specs.Sentences.{IsPlain, SearchesNothing, WithinSteps}
 use Rattle.loc_course.proofs.Plain.{plain_refuses, plain_searches, plain_writes}
 use Rattle.loc_maps.specs.Located.{table_in}
-use Rattle.loc_maps.specs.MapCourses.{accepted_course}
-use Rattle.loc_maps.proofs.Judged.{accepted_all}
+use Rattle.loc_maps.specs.MapCourses.{accepted_course, pieces_course}
+use Rattle.loc_maps.proofs.Judged.{accepted_all, pieces_all}
 use Rattle.loc_query.specs.QueryCourses.{steps_by}
 use Rattle.loc_trial.specs.Generated.{generated}
 use Rattle.loc_trial.specs.TrialCourses.{gen_course, past_text, sized_course, trial_course, tried_course}
@@ -33,7 +33,7 @@ trial_all : (P : Course → Type 0) → ((passes : Text → Bool) → P (refuses
 trial_all P refused_so index kind n shift behind =
     let layer = generated kind n shift in
     let tried = tried_course index kind n shift layer in
-    sized_all P refused_so kind n (accepted_course 0 layer tried) (accepted_all P refused_so 0 layer tried behind)
+    sized_all P refused_so kind n (pieces_course layer (accepted_course 0 layer tried)) (pieces_all P refused_so layer (accepted_course 0 layer tried) (accepted_all P refused_so 0 layer tried behind))
 
 pub gen_plain : (kind : Kind) (n shift : ℕ) → IsPlain (gen_course kind n shift)
 gen_plain kind n shift = sized_all IsPlain plain_refuses kind n (writes (exactly (layer_text kind n shift))) (plain_writes (exactly (layer_text kind n shift)))
@@ -63,4 +63,4 @@ pub gen_past : (told : Text → Told) (kind : Kind) (n shift : ℕ) → limit_of
 gen_past told kind n shift many = past told kind n (writes (exactly (layer_text kind n shift))) many
 
 pub trial_past : (told : Text → Told) (index : Index) (kind : Kind) (n shift : ℕ) → limit_of kind < n → outcome told (trial_course index kind n shift) ≡ refusal (exactly (ended (past_text n (limit_of kind))))
-trial_past told index kind n shift many = past told kind n (accepted_course 0 (generated kind n shift) (tried_course index kind n shift (generated kind n shift))) many
+trial_past told index kind n shift many = past told kind n (pieces_course (generated kind n shift) (accepted_course 0 (generated kind n shift) (tried_course index kind n shift (generated kind n shift)))) many

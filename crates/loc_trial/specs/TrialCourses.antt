@@ -16,7 +16,7 @@ use Rattle.loc_gen.specs.Layers.{layer_text, limit_of}
 use Rattle.loc_course.specs.Courses.{Course, refuses, searches, writes}
 use Rattle.loc_course.specs.Outcomes.{exactly}
 use Rattle.loc_maps.specs.Located.{table_in}
-use Rattle.loc_maps.specs.MapCourses.{accepted_course}
+use Rattle.loc_maps.specs.MapCourses.{accepted_course, pieces_course}
 use Rattle.loc_query.specs.QueryCourses.{steps_by}
 use Rattle.loc_trial.specs.Generated.{generated, point_line}
 use Rattle.loc_trial.specs.Trials.{is_trial_line, nodes_text, sizes_text, tally_text}
@@ -44,4 +44,4 @@ tried_course index kind n shift layer = searches (n * steps_by index (table_in l
 
 -- a trial: the points behind the generated layer, which is judged as a layer that was read
 abbrev pub trial_course : Index → Kind → ℕ → ℕ → Course
-trial_course index kind n shift = sized_course kind n (accepted_course 0 (generated kind n shift) (tried_course index kind n shift (generated kind n shift)))
+trial_course index kind n shift = sized_course kind n (pieces_course (generated kind n shift) (accepted_course 0 (generated kind n shift) (tried_course index kind n shift (generated kind n shift))))

@@ -15,7 +15,7 @@ ghost use Rattle.loc_treeidx.specs.Standing.{AreVersionsOf};
 ghost use Rattle.loc_treeidx.specs.Steps.{most_steps};
 ghost use Rattle.loc_course.specs.Following.{Follows, moment};
 ghost use Rattle.loc_course.specs.Stops.{end_of};
-ghost use Rattle.loc_maps.specs.MapCourses.{accepted_course};
+ghost use Rattle.loc_maps.specs.MapCourses.{accepted_course, pieces_course};
 ghost use Rattle.loc_trial.specs.Asked.{AnswersAll};
 ghost use Rattle.loc_trial.specs.Generated.{generated, point_line};
 ghost use Rattle.loc_trial.specs.TrialCourses.{counted_course, trial_course, tried_course};
@@ -30,7 +30,7 @@ use loc_edges::EdgeTable;
 use loc_gen::Kind;
 use loc_geom::Steps;
 use loc_io::{Sink, SteadySink};
-use loc_maps::judge;
+use loc_maps::{Plane, judge};
 use loc_place::Locator;
 use loc_rings::Layer;
 use loc_scan::Scan;
@@ -155,9 +155,9 @@ fn try_scan<O: Sink, L: Ledger>(
 ) -> Result<(), Stop>
     requires size { n ≤ 131072 }
     requires features { length layer ≤ 131072 }
-    ensures { (shelf : Meaning) → Follows (accepted_course 0 layer (tried_course by.Scan kind n shift layer)) (moment shelf (O.meaning out.old) steps.old) (moment shelf (O.meaning out.new) steps.new) (end_of result) }
+    ensures { (shelf : Meaning) → Follows (pieces_course layer (accepted_course 0 layer (tried_course by.Scan kind n shift layer))) (moment shelf (O.meaning out.old) steps.old) (moment shelf (O.meaning out.new) steps.new) (end_of result) }
 {
-    let plane = judge(alloc, layer, Scale::new(0), VecStatus::new(alloc))?;
+    let plane: Plane<VecStatus> = judge(alloc, layer, Scale::new(0))?;
     plane.table.law();
     plane.legend.law();
     try_points(
@@ -186,9 +186,9 @@ fn try_tree<O: Sink, L: Ledger>(
 ) -> Result<(), Stop>
     requires size { n ≤ 131072 }
     requires features { length layer ≤ 131072 }
-    ensures { (shelf : Meaning) → Follows (accepted_course 0 layer (tried_course by.Tree kind n shift layer)) (moment shelf (O.meaning out.old) steps.old) (moment shelf (O.meaning out.new) steps.new) (end_of result) }
+    ensures { (shelf : Meaning) → Follows (pieces_course layer (accepted_course 0 layer (tried_course by.Tree kind n shift layer))) (moment shelf (O.meaning out.old) steps.old) (moment shelf (O.meaning out.new) steps.new) (end_of result) }
 {
-    let plane = judge(alloc, layer, Scale::new(0), TreeIndex::new(alloc))?;
+    let plane: Plane<TreeIndex> = judge(alloc, layer, Scale::new(0))?;
     plane.legend.law();
     swept_stands(&plane.table, &plane.status);
     try_nodes(
@@ -216,9 +216,9 @@ fn try_traps<O: Sink, L: Ledger>(
 ) -> Result<(), Stop>
     requires size { n ≤ 131072 }
     requires features { length layer ≤ 131072 }
-    ensures { (shelf : Meaning) → Follows (accepted_course 0 layer (tried_course by.Trap kind n shift layer)) (moment shelf (O.meaning out.old) steps.old) (moment shelf (O.meaning out.new) steps.new) (end_of result) }
+    ensures { (shelf : Meaning) → Follows (pieces_course layer (accepted_course 0 layer (tried_course by.Trap kind n shift layer))) (moment shelf (O.meaning out.old) steps.old) (moment shelf (O.meaning out.new) steps.new) (end_of result) }
 {
-    let plane = judge(alloc, layer, Scale::new(0), TreeIndex::new(alloc))?;
+    let plane: Plane<TreeIndex> = judge(alloc, layer, Scale::new(0))?;
     plane.legend.law();
     let order = Order::shuffled(alloc, SHUFFLE, plane.table.edge_count())?;
     let index = TrapIndex::build(alloc, &plane.table.ranks(), &order)?;

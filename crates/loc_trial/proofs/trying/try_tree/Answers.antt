@@ -1,15 +1,16 @@
 use Rattle.std.proofs.Common.{Some, refl, ap, arith, length, subst}
 use Rattle.std.specs.Prelude.{ℕ, ◌+◌, ◌*◌}
 use Rattle.loc_spec_plane.specs.Tables.{Table}
+use Rattle.std.proofs.lemmas.Result.{err_from_is_err_and}
 use Rattle.loc_spec_asked.specs.declared.Index.TheVariants.{Tree}
 use Rattle.loc_spec_text.specs.Points.{ended}
 use Rattle.loc_course.specs.Following.{Follows, moment}
 use Rattle.loc_course.specs.Outcomes.{exactly}
-use Rattle.loc_course.specs.Stops.{end_of}
+use Rattle.loc_course.specs.Stops.{end_of, stopped}
 use Rattle.loc_course.proofs.Told.{exactly_it}
 use Rattle.loc_cover.proofs.Gathered.{any_range}
 use Rattle.loc_maps.specs.Located.{table_in}
-use Rattle.loc_maps.specs.MapCourses.{accepted_course}
+use Rattle.loc_maps.specs.MapCourses.{accepted_course, pieces_course}
 use Rattle.loc_trial.specs.TrialCourses.{tried_course}
 use Rattle.loc_trial.specs.Trials.{trial_text}
 use Rattle.loc_trial.proofs.Tried.{always, follows_trial}
@@ -17,6 +18,13 @@ use Rattle.loc_trial.proofs.trying.try_tree.Goals as goal
 
 pub try_nodes-requires-clause-always : goal.try_nodes-requires-clause-always
 try_nodes-requires-clause-always g c = always c.args.layer _ _ c.law.ensures c.in_ok-plane.ensures.map
+
+pub returns-in_err-plane : goal.returns-in_err-plane
+returns-in_err-plane g c shelf =
+    let at = moment shelf (g.O.Sink.meaning c.args.out.now) c.args.steps.now in
+    let tried = tried_course Tree c.args.kind c.args.n c.args.shift c.args.layer in
+    let p = err_from_is_err_and c.from_residual.result c.from_residual.ensures.1 in
+    rw (p.1, p.2) (subst (λ (scale : ℕ). Follows (pieces_course c.args.layer (accepted_course scale c.args.layer tried)) at at (Some (stopped c.in_err-plane.field-0.0))) c.new.ensures (c.in_err-plane.ensures.goes_on tried at))
 
 pub returns : goal.returns
 returns g c shelf =
@@ -30,6 +38,6 @@ returns g c shelf =
     let edges = ap (λ (t : Table). length t.ends) c.in_ok-plane.ensures.map.table in
     let passes = any_range (λ nodes. exactly (line nodes) (line x)) e (23 * e + 1) x
     (omega (arith, edges, c.swept_stands.ensures.many)) (omega (arith, edges, c.swept_stands.ensures.few)) (exactly_it (line x) (line x) refl) in
-    subst (λ (scale : ℕ). Follows (accepted_course scale c.args.layer tried) old new end) c.new.ensures
+    subst (λ (scale : ℕ). Follows (pieces_course c.args.layer (accepted_course scale c.args.layer tried)) old new end) c.new.ensures
     (c.in_ok-plane.ensures.goes_on tried old new end
     (follows_trial c.args.layer _ _ c.law.ensures c.in_ok-plane.ensures.map c.args.n c.args.shift c.requires.size Tree c.args.kind (Some x) old new end c.requires.features passes (c.try_nodes.ensures.nodes shelf)))

@@ -1,0 +1,7 @@
+use Rattle.std.proofs.lemmas.Result.{err_from_is_err_and}
+use Rattle.loc_query.proofs.querying.read_asked_order.Goals as goal
+
+pub returns-in_err-table-in-File-clause-goes_on : goal.returns-in_err-table-in-File-clause-goes_on
+returns-in_err-table-in-File-clause-goes_on g c next o k =
+    let p = err_from_is_err_and c.from_residual.result c.from_residual.ensures.1 in
+    rw (p.1, p.2) (c.in_err-table-in-File.ensures.goes_on _ _)
