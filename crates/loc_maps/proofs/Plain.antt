@@ -1,16 +1,14 @@
 -- A plain table in which no two edges conflict is the table of its layer, whose pieces are few.
-use Rattle.std.proofs.Common.{◌≡◌, ◌^◌, ◌≤◌, Bool, true, List, [], ◌∷◌, ◌++◌, length, refl, sym, ◌∙◌, ap, ap₂, subst, arith}
+use Rattle.std.proofs.Common.{◌≡◌, ◌≤◌, true, List, [], ◌∷◌, ◌++◌, length, refl, sym, ◌∙◌, ap, ap₂, subst, arith}
 use Rattle.std.specs.List.{list_any, flat_map}
 use Rattle.std.proofs.lemmas.Bool.{or_left, or_right}
 use Rattle.loc_spec_plane.specs.Covers.{feature_count}
 use Rattle.loc_spec_plane.specs.Points.{Edge, same_edge}
-use Rattle.loc_spec_plane.specs.Rings.{Rings}
 use Rattle.loc_spec_plane.specs.Tables.{Table, AllEnds, AllEven, NoConflict, cut_at, layer_corners, layer_segments, table_of, whole}
 use Rattle.loc_laws_order.proofs.Tests.{same_edge_decides}
 use Rattle.loc_laws_noding.proofs.Noded.{plain_is_noded, uncut}
 use Rattle.loc_rings.specs.Layers.{IsLayer}
 use Rattle.loc_rings.specs.Values.{Feature}
-use Rattle.loc_edges.specs.Kept.{written_points}
 use Rattle.loc_edges.specs.Layers.{layer_rings}
 use Rattle.loc_edges.proofs.Counts.{few_pieces}
 use Rattle.loc_edges.proofs.SmallLayers.{few_written_points}

@@ -1,10 +1,9 @@
 //! The table of a layer, and its sweep: the plain table first, and the noded one where that shows a conflict.
 
-ghost use Rattle.std.specs.Prelude.{◌≡◌, IfOk, IfErr, IfSome, List};
-ghost use Rattle.loc_spec_plane.specs.Tables.{NoConflict, table_of};
+ghost use Rattle.std.specs.Prelude.{◌≡◌, IfOk, IfErr, IfSome};
+ghost use Rattle.loc_spec_plane.specs.Tables.{NoConflict};
 ghost use Rattle.loc_edges.specs.Conflicts.{table_edges as edges_of_table};
 ghost use Rattle.loc_edges.specs.Floors.{AreFloors};
-ghost use Rattle.loc_edges.specs.Layers.{layer_rings};
 ghost use Rattle.loc_status.specs.Meaning.{IsFresh};
 ghost use Rattle.loc_sweep.specs.Swept.{IsSwept};
 ghost use Rattle.loc_course.specs.Courses.{Course};

@@ -29,7 +29,7 @@ use Rattle.loc_maps.specs.Conflicts.{Accepts, names_conflict}
 use Rattle.loc_maps.specs.LineTexts.{layer_fault_text, covers_text, pieces_text}
 use Rattle.loc_maps.specs.Located.{edges_of, table_in}
 use Rattle.loc_maps.specs.MapCourses.{LayerFile, accepted_course, layer_in, limit}
-use Rattle.loc_maps.specs.Maps.{HasFewPieces, has_many_pieces}
+use Rattle.loc_maps.specs.Maps.{HasFewPieces}
 use Rattle.loc_maps.proofs.Judged.{accepted_all, layer_all, pieces_all}
 use Rattle.loc_trapdag.specs.Orders.{order_of}
 use Rattle.loc_trapdag.specs.declared.order.OrderFault.{OrderFault}

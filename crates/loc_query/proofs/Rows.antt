@@ -23,7 +23,7 @@ use Rattle.loc_course.proofs.Streamed.{of_whole}
 use Rattle.loc_maps.specs.Conflicts.{Accepts, names_conflict}
 use Rattle.loc_maps.specs.LineTexts.{layer_fault_text, covers_text, pieces_text}
 use Rattle.loc_maps.specs.Located.{edges_of, table_in}
-use Rattle.loc_maps.specs.MapCourses.{LayerFile, accepted_course, covers_course, layer_in, limit, pieces_course}
+use Rattle.loc_maps.specs.MapCourses.{LayerFile, accepted_course, covers_course, layer_in, limit}
 use Rattle.loc_maps.specs.Maps.{HasFewPieces, has_many_covers, has_many_pieces}
 use Rattle.loc_maps.proofs.Judged.{on_apart, on_few_covers, on_few_pieces}
 use Rattle.loc_trapdag.specs.Orders.{order_of}
