@@ -8,11 +8,11 @@
 
 declare -A places=(
     [query]="LAYER POINTS" [check]="LAYER" [build]="LAYER INDEX" [ask]="INDEX POINTS" [verify]="INDEX" [face]="LAYER POINT" [gen]="KIND N SHIFT"
-    [trial]="KIND N SHIFT"
+    [trial]="KIND N SHIFT" [stab]="LAYER SPANS"
 )
 declare -A options=(
     [query]="--scale --form --index --order --shuffle --faces" [check]="--scale --form" [build]="--scale --form" [ask]="" [verify]="" [face]="--scale --form"
-    [gen]="" [trial]="--index"
+    [gen]="" [trial]="--index" [stab]="--scale --form"
 )
 declare -A usages=(
     [query]="query LAYER POINTS --scale K [--form lines|csv] [--index scan|tree|trap] [--order FILE | --shuffle N] [--faces]"
@@ -23,6 +23,7 @@ declare -A usages=(
     [face]="face LAYER POINT --scale K [--form lines|csv]"
     [gen]="gen KIND N SHIFT"
     [trial]="trial KIND N SHIFT [--index scan|tree|trap]"
+    [stab]="stab LAYER SPANS --scale K [--form lines|csv]"
 )
 declare -A summaries=(
     [query]="answer each point of a list from a layer of polygons"
@@ -33,8 +34,9 @@ declare -A summaries=(
     [face]="print the boundaries of the open face in which a point lies"
     [gen]="write a test layer: a grid, a nest of squares or long strips"
     [trial]="make a test layer, ask it for points of its own, and count the answers"
+    [stab]="name the edges that each vertical span of a list meets, from the bottom up"
 )
-commands="query check build ask verify face gen trial"
+commands="query check build ask verify face gen trial stab"
 
 about_layer="LAYER is a file of polygons: a POLYGON or MULTIPOLYGON text on each line, or with --form csv
 a CSV with a column 'wkt' and, if the polygons have names, a column 'id'. In a file of lines the
@@ -48,6 +50,12 @@ Each line of POINTS gets one line of answer:
     face in IDS               it lies in the open; a bare 'face in' means in no polygon
     unread                    the line holds no point, or one with more decimals than the scale
 'on' names the polygons that touch the point, 'in' those that cover it."
+about_spans="SPANS is a file with one vertical span on each line, as '2.5 -1 5': x, the lower y and the upper y. '-' means
+standard input. Each line of SPANS gets one line of answer:
+    edges E F ..              the numbers of the edges that the span meets; a bare 'edges' means none
+    unread                    the line holds no span, or a number with more decimals than the scale
+First come the edges that end at the lower point, then those that the span crosses or touches from there
+up, and last those that begin above it in its column; the first and the last go by their numbers."
 about_statuses="Status: 0 done, 1 a text or a layer is refused, 2 the words are no command, 3 a file could not be
 read, 4 an output could not be written, 5 there was not enough memory."
 
@@ -72,6 +80,7 @@ scan looks at one edge after another, trap goes down a map of trapezoids. --orde
             echo "POINT is one word, as '0.5 0.5' or 'POINT (0.5 0.5)'. It prints the number of the face, the corners of
 its outer boundary, and those of each hole."
             ;;
+        stab) printf '%s\n\n%s\n' "$about_layer" "$about_spans" ;;
         gen | trial)
             echo "KIND is grid (N by N unit squares, N at most 256), nest (N squares one in another, N at most 4096) or
 strips (N long strips, N at most 131072). SHIFT moves the layer."
@@ -271,7 +280,7 @@ files_read() {
     done
     case $command in
         query) printf '%s\n' "$1" ${order:+"$order"} "$2" ;;
-        ask) printf '%s\n' "$1" "$2" ;;
+        ask | stab) printf '%s\n' "$1" "$2" ;;
         check | build | verify | face) printf '%s\n' "$1" ;;
     esac
 }
@@ -386,7 +395,7 @@ take_words() {
     is_command "${1-}" || return 0
     for place in ${places[$1]}; do
         at=$((at + 1))
-        if [[ ${words[at]-} == - ]] && is_one_of "$place" LAYER POINTS; then
+        if [[ ${words[at]-} == - ]] && is_one_of "$place" LAYER POINTS SPANS; then
             if [[ -n $taken ]]; then
                 echo "$name: standard input can stand for one file only" >&2
                 exit 2

@@ -28,10 +28,11 @@ use std::alloc::Global;
 use std::{fs, io};
 
 // The files of rows, in the order in which they are played.
-const FILES: [&str; 10] = [
+const FILES: [&str; 11] = [
     "layers.rows",
     "words.rows",
     "faces.rows",
+    "spans.rows",
     "texts.rows",
     "plane.rows",
     "orders.rows",

@@ -4,7 +4,7 @@ use Rattle.std.specs.Prelude.{IfSome, option_and_then, option_map}
 use Rattle.loc_spec_text.specs.Bytes.{Text}
 use Rattle.loc_io.specs.Meaning.{KeepsFiles}
 use Rattle.loc_io.specs.Streams.{Stream}
-use Rattle.loc_words.specs.Words.{Asked, query, check, build, ask, verify, face, gen, trial}
+use Rattle.loc_words.specs.Words.{Asked, query, check, build, ask, verify, face, gen, trial, stab}
 use Rattle.loc_course.specs.Courses.{Course, no_memory}
 use Rattle.loc_course.specs.Following.{lacks}
 use Rattle.loc_course.specs.Moments.{Moment}
@@ -19,6 +19,7 @@ use Rattle.loc_maps.specs.MapCourses.{layer_file}
 use Rattle.loc_maps.proofs.Checked.{check_plain}
 use Rattle.loc_query.proofs.Headlines.{query_makes_none, query_refuses_behind}
 use Rattle.loc_face.proofs.Plainly.{face_plain}
+use Rattle.loc_reach.proofs.Plainly.{stab_plain}
 use Rattle.loc_trial.proofs.Plain.{gen_plain, trial_plain}
 use Rattle.loc_top.specs.Run.{FilesOf, OutOf, Ran, RefusesPoints, RefusesWords, WritesFail, course_by, made_by}
 
@@ -45,6 +46,7 @@ answering (verify asked) = plain_answering None (course_by (verify asked)) (veri
 answering (face asked) = plain_answering None (course_by (face asked)) (face_plain (layer_file asked.layer asked.form asked.scale) asked.point)
 answering (gen asked) = plain_answering None (course_by (gen asked)) (gen_plain asked.kind asked.n asked.shift)
 answering (trial asked) = plain_answering None (course_by (trial asked)) (trial_plain asked.index asked.kind asked.n asked.shift)
+answering (stab asked) = plain_answering None (course_by (stab asked)) (stab_plain (layer_file asked.layer asked.form asked.scale) asked.spans)
 
 answering_of : (o : Option Asked) (c : Course) → option_map course_by o ≡ Some c → IsAnswering (option_and_then made_by o) c
 answering_of None c is = absurd (cc is)

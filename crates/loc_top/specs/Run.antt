@@ -12,7 +12,7 @@ use Rattle.loc_io.specs.Meaning.{KeepsFiles}
 use Rattle.loc_io.specs.Streams.{Stream}
 use Rattle.loc_spec_text.specs.Points.{ended}
 use Rattle.loc_words.specs.Usage.{usage_text}
-use Rattle.loc_words.specs.Words.{Asked, query, check, build, ask, verify, face, gen, trial, command_of}
+use Rattle.loc_words.specs.Words.{Asked, query, check, build, ask, verify, face, gen, trial, stab, command_of}
 use Rattle.loc_course.specs.Courses.{Course, no_memory}
 use Rattle.loc_course.specs.Following.{IsToldAtMost}
 use Rattle.loc_course.specs.Moments.{Moment}
@@ -25,6 +25,7 @@ use Rattle.loc_indexed.specs.Verifying.{verify_course}
 use Rattle.loc_maps.specs.MapCourses.{check_course, layer_file}
 use Rattle.loc_query.specs.QueryCourses.{query_course}
 use Rattle.loc_face.specs.FaceCourses.{face_course}
+use Rattle.loc_reach.specs.SpanCourses.{stab_course}
 use Rattle.loc_trial.specs.TrialCourses.{gen_course, trial_course}
 
 -- the course of a command
@@ -37,6 +38,7 @@ course_by (verify asked) = verify_course asked.index
 course_by (face asked) = face_course (layer_file asked.layer asked.form asked.scale) asked.point
 course_by (gen asked) = gen_course asked.kind asked.n asked.shift
 course_by (trial asked) = trial_course asked.index asked.kind asked.n asked.shift
+course_by (stab asked) = stab_course (layer_file asked.layer asked.form asked.scale) asked.spans
 
 -- the file that a command makes, if it makes one
 abbrev pub made_by : Asked → Option Text

@@ -2,7 +2,7 @@
 
 ghost use Rattle.std.specs.Prelude.{◌≡◌, ◌≤◌, IfSome, Some, map, string_bytes};
 ghost use Rattle.loc_io.specs.Streams.{InTime};
-ghost use Rattle.loc_words.specs.Words.{AskedAsk, AskedBuild, AskedQuery, AskedVerify, ask, build, command_of, query, verify};
+ghost use Rattle.loc_words.specs.Words.{AskedAsk, AskedBuild, AskedQuery, AskedStab, AskedVerify, ask, build, command_of, query, stab, verify};
 ghost use Rattle.loc_course.specs.Courses.{Course};
 ghost use Rattle.loc_course.specs.Moments.{moment};
 ghost use Rattle.loc_course.specs.Sentences.{Counts, Done, InTimes, Misses, Names, NoCountRose, Notes, ReadsFail, RefusedOnly, Refuses, RefusesPartly, Succeeds};
@@ -11,6 +11,7 @@ ghost use Rattle.loc_indexed.specs.Builds.{Builds, Built};
 ghost use Rattle.loc_indexed.specs.Verifies.{Judged, Verifies};
 ghost use Rattle.loc_maps.specs.MapCourses.{layer_file};
 ghost use Rattle.loc_query.specs.Headline.{Headline};
+ghost use Rattle.loc_reach.specs.Stabs.{Stabs};
 ghost use Rattle.loc_top.specs.Run.{FilesOf, OutOf, Ran, RefusesWords, WritesFail, course_of};
 
 use loc_course::{Scale, Stop, report, write_text};
@@ -20,6 +21,7 @@ use loc_indexed::{ask, build, verify};
 use loc_io::{Shelf, Sink};
 use loc_maps::check;
 use loc_query::query;
+use loc_reach::stab;
 use loc_trial::{generate, trial};
 use loc_words::{Command, WordsFault, command_of, usage_text};
 use std::alloc::Global;
@@ -103,6 +105,19 @@ fn run_course<F: Shelf, O: Sink, N: Sink, L: Ledger>(
             );
             report(outcome, notes)
         }
+        Ok(Command::Stab(asked)) => {
+            let outcome = stab(
+                alloc,
+                asked.layer,
+                asked.spans,
+                asked.form,
+                Scale::new(asked.scale),
+                shelf,
+                out,
+                steps,
+            );
+            report(outcome, notes)
+        }
         Err(WordsFault::Refused) => {
             let _ = write_text(notes, usage_text().as_bytes());
             2
@@ -128,6 +143,8 @@ pub fn run<F: Shelf, O: Sink, N: Sink, L: Ledger>(
         → Builds (layer_file asked.layer asked.form asked.scale) asked.index (moment (F.meaning shelf.old) (O.meaning out.old) steps.old) (moment (F.meaning shelf.new) (O.meaning out.new) steps.new) (N.meaning notes.old) (N.meaning notes.new) result }
     ensures verifies { (asked : AskedVerify) → command_of (map string_bytes words.now) ≡ Some (verify asked)
         → Verifies asked.index (moment (F.meaning shelf.old) (O.meaning out.old) steps.old) (moment (F.meaning shelf.new) (O.meaning out.new) steps.new) (N.meaning notes.old) (N.meaning notes.new) result }
+    ensures stabs { (asked : AskedStab) → command_of (map string_bytes words.now) ≡ Some (stab asked)
+        → Stabs (layer_file asked.layer asked.form asked.scale) asked.spans (moment (F.meaning shelf.old) (O.meaning out.old) steps.old) (moment (F.meaning shelf.new) (O.meaning out.new) steps.new) (N.meaning notes.old) (N.meaning notes.new) result }
     ensures ran { Ran (course_of (map string_bytes words.now)) (moment (F.meaning shelf.old) (O.meaning out.old) steps.old) (moment (F.meaning shelf.new) (O.meaning out.new) steps.new) (N.meaning notes.old) (N.meaning notes.new) result }
     ensures done { IfSome (course_of (map string_bytes words.now)) (λ (c : Course). Done c (moment (F.meaning shelf.old) (O.meaning out.old) steps.old) (moment (F.meaning shelf.new) (O.meaning out.new) steps.new) result) }
     ensures succeeds { IfSome (course_of (map string_bytes words.now)) (λ (c : Course). Succeeds c (moment (F.meaning shelf.old) (O.meaning out.old) steps.old) (moment (F.meaning shelf.new) (O.meaning out.new) steps.new) result) }

@@ -4,7 +4,7 @@ use Rattle.std.specs.Prelude.{IfSome, IfNone, is_some, if◌then◌else◌, int_
 use Rattle.std.proofs.lemmas.Bool.{both_ways, not-true, not-false}
 use Rattle.std.proofs.lemmas.Option.{cond_some, same_Some}
 use Rattle.loc_spec_plane.specs.Points.{point_at as at}
-use Rattle.loc_spec_text.specs.Geometry.{Symbol, PointText, number, word}
+use Rattle.loc_spec_text.specs.Geometry.{Symbol, PointText, number}
 use Rattle.loc_spec_text.specs.Reader.{point_at}
 use Rattle.loc_spec_text.specs.Number.{grid_value}
 use Rattle.loc_spec_text.specs.Points.{is_grid_number}

@@ -6,7 +6,7 @@ use Rattle.std.proofs.lemmas.Bool.{and_parts}
 use Rattle.std.proofs.lemmas.Option.{same_Some}
 use Rattle.loc_spec_text.specs.Bytes.{Text}
 use Rattle.loc_words.specs.Rows.{CommandRow, Entry, given_of, is_row}
-use Rattle.loc_words.specs.Words.{Asked, query_row, check_row, build_row, ask_row, verify_row, face_row, gen_row, trial_row, query_from, check_from, build_from, ask_from, verify_from, face_from, gen_from, trial_from}
+use Rattle.loc_words.specs.Words.{Asked, query_row, check_row, build_row, ask_row, verify_row, face_row, gen_row, trial_row, stab_row, query_from, check_from, build_from, ask_from, verify_from, face_from, gen_from, trial_from, stab_from}
 
 -- a row, and what is made of what is given for it
 abbrev pub Making : Type 0
@@ -14,7 +14,7 @@ Making = CommandRow × (List Entry → Option Asked)
 
 -- all commands
 abbrev pub commands : List Making
-commands = (query_row, query_from) ∷ (check_row, check_from) ∷ (build_row, build_from) ∷ (ask_row, ask_from) ∷ (verify_row, verify_from) ∷ (face_row, face_from) ∷ (gen_row, gen_from) ∷ (trial_row, trial_from) ∷ []
+commands = (query_row, query_from) ∷ (check_row, check_from) ∷ (build_row, build_from) ∷ (ask_row, ask_from) ∷ (verify_row, verify_from) ∷ (face_row, face_from) ∷ (gen_row, gen_from) ∷ (trial_row, trial_from) ∷ (stab_row, stab_from) ∷ []
 
 -- the row of this name
 abbrev pub row_in : List Making → Text → Option CommandRow

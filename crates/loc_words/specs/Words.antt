@@ -18,7 +18,7 @@ use Rattle.loc_words.specs.declared.row.OptionKind.TheVariants.{Required, Option
 use Rattle.loc_words.specs.declared.row.CommandRow.{CommandRow as Row}
 use Rattle.loc_words.specs.declared.row.OptionRow.{OptionRow as Declared}
 use Rattle.loc_words.specs.declared.command.Command.{Command}
-use Rattle.loc_words.specs.declared.command.Command.TheVariants.{Query, Check, Build, Ask, Verify, Face, Gen, Trial}
+use Rattle.loc_words.specs.declared.command.Command.TheVariants.{Query, Check, Build, Ask, Verify, Face, Gen, Trial, Stab}
 
 -- what a query says
 pub record AskedQuery : Type 0 where
@@ -72,6 +72,13 @@ pub record AskedTrial : Type 0 where
   pub shift : ℕ
   pub index : Index
 
+-- what a question for the edges on spans says
+pub record AskedStab : Type 0 where
+  pub layer : Text
+  pub spans : Text
+  pub scale : ℕ
+  pub form : Form
+
 -- a command with its values
 pub data Asked : Type 0 where
   query : AskedQuery → Asked
@@ -82,6 +89,7 @@ pub data Asked : Type 0 where
   face : AskedFace → Asked
   gen : AskedGen → Asked
   trial : AskedTrial → Asked
+  stab : AskedStab → Asked
 
 -- what a command says
 abbrev pub asked_by : Command → Asked
@@ -93,6 +101,7 @@ asked_by (Verify v) = verify (record { index = v.index.now })
 asked_by (Face f) = face (record { layer = f.layer.now; point = f.point.now; scale = f.scale; form = f.form })
 asked_by (Gen g) = gen (record { kind = g.kind; n = g.n; shift = g.shift })
 asked_by (Trial t) = trial (record { kind = t.kind; n = t.n; shift = t.shift; index = t.index })
+asked_by (Stab s) = stab (record { layer = s.layer.now; spans = s.spans.now; scale = s.scale; form = s.form })
 
 -- the scale of a command that has one is one that coordinates can have
 abbrev pub HasScale : Command → Type 0
@@ -104,6 +113,7 @@ HasScale (Verify v) = ⊤
 HasScale (Face f) = f.scale ≤ 15
 HasScale (Gen g) = ⊤
 HasScale (Trial t) = ⊤
+HasScale (Stab s) = s.scale ≤ 15
 
 -- an option as the program has it
 abbrev pub option_of : Declared → OptionRow
@@ -195,6 +205,10 @@ gen_row = record { name = codes "gen"; places = codes "kind" ∷ codes "n" ∷ c
 abbrev pub trial_row : CommandRow
 trial_row = record gen_row { name = codes "trial"; options = record { name = codes "index"; kind = Optional } ∷ [] }
 
+-- stab LAYER SPANS
+abbrev pub stab_row : CommandRow
+stab_row = record { name = codes "stab"; places = codes "layer" ∷ codes "spans" ∷ []; options = layer_options }
+
 -- the layer's name, its scale and its form, of what was given
 abbrev pub layer_given : List Entry → Option (Text × ℕ × Form)
 layer_given given = option_and_then (λ name. option_map (λ values. (name, values.0, values.1)) (scale_and_form (value_in given (codes "scale")) (value_in given (codes "form"))))
@@ -246,6 +260,10 @@ gen_from given = option_map (λ of. gen (record { kind = of.0; n = of.1; shift =
 abbrev pub trial_from : List Entry → Option Asked
 trial_from given = option_and_then (λ of. option_map (λ index. trial (record { kind = of.0; n = of.1; shift = of.2; index = index })) (index_given given)) (generated_given given)
 
+-- the question for the edges on spans of what was given
+abbrev pub stab_from : List Entry → Option Asked
+stab_from given = option_and_then (λ file. option_map (λ spans. stab (record { layer = file.0; spans = spans; scale = file.1; form = file.2 })) (value_in given (codes "spans"))) (layer_given given)
+
 -- the command of this name that the words behind it are, if they are one
 abbrev pub command_named : Text → List Text → Option Asked
 command_named name words = if bytes_eq name query_row.name then option_and_then query_from (given_of query_row words)
@@ -255,7 +273,8 @@ command_named name words = if bytes_eq name query_row.name then option_and_then 
     else if bytes_eq name verify_row.name then option_and_then verify_from (given_of verify_row words)
     else if bytes_eq name face_row.name then option_and_then face_from (given_of face_row words)
     else if bytes_eq name gen_row.name then option_and_then gen_from (given_of gen_row words)
-    else if bytes_eq name trial_row.name then option_and_then trial_from (given_of trial_row words) else None
+    else if bytes_eq name trial_row.name then option_and_then trial_from (given_of trial_row words)
+    else if bytes_eq name stab_row.name then option_and_then stab_from (given_of stab_row words) else None
 
 -- the command that the words are, if they are one: the first word names it
 unfoldable pub command_of : List Text → Option Asked

@@ -30,6 +30,8 @@ pub enum Command<'a> {
     Gen(Gen),
     /// The counts of the answers to the points of a generated layer.
     Trial(Trial),
+    /// The edges that the spans of a file meet, against a layer.
+    Stab(Stab<'a>),
 }
 
 /// What a query says. Its places are as they stand in the words. The trapezoids are made of edges in the order of a file, or shuffled from a
@@ -99,6 +101,15 @@ pub struct Trial {
     pub n: u64,
     pub shift: u64,
     pub index: Index,
+}
+
+/// What a question for the edges on spans says. Its places are as they stand in the words.
+#[derive(Clone, Copy, Debug, PartialEq, Eq)]
+pub struct Stab<'a> {
+    pub layer: &'a str,
+    pub spans: &'a str,
+    pub scale: u8,
+    pub form: Form,
 }
 
 const SCALE: OptionRow<'static> = OptionRow {
@@ -177,6 +188,12 @@ const TRIAL: CommandRow<'static> = CommandRow {
     name: "trial",
     places: &["kind", "n", "shift"],
     options: &[INDEX],
+};
+
+const STAB: CommandRow<'static> = CommandRow {
+    name: "stab",
+    places: &["layer", "spans"],
+    options: &[SCALE, FORM],
 };
 
 // The layer's name, its scale and its form, of what was given.
@@ -302,9 +319,23 @@ fn trial_from<'a>(given: &Given<'a>) -> Option<Command<'a>>
     }))
 }
 
+fn stab_from<'a>(given: &Given<'a>) -> Option<Command<'a>>
+    ensures scale { IfSome result spec.HasScale }
+    ensures value { option_map spec.asked_by result ≡ spec.stab_from (given_by given.now) }
+{
+    let (layer, scale, form) = layer_given(given)?;
+    let spans = given.value("spans")?;
+    Some(Command::Stab(Stab {
+        layer,
+        spans,
+        scale,
+        form,
+    }))
+}
+
 // The row of the command of this name.
 fn row_named(name: &str) -> Option<&'static CommandRow<'static>>
-    ensures { option_map (λ row. spec.row_of row.now) result ≡ find (λ row. bytes_eq name.now row.name) (spec.query_row ∷ spec.check_row ∷ spec.build_row ∷ spec.ask_row ∷ spec.verify_row ∷ spec.face_row ∷ spec.gen_row ∷ spec.trial_row ∷ []) }
+    ensures { option_map (λ row. spec.row_of row.now) result ≡ find (λ row. bytes_eq name.now row.name) (spec.query_row ∷ spec.check_row ∷ spec.build_row ∷ spec.ask_row ∷ spec.verify_row ∷ spec.face_row ∷ spec.gen_row ∷ spec.trial_row ∷ spec.stab_row ∷ []) }
 {
     match name {
         "query" => Some(&QUERY),
@@ -315,6 +346,7 @@ fn row_named(name: &str) -> Option<&'static CommandRow<'static>>
         "face" => Some(&FACE),
         "gen" => Some(&GEN),
         "trial" => Some(&TRIAL),
+        "stab" => Some(&STAB),
         _ => None,
     }
 }
@@ -322,7 +354,7 @@ fn row_named(name: &str) -> Option<&'static CommandRow<'static>>
 // The command of this name that is made of what was given for its row.
 fn command_from<'a>(name: &str, given: &Given<'a>) -> Option<Command<'a>>
     ensures scale { IfSome result spec.HasScale }
-    ensures value { let said = given_by given.now in option_map spec.asked_by result ≡ (if bytes_eq name.now spec.query_row.name then spec.query_from said else if bytes_eq name.now spec.check_row.name then spec.check_from said else if bytes_eq name.now spec.build_row.name then spec.build_from said else if bytes_eq name.now spec.ask_row.name then spec.ask_from said else if bytes_eq name.now spec.verify_row.name then spec.verify_from said else if bytes_eq name.now spec.face_row.name then spec.face_from said else if bytes_eq name.now spec.gen_row.name then spec.gen_from said else if bytes_eq name.now spec.trial_row.name then spec.trial_from said else None) }
+    ensures value { let said = given_by given.now in option_map spec.asked_by result ≡ (if bytes_eq name.now spec.query_row.name then spec.query_from said else if bytes_eq name.now spec.check_row.name then spec.check_from said else if bytes_eq name.now spec.build_row.name then spec.build_from said else if bytes_eq name.now spec.ask_row.name then spec.ask_from said else if bytes_eq name.now spec.verify_row.name then spec.verify_from said else if bytes_eq name.now spec.face_row.name then spec.face_from said else if bytes_eq name.now spec.gen_row.name then spec.gen_from said else if bytes_eq name.now spec.trial_row.name then spec.trial_from said else if bytes_eq name.now spec.stab_row.name then spec.stab_from said else None) }
 {
     match name {
         "query" => query_from(given),
@@ -333,6 +365,7 @@ fn command_from<'a>(name: &str, given: &Given<'a>) -> Option<Command<'a>>
         "face" => face_from(given),
         "gen" => gen_from(given),
         "trial" => trial_from(given),
+        "stab" => stab_from(given),
         _ => None,
     }
 }

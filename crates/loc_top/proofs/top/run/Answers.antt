@@ -10,6 +10,8 @@ use Rattle.loc_indexed.proofs.Outcomes.{asks}
 use Rattle.loc_indexed.proofs.VerifyRows.{verifies}
 use Rattle.loc_query.specs.QueryCourses.{query_course}
 use Rattle.loc_query.proofs.Headlines.{headline}
+use Rattle.loc_reach.specs.SpanCourses.{stab_course}
+use Rattle.loc_reach.proofs.Stabbed.{stabs}
 use Rattle.loc_top.specs.Run.{course_by}
 use Rattle.loc_top.proofs.Runs.{ended_of, in_times, files_of, no_count_rose, notes_of, of_course, out_of, range, reads_fail, refuses_words, sentences_of, writes_fail}
 use Rattle.loc_top.proofs.top.run.Goals as goal
@@ -32,6 +34,11 @@ returns-clause-builds g c asked is =
 pub returns-clause-verifies : goal.returns-clause-verifies
 returns-clause-verifies g c asked is =
     verifies asked.index _ _ _ _ _ (sentences_of _ _ _ _ c.run_course.result _ c.run_course.ensures.ran (verify_course asked.index) (ap (option_map course_by) is)) (c.run_course.ensures.judged asked is)
+
+pub returns-clause-stabs : goal.returns-clause-stabs
+returns-clause-stabs g c asked is =
+    let file = layer_file asked.layer asked.form asked.scale in
+    stabs file asked.spans _ _ _ _ _ (sentences_of _ _ _ _ c.run_course.result _ c.run_course.ensures.ran (stab_course file asked.spans) (ap (option_map course_by) is))
 
 pub returns-clause-done : goal.returns-clause-done
 returns-clause-done g c = of_course _ _ _ _ c.run_course.result _ _ c.run_course.ensures.ran (λ course s. s.done)

@@ -1,0 +1,61 @@
+//! The edges on the spans of a file, from the bytes in to the bytes out.
+
+ghost use Rattle.loc_io.specs.Meaning.{Meaning};
+ghost use Rattle.loc_treeidx.specs.Standing.{AreVersionsOf};
+ghost use Rattle.loc_course.specs.Following.{Follows, moment};
+ghost use Rattle.loc_course.specs.Stops.{end_of};
+ghost use Rattle.loc_maps.specs.MapCourses.{layer_file};
+ghost use Rattle.loc_reach.specs.SpanCourses.{answered_course, stab_course};
+
+use crate::answering::write_answers;
+use loc_course::{Scale, Stop, read_source};
+use loc_geom::Steps;
+use loc_io::{Shelf, Sink};
+use loc_maps::{SweptTable, read_layer_file, sweep_layer};
+use loc_spec_text::Form;
+use loc_treeidx::TreeIndex;
+use loc_treeidx::laws::swept_stands;
+use std::alloc::Global;
+use std::sync::ledger::Ledger;
+
+// The most bytes of a spans text.
+const LIMIT: usize = 268_435_456;
+
+// Seeks the spans of a text, and writes the answers to its lines.
+fn write_spans<O: Sink, L: Ledger>(
+    plane: &SweptTable<TreeIndex>,
+    text: &[u8],
+    scale: Scale,
+    out: &mut O,
+    steps: &mut Steps<L>,
+) -> Result<(), Stop>
+    requires stands { AreVersionsOf plane.now.table plane.now.status }
+    ensures { (shelf : Meaning) → Follows (answered_course scale plane.now.table text.now) (moment shelf (O.meaning out.old) steps.old) (moment shelf (O.meaning out.new) steps.new) (end_of result) }
+{
+    let views = plane.table.views();
+    match write_answers(&plane.status, &views, text, scale.decimals(), out, steps) {
+        Ok(()) => Ok(()),
+        Err(_) => Err(Stop::WriteFault),
+    }
+}
+
+/// Reads the layer and then the spans, whole, and writes for each line the edges that its span meets, from the bottom up: all memory is taken
+/// before the first byte on `out`.
+pub fn stab<F: Shelf, O: Sink, L: Ledger>(
+    alloc: Global,
+    layer_name: &str,
+    spans_name: &str,
+    form: Form,
+    scale: Scale,
+    shelf: &mut F,
+    out: &mut O,
+    steps: &mut Steps<L>,
+) -> Result<(), Stop>
+    ensures { Follows (stab_course (layer_file layer_name.now form scale) spans_name.now) (moment (F.meaning shelf.old) (O.meaning out.old) steps.old) (moment (F.meaning shelf.new) (O.meaning out.new) steps.new) (end_of result) }
+{
+    let layer = read_layer_file(alloc, shelf, layer_name, form, scale)?;
+    let plane: SweptTable<TreeIndex> = sweep_layer(alloc, &layer, scale)?;
+    swept_stands(&plane.table, &plane.status);
+    let text = read_source(alloc, shelf, spans_name, LIMIT, b"spans: too long")?;
+    write_spans(&plane, &text, scale, out, steps)
+}
