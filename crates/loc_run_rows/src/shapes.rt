@@ -37,6 +37,34 @@ fn put_squares(text: &mut String, count: u64) -> Result<(), AllocError> {
     Ok(())
 }
 
+// A ring of so many steps along a line, and back in one.
+fn put_steps(text: &mut String, count: u64) -> Result<(), AllocError>
+    requires { count < 2 ^ 32 }
+{
+    text.push_str("POLYGON ((0 0")?;
+    for x in 1..count + 1 {
+        write!(text, ", {x} 0")?;
+    }
+    text.push_str(", 0 0))\n")
+}
+
+// A ring of one point fewer than so many, an even number: the two ends of that line by turns.
+fn put_turns(text: &mut String, count: u64) -> Result<(), AllocError> {
+    text.push_str("POLYGON ((0 0")?;
+    for _ in 1..count / 2 {
+        write!(text, ", {count} 0, 0 0")?;
+    }
+    text.push_str("))\n")
+}
+
+// Both rings: the corners of the first cut each side of the second.
+fn put_cut(text: &mut String, count: u64) -> Result<(), AllocError>
+    requires { count < 2 ^ 32 }
+{
+    put_steps(text, count)?;
+    put_turns(text, count)
+}
+
 // The points that are asked of a generated layer of this size and shift, as docs/FORMATS.md has them.
 fn put_points(text: &mut String, count: u64, shift: u64) -> Result<(), AllocError>
     requires count { count < 2 ^ 32 }
@@ -59,7 +87,8 @@ fn put_grid(text: &mut String) -> Result<(), AllocError> {
     Ok(())
 }
 
-/// Makes a file by a step: `nested NAME COUNT` and `squares NAME COUNT` a layer, `points NAME COUNT SHIFT` and `grid NAME` points.
+/// Makes a file by a step: `nested NAME COUNT`, `squares NAME COUNT` and `turns NAME COUNT` a layer, `points NAME COUNT SHIFT` and `grid NAME`
+/// points.
 pub(crate) fn shape(stage: &mut Stage, verb: &str, rest: &str) -> Result<(), Stop> {
     let (name, rest) = cut(rest);
     let (count, shift) = cut(rest);
@@ -67,6 +96,7 @@ pub(crate) fn shape(stage: &mut Stage, verb: &str, rest: &str) -> Result<(), Sto
     match verb {
         "nested" => put_nested(&mut text, number(count)?)?,
         "squares" => put_squares(&mut text, number(count)?)?,
+        "turns" => put_cut(&mut text, number(count)?)?,
         "points" => put_points(&mut text, number(count)?, number(shift)?)?,
         "grid" => put_grid(&mut text)?,
         _ => return Err(Stop::NoStep),
