@@ -4,10 +4,10 @@ ghost use Rattle.std.specs.Prelude.{◌≡◌, ◌<◌};
 
 use crate::samples::{Features, layer_of, point_of};
 use loc_edges::EdgeTable;
-use loc_geom::Steps;
+use loc_geom::{Meeting, Steps};
 use loc_place::{Locator, Place};
 use loc_scan::VecIndex;
-use loc_sweep::sweep;
+use loc_sweep::{SweepFault, sweep};
 use std::alloc::Global;
 use std::marker::Brand;
 use std::process::Abort;
@@ -26,6 +26,12 @@ const FAN: Features = &[
     b"POLYGON ((0 0, 10 -20, 10 -5, 0 0))",
     b"POLYGON ((0 0, 10 5, 10 20, 0 0))",
     b"POLYGON ((0 0, 0 30, -5 30, 0 0))",
+];
+
+// Two squares, the second with a corner inside a side of the first. In their plain table, where nothing is cut, that side touches one of the second.
+const SIDE_BY_SIDE: Features = &[
+    b"POLYGON ((0 0, 4 0, 4 4, 0 4, 0 0))",
+    b"POLYGON ((4 0, 6 0, 6 2, 4 2, 4 0))",
 ];
 
 // Layers, and the places of points in them.
@@ -117,5 +123,17 @@ fn places_by_hand(rt: HostRuntime) -> Result<(), Fail> {
     for row in &ROWS {
         expect_row(&rt, rt.alloc(), *row)?;
     }
+    Ok(())
+}
+
+#[test]
+fn touch_by_hand(rt: HostRuntime) -> Result<(), Fail> {
+    let alloc = rt.alloc();
+    let table = EdgeTable::make(alloc, &layer_of(alloc, SIDE_BY_SIDE)?)?;
+    let Err(SweepFault::Conflict { a, b, meeting }) = sweep(alloc, &table, VecIndex::new(alloc))
+    else {
+        return Err(Fail::new("no edges that conflict"));
+    };
+    assert_eq!(rt; (a, b, meeting), (3, 4, Meeting::Touch));
     Ok(())
 }
