@@ -113,9 +113,13 @@ def cuts_of(edges, found):
     return cuts
 
 
-def crossings(edges, owners):
-    """The pieces of edges that are cut at each corner on them, in order, each once; their owners; and the pairs of pieces that cross."""
-    found = all_conflicts(edges)
+def crossings(edges, owners, found=None):
+    """The pieces of edges that are cut at each corner on them, in order, each once; their owners; and the pairs of pieces that cross.
+
+    Where `found` is given, it is all pairs of edges that meet. Two edges that are not cut cross as they did; so only pairs are sought of
+    which one piece at least is no edge that stays whole.
+    """
+    found = all_conflicts(edges) if found is None else found
     cuts = cuts_of(edges, found)
     if not cuts:
         return edges, owners, found
@@ -125,7 +129,13 @@ def crossings(edges, owners):
         for piece in zip(chain, chain[1:]):
             pieces.setdefault(piece, set()).update(owners[number])
     parts = sorted(pieces)
-    return parts, [sorted(pieces[piece]) for piece in parts], all_conflicts(parts)
+    number_of = {piece: number for number, piece in enumerate(parts)}
+    is_fresh = [True] * len(parts)
+    for number, edge in enumerate(edges):
+        if number not in cuts:
+            is_fresh[number_of[edge]] = False
+    stay = [(number_of[edges[first]], number_of[edges[second]], how) for first, second, how in found if not {first, second} & cuts.keys()]
+    return parts, [sorted(pieces[piece]) for piece in parts], sorted(stay + all_conflicts(parts, is_fresh))
 
 
 def told(layer, edges, owners, found):

@@ -1,10 +1,10 @@
 """Mends the conflicts of a layer by snapping, in whole numbers: what tools/mend does.
 
-The idea. A conflict of two edges is mended by the least of these that is allowed:
+The idea. Where pieces of edges cross, corners that lie on these edges are put into them, and nothing moves. Then two edges that cross are
+mended by the least of these that is allowed:
 
-- an end of the one lies on the other: it is put into the other, and nothing moves;
-- they cross, and an end of the one is close to an end of the other: the two corners become one, that with fewer edges moves;
-- they cross, and an end of the one is close to the other: it is put into the other, which then bends to it;
+- an end of the one is close to an end of the other: the two corners become one, that with fewer edges moves;
+- an end of the one is close to the other: it is put into the other, which then bends to it;
 - neither is allowed: the point where they cross, rounded to the grid, is put into both.
 
 How close the closest end is, is the depth of a crossing; one that is deeper than the bound is left as it is. What was changed is
@@ -319,8 +319,11 @@ def mend(layer, bound):
     """
     edges, owners = edges_of(layer)
     shapes = Shapes(layer, edges)
-    count = len(crossings(edges, owners)[2])
-    conflicts = to_mend(edges) if count else []
+    found = all_conflicts(edges)
+    _, edges_of_piece, crossing_pieces = crossings(edges, [[number] for number in range(len(edges))], found)
+    count = len(crossing_pieces)
+    crossed = {number for first, second, _ in crossing_pieces for piece in (first, second) for number in edges_of_piece[piece]}
+    conflicts = to_mend(edges, found, crossed)
     square, bounds, fixed = bound * bound, {}, set()
     while True:
         net = Net(edges, square, bounds, fixed)
@@ -331,10 +334,8 @@ def mend(layer, bound):
     return outcome(shapes, owners, net, changed, count)
 
 
-def to_mend(edges):
-    """The edges that cross, and those that touch one that does: these are cut there first."""
-    found = all_conflicts(edges)
-    crossed = {number for first, second, how in found if how == "cross" for number in (first, second)}
+def to_mend(edges, found, crossed):
+    """Of all pairs of edges that meet, those with an edge of which pieces cross: it is cut where the other one's ends lie."""
     return [(edges[first], edges[second], how) for first, second, how in found if first in crossed or second in crossed]
 
 
