@@ -40,15 +40,21 @@ def lies_on(edge, p):
     return turn(*edge, p) == 0 and edge[0] <= p <= edge[1]
 
 
-def noded(edges):
-    """The edges cut at each corner that lies on them: the pieces, each once, in order."""
+def sources(edges):
+    """The edges cut at each corner that lies on them: by each piece the least edge of which it is one."""
     corners = sorted({p for edge in edges for p in edge})
-    pieces = set()
-    for low, high in edges:
+    found = {}
+    for low, high in sorted(edges):
         between = corners[bisect_right(corners, low):bisect_left(corners, high)]
         inside = [p for p in between if turn(low, high, p) == 0]
-        pieces.update(zip([low] + inside, inside + [high]))
-    return sorted(pieces)
+        for piece in zip([low] + inside, inside + [high]):
+            found.setdefault(piece, (low, high))
+    return found
+
+
+def noded(edges):
+    """The pieces of edges that are cut at each corner that lies on them, each once, in order."""
+    return sorted(sources(edges))
 
 
 def covers(ring, p):

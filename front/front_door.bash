@@ -8,11 +8,11 @@
 
 declare -A places=(
     [query]="LAYER POINTS" [check]="LAYER" [build]="LAYER INDEX" [ask]="INDEX POINTS" [verify]="INDEX" [face]="LAYER POINT" [gen]="KIND N SHIFT"
-    [trial]="KIND N SHIFT" [stab]="LAYER SPANS"
+    [trial]="KIND N SHIFT" [stab]="LAYER SPANS" [dissolve]="LAYER"
 )
 declare -A options=(
     [query]="--scale --form --index --order --shuffle --faces" [check]="--scale --form" [build]="--scale --form" [ask]="" [verify]="" [face]="--scale --form"
-    [gen]="" [trial]="--index" [stab]="--scale --form"
+    [gen]="" [trial]="--index" [stab]="--scale --form" [dissolve]="--scale --form"
 )
 declare -A usages=(
     [query]="query LAYER POINTS --scale K [--form lines|csv] [--index scan|tree|trap] [--order FILE | --shuffle N] [--faces]"
@@ -24,6 +24,7 @@ declare -A usages=(
     [gen]="gen KIND N SHIFT"
     [trial]="trial KIND N SHIFT [--index scan|tree|trap]"
     [stab]="stab LAYER SPANS --scale K [--form lines|csv]"
+    [dissolve]="dissolve LAYER --scale K [--form lines|csv]"
 )
 declare -A summaries=(
     [query]="answer each point of a list from a layer of polygons"
@@ -35,8 +36,9 @@ declare -A summaries=(
     [gen]="write a test layer: a grid, a nest of squares or long strips"
     [trial]="make a test layer, ask it for points of its own, and count the answers"
     [stab]="name the edges that each vertical span of a list meets, from the bottom up"
+    [dissolve]="write the polygons that features of one id cover together, without their inner borders"
 )
-commands="query check build ask verify face gen trial stab"
+commands="query check build ask verify face gen trial stab dissolve"
 
 about_layer="LAYER is a file of polygons: a POLYGON or MULTIPOLYGON text on each line, or with --form csv
 a CSV with a column 'wkt' and, if the polygons have names, a column 'id'. In a file of lines the
@@ -73,7 +75,7 @@ scan looks at one edge after another, trap goes down a map of trapezoids. --orde
             ;;
         check) printf '%s\n\n%s\n' "$about_layer" "It prints: features F corners V edges E" ;;
         build) printf '%s\n\n%s\n' "$about_layer" "INDEX is the file to be made. Ask it by: $name ask INDEX POINTS" ;;
-        ask) printf '%s\n\n%s\n' "INDEX is a file that '$name build' made. It has its own scale." "$about_points" ;;
+        ask) printf '%s\n\n%s\n' "INDEX is a file that '$name build' made, this program or an earlier one. It has its own scale." "$about_points" ;;
         verify) echo "It prints: index of F features, V corners, E edges, N nodes" ;;
         face)
             printf '%s\n\n' "$about_layer"
@@ -81,6 +83,11 @@ scan looks at one edge after another, trap goes down a map of trapezoids. --orde
 its outer boundary, and those of each hole."
             ;;
         stab) printf '%s\n\n%s\n' "$about_layer" "$about_spans" ;;
+        dissolve)
+            printf '%s\n\n' "$about_layer"
+            echo "It writes a layer in form csv: the header wkt,id, and for each id a row with the polygons that its
+features cover together. The rows stand in the order in which the ids come first."
+            ;;
         gen | trial)
             echo "KIND is grid (N by N unit squares, N at most 256), nest (N squares one in another, N at most 4096) or
 strips (N long strips, N at most 131072). SHIFT moves the layer."
@@ -281,7 +288,7 @@ files_read() {
     case $command in
         query) printf '%s\n' "$1" ${order:+"$order"} "$2" ;;
         ask | stab) printf '%s\n' "$1" "$2" ;;
-        check | build | verify | face) printf '%s\n' "$1" ;;
+        check | build | verify | face | dissolve) printf '%s\n' "$1" ;;
     esac
 }
 

@@ -1,13 +1,15 @@
-"""Index files, read, searched and judged by whole numbers, written apart from the program and after docs/FORMATS.md alone.
+"""Index files of both versions, read, made, searched and judged by whole numbers, written apart from the program and after docs/FORMATS.md alone.
 
-`read` raises `IndexFault`, whose words are the note that `locate ask` writes; `answer` gives the answer line of a point, or raises
-`IndexFault` where the search is given up; `judge` gives the first flaw of a file that reads, or None where it is a true index.
+`read` raises `IndexFault`, whose words are the note that `locate ask` writes; `made` gives the bytes of a content in either version; `answer`
+gives the answer line of a point, or raises `IndexFault` where the search is given up; `judge` gives the notes that may refuse a file that reads.
 """
 from fractions import Fraction
 from typing import NamedTuple
 
 GRID = 10 ** 18
 DEEPEST = 42
+# The most edges of each version, which are also its most marks.
+MOST_EDGES = {1: 2 ** 20, 2: 2 ** 21}
 
 
 class IndexFault(Exception):
@@ -24,12 +26,14 @@ class Node(NamedTuple):
 
 
 class Content:
-    """What a file holds: its rows, part by part."""
+    """What a file holds: its version, and its rows part by part. A source is a pair of corners, as an edge is."""
+    version: int
     scale: int
     ids: list
     corners: list
     edges: list
     above: list
+    sources: list
     marks: list
     covers: list
     floors: list
@@ -71,12 +75,15 @@ def in_order(part, row, rows):
 
 
 def read_edges(r, content, count, corners, lists):
-    content.edges, content.above = [], []
+    content.edges, content.above, content.sources = [], [], []
     for row in range(count):
-        low, high, above = r.word(corners), r.word(corners), r.word(lists)
-        content.edges.append((low, high))
+        edge = r.word(corners), r.word(corners)
+        above = r.word(lists)
+        source = (r.word(corners), r.word(corners)) if content.version == 2 else edge
+        content.edges.append(edge)
         content.above.append(above)
-        if not low < high:
+        content.sources.append(source)
+        if not (edge[0] < edge[1] and source[0] < source[1]):
             raise IndexFault(f"index: edges row {row} not in order")
         in_order("edges", row, content.edges)
 
@@ -109,11 +116,12 @@ def read(data):
     r, content = Reader(data), Content()
     if r.take(8) != b"LOCINDEX":
         raise IndexFault("index: bad magic")
-    version = int.from_bytes(r.take(4), "big")
-    if version != 1:
-        raise IndexFault(f"index: version {version}")
+    content.version = int.from_bytes(r.take(4), "big")
+    if content.version not in MOST_EDGES:
+        raise IndexFault(f"index: version {content.version}")
+    most = MOST_EDGES[content.version]
     content.scale = r.word(16)
-    features, corners, edges, marks = r.word(2 ** 18 + 1), r.word(2 ** 20 + 1), r.word(2 ** 20 + 1), r.word(2 ** 20 + 1)
+    features, corners, edges, marks = r.word(2 ** 18 + 1), r.word(2 ** 20 + 1), r.word(most + 1), r.word(most + 1)
     lists, nodes = r.word(edges + 1), r.word(24 * edges + 1)
     content.ids = [r.take(r.number(1, 201)) for _ in range(features)]
     content.corners = []
@@ -131,6 +139,25 @@ def read(data):
     return content
 
 
+def words(*values):
+    return b"".join(value.to_bytes(4, "big") for value in values)
+
+
+def made(content, version):
+    """The bytes of a content as a file of a version; the first has no room for sources."""
+    parts = [b"LOCINDEX", words(version, content.scale, len(content.ids), len(content.corners), len(content.edges), len(content.marks),
+                                len(content.covers), len(content.nodes) - 1)]
+    parts += [len(name).to_bytes(1, "big") + name for name in content.ids]
+    parts += [value.to_bytes(8, "big", signed=True) for corner in content.corners for value in corner]
+    for edge, above, source in zip(content.edges, content.above, content.sources):
+        parts.append(words(*edge, above, *(source if version == 2 else ())))
+    parts += [words(edge, feature) + odd.to_bytes(1, "big") for edge, feature, odd in content.marks]
+    parts += [words(len(cover), *cover) for cover in content.covers]
+    parts += [words(floor + 1) for floor in content.floors] + [words(root) for root in content.roots]
+    parts += [words(n.item, n.left, n.right) + n.side.to_bytes(1, "big") + words(n.stamp, n.extra) for n in content.nodes[1:]]
+    return b"".join(parts)
+
+
 def child(content, version, number, side):
     node = content.nodes[number]
     if node.side == side and node.stamp <= version:
@@ -138,17 +165,21 @@ def child(content, version, number, side):
     return node.left if side == 1 else node.right
 
 
+def points(content, pair):
+    """The corners whose numbers are these two."""
+    return content.corners[pair[0]], content.corners[pair[1]]
+
+
 def ends(content, edge):
-    low, high = content.edges[edge]
-    return content.corners[low], content.corners[high]
+    return points(content, content.edges[edge])
 
 
 def turn(a, b, p):
     return (b[0] - a[0]) * (p[1] - a[1]) - (b[1] - a[1]) * (p[0] - a[0])
 
 
-def lies_on(content, edge, p):
-    low, high = ends(content, edge)
+def lies_on(segment, p):
+    low, high = segment
     return turn(low, high, p) == 0 and low <= p <= high
 
 
@@ -203,7 +234,7 @@ def conflict(content, a, b):
     turns = [turn(p, q, r), turn(p, q, s), turn(r, s, p), turn(r, s, q)]
     if turns[0] * turns[1] < 0 and turns[2] * turns[3] < 0:
         return "cross"
-    touching = {x for x in (r, s) if lies_on(content, a, x)} | {x for x in (p, q) if lies_on(content, b, x)}
+    touching = {x for x in (r, s) if lies_on((p, q), x)} | {x for x in (p, q) if lies_on((r, s), x)}
     return "touch" if touching - ({p, q} & {r, s}) or len(touching) > 1 else None
 
 
@@ -304,6 +335,9 @@ def judge(content):
     for number in range(len(content.covers)):
         if number not in content.above:
             return [f"verify: list {number} spare"]
+    for e in edges:
+        if not all(lies_on(points(content, content.sources[e]), p) for p in ends(content, e)):
+            return [f"verify: source of edge {e}"]
     for version in corners:
         if flaw := flaw_of_version(content, version):
             return [flaw]

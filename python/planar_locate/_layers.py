@@ -179,7 +179,7 @@ class Layer(Asked):
 
 
 class Index(Asked):
-    """An index file, which `Layer.build` made: the answers of its layer, without the layer."""
+    """An index file, which `Layer.build` made, with this program or an earlier one: the answers of its layer, without the layer."""
 
     def __init__(self, path: str, scale: int):
         self.path, self.scale = path, scale

@@ -91,6 +91,13 @@ class IndexTest(unittest.TestCase):
             wanted = (TOP / "examples" / "answers.txt").read_text().splitlines()
             self.assertEqual([answer.name for answer in answers], [line.split(" on")[0].split(" in")[0] for line in wanted])
 
+    def test_version_1(self):
+        """A file of the first version is asked and judged as one of the second is."""
+        index = Index.open(TOP / "examples" / "lots_1.index")
+        self.assertEqual((index.scale, index.verify()), (6, (3, 11, 14, 20)))
+        points = [line.strip("POINT ()").split() for line in (TOP / "examples" / "places.txt").read_text().splitlines()[:-1]]
+        self.assertEqual(index.ask(points), Layer(TOP / "examples" / "lots.csv", 6, "csv").ask(points))
+
     def test_open(self):
         with self.assertRaises(ReadFailed):
             Index.open("no file")

@@ -12,7 +12,7 @@ mod laws;
 mod tally;
 mod whole;
 
-pub use answers::write_answer;
+pub use answers::{put_doubled, write_answer};
 pub use batch::Batch;
 pub use faces::{FaceNumbers, Unnumbered};
 pub use faults::{BatchFault, FeedFault};

@@ -6,5 +6,6 @@ pub mod Grown
 pub mod Plain
 pub mod Statuses
 pub mod Streamed
+pub mod Taken
 pub mod Told
 pub mod Writing

@@ -4,7 +4,7 @@ use Rattle.loc_spec_plane.specs.declared.Mark.{Mark}
 use Rattle.loc_spec_plane.specs.Points.{Point, Edge, edge_before}
 use Rattle.loc_spec_plane.specs.Lists.{sorted_set}
 use Rattle.loc_spec_plane.specs.Rings.{Rings}
-use Rattle.loc_spec_plane.specs.Tables.{IsTable, table_of, table_by, layer_corners, pieces_of, whole, number_of, edge_marks}
+use Rattle.loc_spec_plane.specs.Tables.{IsTable, table_of, table_by, layer_corners, pieces_of, whole, edge_marks}
 use Rattle.loc_laws_noding.specs.Laws.{IsCutting}
 use Rattle.loc_laws_noding.proofs.Noded.{cutting_whole}
 use Rattle.loc_laws_noding.proofs.Tables as laws
@@ -18,14 +18,12 @@ use Rattle.loc_edges.proofs.MarkRows.{marks_are as rows_are}
 
 module _ (cut : Edge → List Edge) (layer : List Rings) where
   -- the table by its parts, as they are made from the lists of the layer
-  pub table_is : (corners cs : List Point) (edges es : List Edge) (tagged : List (Edge × ℕ)) (ends : List (ℕ × ℕ)) (marks : List (List Mark)) → AreOfLayer cut layer corners edges tagged → cs ≡ corners → es ≡ edges → ends ≡ map (λ (e : Edge). (number_of cs e.lo, number_of cs e.hi)) es → marks ≡ map marks_of (map (features_of tagged) (sorted_set edge_before (segments_in tagged))) → table_with corners ends marks ≡ table_by cut layer
+  pub table_is : (corners : List Point) (edges : List Edge) (ends sources : List (ℕ × ℕ)) (tagged : List (Edge × ℕ)) (marks : List (List Mark)) → AreOfLayer cut layer corners edges ends sources tagged → marks ≡ map marks_of (map (features_of tagged) (sorted_set edge_before (segments_in tagged))) → table_with corners ends marks sources ≡ table_by cut layer
   unfolding table_by
-  table_is corners cs edges es tagged ends marks of cs_are es_are ends_are marks_are =
+  table_is corners edges ends sources tagged marks of marks_are =
       let t = table_by cut layer in
-      let numbers_of : List Point → List Edge → List (ℕ × ℕ) = λ ps ds. map (λ (e : Edge). (number_of ps e.lo, number_of ps e.hi)) ds in
-      let ends_is : ends ≡ t.ends = ends_are ∙ (ap (λ ps. numbers_of ps es) (cs_are ∙ of.corners_are) ∙ ap (numbers_of (layer_corners layer)) (es_are ∙ of.edges_are)) in
       let marks_is : marks ≡ t.marks = marks_are ∙ (rows_are cut layer of.is_cutting tagged of.features (sorted_set edge_before (segments_in tagged)) ∙ ap (map (edge_marks cut layer)) of.distinct) in
-      ap (λ ps. table_with ps ends marks) of.corners_are ∙ (ap (λ rows. table_with t.corners rows marks) ends_is ∙ ap (table_with t.corners t.ends) marks_is)
+      ap (λ ps. table_with ps ends marks sources) of.corners_are ∙ (ap (λ rows. table_with t.corners rows marks sources) of.ends_are ∙ (ap (λ rows. table_with t.corners t.ends rows sources) marks_is ∙ ap (table_with t.corners t.ends t.marks) of.sources_are))
 
   -- it has as many corners and edges as its parts
   pub table_is-small : (corners : List Point) (edges : List Edge) → corners ≡ layer_corners layer → edges ≡ pieces_of cut layer → length corners ≤ 2 ^ 20 → length edges ≤ 2 ^ 21 → IsSmallTable (table_by cut layer)

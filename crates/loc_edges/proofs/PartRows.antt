@@ -29,15 +29,17 @@ mark_rows_rise marks count e up = elim (cases_lt e count) [
   | inr past ↦ ap (is_rising mark_before) (get_or_past (map (row_of marks) (numbers count)) e [] (omega (arith, length-map-range_with_len (row_of marks) 0 count)))
 ]
 
-module _ (corners : List Point) (ends : List (ℕ × ℕ)) (marks : List (ℕ × Mark)) where
+module _ (corners : List Point) (ends : List (ℕ × ℕ)) (marks : List (ℕ × Mark)) (sources : List (ℕ × ℕ)) where
   -- the table of parts in order
-  pub parts-is_table : is_rising before corners ≡ true → is_rising pair_before ends ≡ true → All (GoesUpBelow (length corners)) ends → is_rising edge_mark_before marks ≡ true → IsTable (table_of_parts corners ends marks)
-  parts-is_table corners_rise edges_rise up marks_rise = record {
+  pub parts-is_table : is_rising before corners ≡ true → is_rising pair_before ends ≡ true → All (GoesUpBelow (length corners)) ends → is_rising edge_mark_before marks ≡ true → length sources ≡ length ends → All (GoesUpBelow (length corners)) sources → IsTable (table_of_parts corners ends marks sources)
+  parts-is_table corners_rise edges_rise up marks_rise sources_fit sources_up = record {
     corners_rise = corners_rise;
     edges_rise = edges_rise;
     goes_up = λ e fits. up e (0, 0) fits;
     marks_fit = length-map-range_with_len (row_of marks) 0 (length ends);
     marks_rise = λ e. mark_rows_rise marks (length ends) e marks_rise;
+    sources_fit = sources_fit;
+    sources_go_up = λ e fits. sources_up e (0, 0) (omega (arith, fits, sources_fit));
   }
 
 -- ---- the features
@@ -56,12 +58,12 @@ module _ (P : Mark → Type 0) (marks : List (ℕ × Mark)) where
   rows_all (n ∷ ns) each = All-append P (row_of marks n) (flat_map (λ ms. ms) (map (row_of marks) ns)) (row_all n marks each) (rows_all ns each)
 
 -- the features of the marks are counted
-pub parts-features : (corners : List Point) (ends : List (ℕ × ℕ)) (marks : List (ℕ × Mark)) (most : ℕ) → All (λ (m : ℕ × Mark). m.1.feature < most) marks → feature_count (table_of_parts corners ends marks) ≤ most
-parts-features corners ends marks most each = feature_count_within (table_of_parts corners ends marks) most (rows_all (λ (m : Mark). m.feature < most) marks (numbers (length ends)) each)
+pub parts-features : (corners : List Point) (ends : List (ℕ × ℕ)) (marks : List (ℕ × Mark)) (sources : List (ℕ × ℕ)) (most : ℕ) → All (λ (m : ℕ × Mark). m.1.feature < most) marks → feature_count (table_of_parts corners ends marks sources) ≤ most
+parts-features corners ends marks sources most each = feature_count_within (table_of_parts corners ends marks sources) most (rows_all (λ (m : Mark). m.feature < most) marks (numbers (length ends)) each)
 
 -- the edges by their points, from the pairs
-pub edges-are : (corners : List Point) (ends : List (ℕ × ℕ)) (rows : List (List Mark)) → AreEdges (table_with corners ends rows) (map (edge_of_pair corners) ends)
-edges-are corners ends rows = record {
+pub edges-are : (corners : List Point) (ends : List (ℕ × ℕ)) (rows : List (List Mark)) (sources : List (ℕ × ℕ)) → AreEdges (table_with corners ends rows sources) (map (edge_of_pair corners) ends)
+edges-are corners ends rows sources = record {
   as_many = length-map ends (edge_of_pair corners);
   are = λ n d fits. get_or-map (edge_of_pair corners) ends n (0, 0) d (omega (arith, length-map ends (edge_of_pair corners)));
 }

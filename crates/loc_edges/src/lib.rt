@@ -1,4 +1,4 @@
-//! The tables of a layer: its corners and its edges, in order and each once, and the marks of each edge.
+//! The tables of a layer: its corners and its edges, in order and each once, and the marks and the source of each edge.
 #![tactic(auto)]
 
 mod floors;
@@ -17,6 +17,7 @@ mod views;
 pub use floors::Floors;
 pub use grouped::distinct_edges;
 pub use loc_spec_plane::Mark;
+pub use numbers::numbered_ends;
 pub use ranks::{Placing, Ranks};
 pub use rows::Rows;
 pub use sorted::sorted_segments;

@@ -21,8 +21,8 @@ fn corner_number(corners: &[Point], p: Point) -> u32
     }
 }
 
-// The ends of each edge, by their places among the corners.
-pub(crate) fn numbered_ends(
+/// The ends of each edge, by their places among the corners.
+pub fn numbered_ends(
     alloc: Global,
     corners: &[Point],
     edges: &[Edge],

@@ -5,7 +5,7 @@ ghost use Rattle.loc_spec_plane.specs.Lists.{is_rising};
 ghost use Rattle.loc_spec_plane.specs.Points.{Point as PointOf, Edge as EdgeOf, before};
 ghost use Rattle.loc_spec_plane.specs.Covers.{feature_count};
 ghost use Rattle.loc_spec_plane.specs.Rings.{Rings, touches, covers};
-ghost use Rattle.loc_spec_plane.specs.Tables.{IsTable, AllEnds, AllEven, table_by, table_of, corner as corner_of, edge as edge_of, lo_of, hi_of, edge_numbers, mark_before, pair_before, touches_by_marks, covers_by_marks};
+ghost use Rattle.loc_spec_plane.specs.Tables.{IsTable, AllEnds, AllEven, table_by, table_of, corner as corner_of, edge as edge_of, lo_of, hi_of, source_of, edge_numbers, mark_before, pair_before, touches_by_marks, covers_by_marks};
 ghost use Rattle.loc_edges.specs.Ending.{IsBeginning};
 ghost use Rattle.loc_edges.specs.Kept.{AreEdges};
 ghost use Rattle.loc_edges.specs.Layers.{AreOfLayer, layer_rings};
@@ -26,13 +26,14 @@ use std::alloc::{AllocError, Global};
 use std::marker::Model;
 
 /// The table of a layer: its corners in order, its edges as pairs of corner numbers in order, and for each edge its marks in the order of
-/// the features.
+/// the features, and its source: the least segment of which it is a piece.
 #[derive(Drop)]
 pub struct EdgeTable {
     corners: Vec<Point>,
     edges: Vec<Edge>,
     ends: Vec<(u32, u32)>,
     marks: Rows<Mark>,
+    sources: Vec<(u32, u32)>,
     firsts: Vec<u32>,
     ending: Rows<u32>,
 }
@@ -43,9 +44,9 @@ impl Model for EdgeTable {
 
     ghost Value = { Table };
 
-    ghost view = { λ t. record { corners = t.corners.items; ends = t.ends.items; marks = t.marks } };
+    ghost view = { λ t. record { corners = t.corners.items; ends = t.ends.items; marks = t.marks; sources = t.sources.items } };
 
-    ghost invariant = { λ t. IsKept t.edges.items t.firsts.items t.ending (record { corners = t.corners.items; ends = t.ends.items; marks = t.marks }) };
+    ghost invariant = { λ t. IsKept t.edges.items t.firsts.items t.ending (record { corners = t.corners.items; ends = t.ends.items; marks = t.marks; sources = t.sources.items }) };
 }
 
 impl EdgeTable {
@@ -64,33 +65,38 @@ impl EdgeTable {
         let tagged = sorted_segments(alloc, features)?;
         let edges = distinct_edges(alloc, &tagged)?;
         let corners = corners_between(alloc, &edges)?;
-        EdgeTable::of_tagged(alloc, corners, edges, tagged)
+        let ends = numbered_ends(alloc, &corners, &edges)?;
+        let sources = Vec::from_slice(alloc, &ends)?;
+        EdgeTable::of_tagged(alloc, corners, edges, ends, sources, tagged)
     }
 
-    /// The table of a layer whose segments are cut, from its corners, its edges, and the pieces in order, each with the number of its feature.
+    /// The table of a layer whose segments are cut, from its corners, its edges, their ends and their sources by corner numbers, and the pieces in
+    /// order, each with the number of its feature.
     pub fn of_tagged(
         alloc: Global,
         corners: Vec<Point>,
         edges: Vec<Edge>,
+        ends: Vec<(u32, u32)>,
+        sources: Vec<(u32, u32)>,
         tagged: Vec<(Edge, usize)>,
     ) -> Result<EdgeTable, AllocError>
-        requires of_layer { (cut : EdgeOf → List EdgeOf) × ((layer : List Rings) × AreOfLayer cut layer corners.items edges.items tagged.items) }
+        requires of_layer { (cut : EdgeOf → List EdgeOf) × ((layer : List Rings) × AreOfLayer cut layer corners.items edges.items ends.items sources.items tagged.items) }
         requires few_corners { length corners.items ≤ 2 ^ 20 }
         requires few_edges { length edges.items ≤ 2 ^ 21 }
         requires few_features { All (λ (t : EdgeOf × ℕ). t.1 < 2 ^ 20) tagged.items }
-        ensures { IfOk result (λ table. (cut : EdgeOf → List EdgeOf) (layer : List Rings) → AreOfLayer cut layer corners.items edges.items tagged.items → table ≡ table_by cut layer) }
+        ensures { IfOk result (λ table. (cut : EdgeOf → List EdgeOf) (layer : List Rings) → AreOfLayer cut layer corners.items edges.items ends.items sources.items tagged.items → table ≡ table_by cut layer) }
     {
-        let ends = numbered_ends(alloc, &corners, &edges)?;
         let marks = edge_marks(alloc, tagged)?;
-        EdgeTable::assemble(alloc, corners, edges, ends, marks)
+        EdgeTable::assemble(alloc, corners, edges, ends, marks, sources)
     }
 
-    /// The table with these corners, these pairs of corner numbers as edges, and these marks, each behind the number of its edge.
+    /// The table with these corners, these pairs of corner numbers as edges, these marks, each behind the number of its edge, and these sources.
     pub fn of_parts(
         alloc: Global,
         corners: Vec<Point>,
         ends: Vec<(u32, u32)>,
         marks: Vec<(u32, Mark)>,
+        sources: Vec<(u32, u32)>,
     ) -> Result<EdgeTable, AllocError>
         requires corners_rise { IsTrue (is_rising before corners.items) }
         requires few_corners { length corners.items ≤ 2 ^ 20 }
@@ -99,12 +105,14 @@ impl EdgeTable {
         requires few_edges { length ends.items ≤ 2 ^ 21 }
         requires marks_rise { IsTrue (is_rising edge_mark_before marks.items) }
         requires marks_on_edges { All (λ mark. mark.0 < length ends.items) marks.items }
-        ensures table { IfOk result (λ table. table ≡ table_of_parts corners.items ends.items marks.items) }
+        requires sources_fit { length sources.items ≡ length ends.items }
+        requires sources_go_up { All (GoesUpBelow (length corners.items)) sources.items }
+        ensures table { IfOk result (λ table. table ≡ table_of_parts corners.items ends.items marks.items sources.items) }
         ensures features { IfOk result (λ table. (most : ℕ) → All (λ mark. mark.1.feature < most) marks.items → feature_count table ≤ most) }
     {
         let edges = edges_between(alloc, &corners, &ends)?;
         let rows = Rows::by_key(alloc, &marks, ends.len())?;
-        EdgeTable::assemble(alloc, corners, edges, ends, rows)
+        EdgeTable::assemble(alloc, corners, edges, ends, rows, sources)
     }
 
     // The table of these rows, with what begins and what ends at each corner.
@@ -114,11 +122,12 @@ impl EdgeTable {
         edges: Vec<Edge>,
         ends: Vec<(u32, u32)>,
         marks: Rows<Mark>,
+        sources: Vec<(u32, u32)>,
     ) -> Result<EdgeTable, AllocError>
-        requires in_order { IsTable (table_with corners.items ends.items marks) }
-        requires small { IsSmallTable (table_with corners.items ends.items marks) }
-        requires edges { AreEdges (table_with corners.items ends.items marks) edges.items }
-        ensures { IfOk result (λ table. table ≡ table_with corners.items ends.items marks) }
+        requires in_order { IsTable (table_with corners.items ends.items marks sources.items) }
+        requires small { IsSmallTable (table_with corners.items ends.items marks sources.items) }
+        requires edges { AreEdges (table_with corners.items ends.items marks sources.items) edges.items }
+        ensures { IfOk result (λ table. table ≡ table_with corners.items ends.items marks sources.items) }
     {
         let count = corners.len() as u32;
         let firsts = first_edges(alloc, &ends, count)?;
@@ -128,6 +137,7 @@ impl EdgeTable {
             edges,
             ends,
             marks,
+            sources,
             firsts,
             ending,
         })
@@ -191,6 +201,16 @@ impl EdgeTable {
         ensures in_order { IsTrue (is_rising mark_before result.now) }
     {
         self.marks.row(n as usize)
+    }
+
+    /// The numbers of the ends of the source of edge n: the least segment of which the edge is a piece.
+    pub fn source(&self, n: u32) -> (u32, u32)
+        requires { n < length self.now.ends }
+        ensures value { result ≡ source_of self.now n }
+        ensures goes_up { result.0 < result.1 }
+        ensures in_range { result.1 < length self.now.corners }
+    {
+        self.sources[n as usize]
     }
 
     /// The edges whose lower end is the corner: from the first number on and before the second.

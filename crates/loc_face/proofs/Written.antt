@@ -1,8 +1,8 @@
 -- The text of the face above a floor, as it is written, and the lines that refuse a point.
-use Rattle.std.proofs.Common.{◌≡◌, ℕ, ◌+◌, ◌*◌, ◌<◌, ◌≤◌, Option, Some, None, Result, Ok, Err, refl, sym, ◌∙◌, ap, subst, arith}
+use Rattle.std.proofs.Common.{◌≡◌, ℕ, ◌+◌, ◌*◌, ◌<◌, ◌≤◌, Option, Some, None, Result, Ok, refl, sym, ◌∙◌, ap, subst, arith}
 use Rattle.loc_spec_text.specs.Bytes.{Text}
 use Rattle.loc_io.specs.Meaning.{Meaning}
-use Rattle.loc_io.specs.Streams.{Stream, TakesAll}
+use Rattle.loc_io.specs.Streams.{Stream}
 use Rattle.loc_spec_plane.specs.declared.Place.{Place}
 use Rattle.loc_spec_plane.specs.Points.{Point}
 use Rattle.loc_spec_plane.specs.Tables.{Table}
@@ -15,8 +15,8 @@ use Rattle.loc_faces.specs.FaceLists.{FaceLists, AreFaces, face_in}
 use Rattle.loc_faces.specs.FaceTexts.{face_text}
 use Rattle.loc_faces.specs.Subdivision.{next_at}
 use Rattle.loc_faces.proofs.Computed.{face_same, next_same}
-use Rattle.loc_course.specs.Courses.{Stopped, refused, unwritten, refuses, searches, writes}
-use Rattle.loc_course.specs.Following.{Follows, moment, refuses_by, searches_by, writes_by}
+use Rattle.loc_course.specs.Courses.{Stopped, refused, refuses, searches}
+use Rattle.loc_course.specs.Following.{Follows, moment, refuses_by, searches_by}
 use Rattle.loc_course.specs.Outcomes.{exactly}
 use Rattle.loc_course.proofs.Told.{exactly_it}
 use Rattle.loc_face.specs.FaceCourses.{place_course, point_course, text_above}
@@ -41,18 +41,6 @@ text_is scale t planar half are lists faces floor number is =
 pub same_ok : {T E : Type 0} (r : Result T E) (x y : T) → r ≡ Ok x → r ≡ Ok y → x ≡ y
 same_ok r x y first second = let both : Ok x ≡ Ok y = sym first ∙ second in cc
 
--- a text that was written
-pub done : {T E : Type 0} (text : Text) (shelf : Meaning) (k : ℕ) (o m : Stream) (r : Result T E) (x : T) → r ≡ Ok x → TakesAll text o m r → Follows (writes (exactly text)) (moment shelf o k) (moment shelf m k) None
-done text shelf k o m r x is takes =
-    let took = subst (λ r. TakesAll text o m r) is takes in
-    writes_by text m (exactly_it text text refl) (record { wrote = (took.ok, took.cause.steady); in_time = took.in_time })
-
--- a text of which a write failed
-pub cut : {T E : Type 0} (text : Text) (shelf : Meaning) (k : ℕ) (o m : Stream) (r : Result T E) (e : E) → r ≡ Err e → TakesAll text o m r → Follows (writes (exactly text)) (moment shelf o k) (moment shelf m k) (Some unwritten)
-cut text shelf k o m r e is takes =
-    let failed = subst (λ r. TakesAll text o m r) is takes in
-    writes_by text m (exactly_it text text refl) (record { wrote = (failed.err, failed.cause.failed); in_time = failed.in_time })
-
 -- a place that was found by so many steps
 pub sought : (scale : ℕ) (t : Table) (p : Point) (place : Place) (shelf : Meaning) (o m : Stream) (k l : ℕ) (end : Option Stopped) → place_at t p ≡ place → k ≤ l → l ≤ k + most_steps t
     → Follows (place_course scale t place) (moment shelf o l) (moment shelf m l) end → Follows (searches (most_steps t) (place_course scale t (place_at t p))) (moment shelf o k) (moment shelf m l) end
@@ -61,10 +49,6 @@ sought scale t p place shelf o m k l end is up within follows = searches_by l up
 -- a refusal by a line
 pub refuses_it : (text line : Text) (shelf : Meaning) (o : Stream) (k : ℕ) → line ≡ text → Follows (refuses (exactly text)) (moment shelf o k) (moment shelf o k) (Some (refused line))
 refuses_it text line shelf o k is = refuses_by line (exactly_it text line is)
-
--- the same text, written otherwise
-pub takes_same : {T E : Type 0} (a b : Text) (o m : Stream) (r : Result T E) → a ≡ b → TakesAll a o m r → TakesAll b o m r
-takes_same a b o m r is takes = subst (λ l. TakesAll l o m r) is takes
 
 -- a word that is no point is refused
 pub unread_word : (scale : ℕ) (t : Table) (word line : Text) (shelf : Meaning) (o : Stream) (k : ℕ) → None ≡ point_of scale word → line ≡ ended (codes "point: unread")

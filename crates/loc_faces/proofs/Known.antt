@@ -23,14 +23,15 @@ module _ (t : Table) (planar : IsPlanar t) where
   listed : (f : ℕ → ℕ) (h : ℕ) → h < half_edge_count t → get_or (map f (numbers (half_edge_count t))) h 0 ≡ f h
   listed f h lt = get_or-map-range_with_len f 0 (half_edge_count t) h h 0 lt (omega arith)
 
-  abbrev halves : HalfEdgeLists
+  -- the half-edges, computed
+  abbrev pub halves : HalfEdgeLists
   halves = record {
     nexts = map (next_at t) (numbers (half_edge_count t));
     leaders = map (leader t (λ h. get_or (map (next_at t) (numbers (half_edge_count t))) h 0)) (numbers (half_edge_count t));
     origins = map (origin t) (numbers (half_edge_count t));
   }
 
-  are_halves : AreHalfEdges t halves
+  pub are_halves : AreHalfEdges t halves
   are_halves = record {
     as_many_nexts = length-map-range_with_len (next_at t) 0 (half_edge_count t);
     as_many_leaders = length-map-range_with_len (leader t (next_in halves)) 0 (half_edge_count t);

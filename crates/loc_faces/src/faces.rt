@@ -86,8 +86,8 @@ impl Faces {
         }
     }
 
-    // The leader of the outer cycle of a face: face 0 has none.
-    pub(crate) fn outer(&self, number: u32) -> &[u32]
+    /// The leader of the outer cycle of a face: face 0 has none.
+    pub fn outer(&self, number: u32) -> &[u32]
         requires in_range { number ≤ length self.now.outers }
         ensures none { number ≡ 0 → result.now ≡ [] }
         ensures one { 0 < number → result.now ≡ slice_index self.now.outers (number - 1) ∷ [] }
@@ -99,8 +99,8 @@ impl Faces {
         &self.outers[place..place + 1]
     }
 
-    // The leaders of the cycles that hang in a face.
-    pub(crate) fn inner(&self, number: u32) -> &[u32]
+    /// The leaders of the cycles that hang in a face.
+    pub fn inner(&self, number: u32) -> &[u32]
         requires in_range { number < length self.now.inner }
         ensures { slice_get self.now.inner number ≡ Some result.now }
     {

@@ -1,12 +1,11 @@
 -- What a reader of one field finds: the field by its bytes, or what is wrong there.
-use Rattle.std.proofs.Common.{◌≡◌, ℕ, ◌+◌, ◌<◌, ◌≤◌, ◌^◌, Bool, true, false, ◌&&◌, List, [], ◌∷◌, ◌++◌, length, get_or, ◌%◌, refl, sym, ◌∙◌, ap, subst, append-nil, arith, ℤ, pos, negsuc}
-use Rattle.std.specs.Prelude.{Some, nat_lt, nat_eq, ◌==◌, ◌||◌, codes, unsigned_abs, FitsSigned}
-use Rattle.std.specs.List.{starts_with}
+use Rattle.std.proofs.Common.{◌≡◌, ◌⊎◌, inl, inr, ℕ, ◌+◌, ◌<◌, ◌≤◌, ◌^◌, Bool, true, false, ◌&&◌, List, [], ◌∷◌, ◌++◌, length, get_or, ◌%◌, refl, sym, ◌∙◌, ap, subst, append-nil, arith, ℤ, pos, negsuc}
+use Rattle.std.specs.Prelude.{Some, nat_lt, ◌==◌, codes, unsigned_abs, FitsSigned}
 use Rattle.std.specs.Str.{bytes_eq}
 use Rattle.std.proofs.lemmas.Slice.Eq.{bytes_eq-Decides}
 use Rattle.std.specs.Int.{w8, w32, w64, to_be_bytes, from_be_bytes, cast_signed, cast_unsigned}
 use Rattle.std.proofs.lemmas.Nat.{be_bytes_4, be_bytes_8}
-use Rattle.std.proofs.lemmas.Bool.{le-ltb, lt-ltb, eqb-true, true≢false}
+use Rattle.std.proofs.lemmas.Bool.{le-ltb, lt-ltb, ne_eqb, or_from}
 use Rattle.std.proofs.lemmas.Int.{of_z-to_z, to_z-of_z, ints}
 use Rattle.loc_spec_index.specs.declared.IndexFault.{IndexFault}
 use Rattle.loc_spec_index.specs.declared.IndexFault.TheVariants as fault
@@ -104,24 +103,16 @@ magic-read held t e = read-at (magic letters) 8 held t (sym ((bytes_eq-Decides h
 pub magic-wrong : (held : List ℕ) {a b : Left} → IsTaken 8 held a b → bytes_eq held (codes "LOCINDEX") ≡ false → IsWrong (magic (codes "LOCINDEX")) a fault.Magic
 magic-wrong held t e = wrong-at (magic letters) 8 held fault.Magic refl t (fault-is _ _ e)
 
-pub version-read : (found : ℕ) (held : List ℕ) {a b : Left} → IsTaken 4 held a b → AreBytes held → found ≡ from_be_bytes w32 held → found ≡ 1 → IsRead (version 1 ∷ []) a b
-version-read found held t small is one = read-at (version 1) 4 held t (be_bytes_4 held 1 t.as_many small (sym one ∙ is)) refl
-
-pub version-wrong : (found : ℕ) (held : List ℕ) {a b : Left} → IsTaken 4 held a b → AreBytes held → found ≡ from_be_bytes w32 held → (found ≡ 1 → ⊥) → starts_with nat_eq a.rest (0 ∷ 0 ∷ 0 ∷ 2 ∷ []) ≡ false → IsWrong (version 1) a (fault.Version found)
-version-wrong found held {a} {b} t small is other first =
-    wrong-at (version 1) 4 held (fault.Version found) refl t (ap (λ v. unless (is_version v) (fault.Version v)) (sym is) ∙ fault-is _ _ (neither (found == 1) (found == 2) refl refl))
+pub version-read : (found : ℕ) (held : List ℕ) {a b : Left} → IsTaken 4 held a b → AreBytes held → found ≡ from_be_bytes w32 held → (found ≡ 1) ⊎ (found ≡ 2) → IsRead (version found ∷ []) a b
+version-read found held t small is known = read-at (version found) 4 held t (be_bytes_4 held found t.as_many small is) (right known)
   where
-    second : found ≡ 2 → ⊥
-    second two = true≢false (sym (ap (λ r. starts_with nat_eq r (0 ∷ 0 ∷ 0 ∷ 2 ∷ [])) (t.taken ∙ ap (λ h. h ++ b.rest) (sym (be_bytes_4 held 2 t.as_many small (sym two ∙ is))))) ∙ first)
+    right : (found ≡ 1) ⊎ (found ≡ 2) → is_right (version found) ≡ true
+    right (inl one) = ap (λ v. is_right (version v)) one
+    right (inr two) = ap (λ v. is_right (version v)) two
 
-    neither : (p q : Bool) → (found == 1) ≡ p → (found == 2) ≡ q → (p || q) ≡ false
-    neither true q hp hq = absurd (other (eqb-true found 1 hp))
-    neither false true hp hq = absurd (second (eqb-true found 2 hq))
-    neither false false hp hq = refl
-
--- the letters are followed by the version
-pub past_magic : {a b : Left} → IsRead (magic (codes "LOCINDEX") ∷ []) a b → starts_with nat_eq a.rest (76 ∷ 79 ∷ 67 ∷ 73 ∷ 78 ∷ 68 ∷ 69 ∷ 88 ∷ 0 ∷ 0 ∷ 0 ∷ 2 ∷ []) ≡ false → starts_with nat_eq b.rest (0 ∷ 0 ∷ 0 ∷ 2 ∷ []) ≡ false
-past_magic {a} {b} read other = ap (λ r. starts_with nat_eq r (76 ∷ 79 ∷ 67 ∷ 73 ∷ 78 ∷ 68 ∷ 69 ∷ 88 ∷ 0 ∷ 0 ∷ 0 ∷ 2 ∷ [])) (sym read.spelled) ∙ other
+pub version-wrong : (v found : ℕ) (held : List ℕ) {a b : Left} → IsTaken 4 held a b → found ≡ from_be_bytes w32 held → (found ≡ 1 → ⊥) → (found ≡ 2 → ⊥) → IsWrong (version v) a (fault.Version found)
+version-wrong v found held t is first second =
+    wrong-at (version v) 4 held (fault.Version found) refl t (ap (λ n. unless (is_version n) (fault.Version n)) (sym is) ∙ fault-is _ _ (or_from (found == 1) (found == 2) (ne_eqb found 1 first) (ne_eqb found 2 second)))
 
 -- ---- points
 

@@ -8,10 +8,10 @@ use Rattle.loc_spec_index.specs.Content.{Content}
 use Rattle.loc_spec_index.specs.IndexFile.{Field, fields, spelled, spelled_all, bytes_of, fault_at, with_bytes, IsShaped, IsFileOf, AreReached, HasFault}
 use Rattle.loc_spec_index.specs.IndexFile as file
 use Rattle.loc_file.specs.Readings.{Left, IsRead, IsWrong, IsFaultIn, IsStop, short, wrong, stop, no_memory}
-use Rattle.loc_file.specs.Refused.{is_second, IsRefused, faulty, unheld}
+use Rattle.loc_file.specs.Refused.{IsRefused, faulty, unheld}
 
-module _ (bytes : List ℕ) (start : Left) (all : start.rest ≡ bytes) (none : start.offset ≡ 0) where
-  has_fault : (c : Content) (f : IndexFault) → IsShaped 1 c → IsFaultIn (fields 1 c) start f → HasFault bytes f
+module _ (bytes : List ℕ) (start : Left) (all : start.rest ≡ bytes) (none : start.offset ≡ 0) (v : ℕ) where
+  has_fault : (c : Content) (f : IndexFault) → IsShaped v c → IsFaultIn (fields v c) start f → HasFault bytes f
   has_fault c f shaped w = by f w.wrong
     where
       offset : length (spelled_all w.earlier) ≡ w.here.offset
@@ -19,7 +19,7 @@ module _ (bytes : List ℕ) (start : Left) (all : start.rest ≡ bytes) (none : 
 
       reached : (rest : List ℕ) → w.here.rest ≡ rest → AreReached bytes w.earlier w.field rest
       reached rest e = record {
-        in_version = 1;
+        in_version = v;
         content = c;
         later = w.later;
         shaped = shaped;
@@ -32,16 +32,16 @@ module _ (bytes : List ℕ) (start : Left) (all : start.rest ≡ bytes) (none : 
       by _ (short lt) = subst (λ n. HasFault bytes (fault.Short (n + length (spelled w.field)))) offset (file.short w.earlier w.field w.here.rest (reached w.here.rest refl) lt)
       by _ (wrong held rest f e as_long is) = file.wrong w.earlier w.field held rest f (reached (held ++ rest) e) as_long (ap (λ n. fault_at n (with_bytes held w.field)) offset ∙ is)
 
-  pub refused : {f : IndexFault} → is_second bytes ≡ false → IsStop (IsShaped 1) (fields 1) start f → IsRefused bytes f
-  refused first (stop c f shaped w) = faulty f (ap not first) (has_fault c f shaped w)
-  refused first no_memory = unheld
+  pub refused : {f : IndexFault} → IsStop (IsShaped v) (fields v) start f → IsRefused bytes f
+  refused (stop c f shaped w) = faulty f (has_fault c f shaped w)
+  refused no_memory = unheld
 
-  module _ (c : Content) (later : Left) (shaped : IsShaped 1 c) (read : IsRead (fields 1 c) start later) where
-    pub file-front : IsFileOf 1 c (bytes_of 1 c)
+  module _ (c : Content) (later : Left) (shaped : IsShaped v c) (read : IsRead (fields v c) start later) where
+    pub file-front : IsFileOf v c (bytes_of v c)
     file-front = record { shaped = shaped; right = read.right; spelled = refl }
 
-    pub refused-long : is_second bytes ≡ false → 0 < length later.rest → IsRefused bytes (fault.Long (length later.rest))
-    refused-long first some = faulty _ (ap not first) (file.long 1 c (bytes_of 1 c) later.rest file-front (sym all ∙ read.spelled) (λ e. (let l = ap (λ (r : List ℕ). length r) e in absurd (omega (arith, l, some)))))
+    pub refused-long : 0 < length later.rest → IsRefused bytes (fault.Long (length later.rest))
+    refused-long some = faulty _ (file.long v c (bytes_of v c) later.rest file-front (sym all ∙ read.spelled) (λ e. (let l = ap (λ (r : List ℕ). length r) e in absurd (omega (arith, l, some)))))
 
-    pub file-whole : length later.rest ≡ 0 → IsFileOf 1 c bytes
-    file-whole nothing = record { shaped = shaped; right = read.right; spelled = sym all ∙ (read.spelled ∙ (ap (λ r. bytes_of 1 c ++ r) (nil_from_length later.rest nothing) ∙ append-nil (bytes_of 1 c))) }
+    pub file-whole : length later.rest ≡ 0 → IsFileOf v c bytes
+    file-whole nothing = record { shaped = shaped; right = read.right; spelled = sym all ∙ (read.spelled ∙ (ap (λ r. bytes_of v c ++ r) (nil_from_length later.rest nothing) ∙ append-nil (bytes_of v c))) }

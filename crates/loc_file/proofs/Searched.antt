@@ -42,12 +42,12 @@ placed c (Border e) h = let l = as_many c in omega (arith, h, l)
 placed c (Area None) h = tt
 placed c (Area (Some e)) h = let l = as_many c in omega (arith, h, l)
 
-pub found-in-range : (c : Content) (bytes : List ℕ) (t : Table) (p : Point) (r : Answer) → IsFileOf 1 c bytes → t ≡ table_in c → r ≡ answer_of (search_for t c.nodes p c.roots) → IfOk r (IsInRange t)
-found-in-range c bytes t p r file e is =
+pub found-in-range : {v : ℕ} (c : Content) (bytes : List ℕ) (t : Table) (p : Point) (r : Answer) → IsFileOf v c bytes → t ≡ table_in c → r ≡ answer_of (search_for t c.nodes p c.roots) → IfOk r (IsInRange t)
+found-in-range {v} c bytes t p r file e is =
     subst (λ a. IfOk a (IsInRange t)) (sym is) (subst (λ u. IfOk (answer_of (search_for u c.nodes p c.roots)) (IsInRange u)) (sym e) (by (search_in c p) refl))
   where
     by : (found : Found) → search_in c p ≡ found → IfOk (answer_of found) (IsInRange (table_in c))
-    by (Ok place) f = placed c place (search_in_range bytes 1 c file p place f)
+    by (Ok place) f = placed c place (search_in_range bytes v c file p place f)
     by (Err version) f = tt
 
 pub found-place : (c : Content) (t : Table) (p : Point) (r : Answer) → r ≡ answer_of (search_for t c.nodes p c.roots) → IsIndexFor c t → IsOkAnd r (IsPlace t p)

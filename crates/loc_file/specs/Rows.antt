@@ -1,6 +1,6 @@
 -- The fields of a row, by its number and the row before it. The words:
---   EdgeOf            an edge as a file has it: its ends, and the number of its cover list
---   own               such an edge, which is its own source
+--   EdgeOf            an edge as it is read: its ends, the number of its cover list, and its source where the file names it
+--   told_source, told such an edge in a version, which is its own source where the version names none
 --   alone, rows_of    a row is told by itself, or by its number and the row before it
 --   point_row, corner_row, edge_row, mark_row   the fields of a point, a corner, an edge and a mark
 --   cover_row         the fields of a cover list, behind lists with so many members
@@ -17,13 +17,17 @@ use Rattle.loc_spec_plane.specs.Covers.{list_before}
 use Rattle.loc_spec_index.specs.declared.NodeRow.{NodeRow}
 use Rattle.loc_spec_index.specs.declared.Part.TheVariants.{Corners, Edges, Marks, Covers}
 use Rattle.loc_spec_index.specs.Content.{EdgeRow}
-use Rattle.loc_spec_index.specs.IndexFile.{Field, magic, version, number, coordinate, text, order, bit, none_or_next, follows, is_rising_pair, mark_row_before}
+use Rattle.loc_spec_index.specs.IndexFile.{Field, magic, version, number, coordinate, text, order, bit, none_or_next, follows, is_rising_pair, mark_row_before, most_edges, names_sources, source_fields}
 use Rattle.loc_file.specs.declared.edges.EdgeOf.{EdgeOf}
 use Rattle.loc_file.specs.declared.header.Header.{Header}
 
--- an edge that is its own source
-abbrev pub own : EdgeOf → EdgeRow
-own e = record { ends = e.ends; source = e.ends; cover = e.cover }
+-- the source of an edge in a version
+abbrev pub told_source : ℕ → EdgeOf → ℕ × ℕ
+told_source v e = if names_sources v then e.source else e.ends
+
+-- an edge in a version
+abbrev pub told : ℕ → EdgeOf → EdgeRow
+told v e = record { ends = e.ends; source = told_source v e; cover = e.cover }
 
 -- edges go by their ends
 abbrev pub edge_of_before : EdgeOf → EdgeOf → Bool
@@ -46,9 +50,10 @@ abbrev pub corner_row : ℕ → Option Point → Point → List Field
 corner_row row last p = coordinate p.x ∷ coordinate p.y ∷ order Corners row (follows before last p) ∷ []
 
 -- an edge behind another
-abbrev pub edge_row : ℕ → ℕ → ℕ → Option EdgeOf → EdgeOf → List Field
-edge_row corners covers row last e =
-    number w32 corners e.ends.0 ∷ number w32 corners e.ends.1 ∷ number w32 covers e.cover ∷ order Edges row ((is_rising_pair e.ends && is_rising_pair e.ends) && follows edge_of_before last e) ∷ []
+abbrev pub edge_row : ℕ → ℕ → ℕ → ℕ → Option EdgeOf → EdgeOf → List Field
+edge_row v corners covers row last e =
+    number w32 corners e.ends.0 ∷ number w32 corners e.ends.1 ∷ number w32 covers e.cover ∷ source_fields v corners e.source
+    ++ order Edges row ((is_rising_pair e.ends && is_rising_pair (told_source v e)) && follows edge_of_before last e) ∷ []
 
 -- a mark behind another
 abbrev pub mark_row : ℕ → ℕ → ℕ → Option (ℕ × Mark) → ℕ × Mark → List Field
@@ -82,10 +87,10 @@ node_row edges corners nodes n =
     number w32 edges n.item ∷ number w32 (nodes + 1) n.left ∷ number w32 (nodes + 1) n.right ∷ number w8 3 n.side
     ∷ number w32 (if n.side == 0 then 1 else corners) n.stamp ∷ number w32 (if n.side == 0 then 1 else nodes + 1) n.extra ∷ []
 
--- a header of the first version
+-- a header
 abbrev pub header_row : Header → List Field
 header_row h =
-    magic (codes "LOCINDEX") ∷ version 1 ∷ number w32 16 h.scale
+    magic (codes "LOCINDEX") ∷ version h.version ∷ number w32 16 h.scale
     ∷ number w32 (2 ^ 18 + 1) h.features ∷ number w32 (2 ^ 20 + 1) h.corners
-    ∷ number w32 (2 ^ 20 + 1) h.edges ∷ number w32 (2 ^ 20 + 1) h.marks
+    ∷ number w32 (most_edges h.version + 1) h.edges ∷ number w32 (most_edges h.version + 1) h.marks
     ∷ number w32 (h.edges + 1) h.covers ∷ number w32 (24 * h.edges + 1) h.nodes ∷ []

@@ -2,20 +2,28 @@
 
 ghost use Rattle.std.specs.Prelude.{◌≡◌, ◌&&◌, IfOk, IfErr};
 ghost use Rattle.loc_spec_plane.specs.Tables.{pair_before};
-ghost use Rattle.loc_spec_index.specs.IndexFile.{follows, is_rising_pair};
+ghost use Rattle.loc_spec_index.specs.IndexFile.{follows, is_rising_pair, source_fields};
 ghost use Rattle.loc_file.specs.Readings.{IsRead, IsRowStop, AreRows, IsRowsStop};
-ghost use Rattle.loc_file.specs.Rows.{edge_row, edge_of_before, rows_of};
+ghost use Rattle.loc_file.specs.Rows.{edge_row, edge_of_before, rows_of, told_source};
 
 use crate::cursor::Cursor;
 use crate::rows::keep;
 use loc_spec_index::{IndexFault, Part};
 use std::alloc::Global;
 
-// An edge of a file: its ends, and the number of the cover list above it.
+// An edge of a file: its ends, the number of the cover list above it, and its source where the file names it.
 #[derive(Clone, Copy, Drop)]
 pub(crate) struct EdgeOf {
     pub(crate) ends: (u32, u32),
     pub(crate) cover: u32,
+    pub(crate) source: (u32, u32),
+}
+
+// The source of an edge in a file of this version. Where the version names none, each edge is its own.
+pub(crate) fn source_of(version: u32, edge: EdgeOf) -> (u32, u32)
+    ensures { result ≡ told_source version edge }
+{
+    if version == 1 { edge.ends } else { edge.source }
 }
 
 // Whether a pair of numbers comes before another.
@@ -35,32 +43,60 @@ fn follows(last: Option<EdgeOf>, edge: EdgeOf) -> bool
     }
 }
 
-// Whether an edge goes up and comes behind the one before it.
-fn is_in_order(last: Option<EdgeOf>, edge: EdgeOf) -> bool
-    ensures { result ≡ ((is_rising_pair edge.ends && is_rising_pair edge.ends) && follows edge_of_before last edge) }
+// Whether the first of two numbers is the lesser.
+fn goes_up(pair: (u32, u32)) -> bool
+    ensures { result ≡ is_rising_pair pair }
 {
-    edge.ends.0 < edge.ends.1 && follows(last, edge)
+    pair.0 < pair.1
+}
+
+// Whether an edge and its source go up, and the edge comes behind the one before it.
+fn is_in_order(version: u32, last: Option<EdgeOf>, edge: EdgeOf) -> bool
+    ensures { result ≡ ((is_rising_pair edge.ends && is_rising_pair (told_source version edge)) && follows edge_of_before last edge) }
+{
+    goes_up(edge.ends) && goes_up(source_of(version, edge)) && follows(last, edge)
+}
+
+// The source of an edge, where the version names it; else these stand in for it.
+fn next_source(
+    cursor: &mut Cursor<'_>,
+    version: u32,
+    corners: u32,
+    ends: (u32, u32),
+) -> Result<(u32, u32), IndexFault>
+    ensures ok { IfOk result (λ source. IsRead (source_fields version corners source) cursor.old cursor.new) }
+    ensures err { IfErr result (IsRowStop (source_fields version corners) cursor.old) }
+{
+    if version == 1 {
+        return Ok(ends);
+    }
+    let lower = cursor.number(corners)?;
+    let upper = cursor.number(corners)?;
+    Ok((lower, upper))
 }
 
 // An edge behind another.
 fn next_edge(
     cursor: &mut Cursor<'_>,
+    version: u32,
     corners: u32,
     covers: u32,
     row: u32,
     last: Option<EdgeOf>,
 ) -> Result<EdgeOf, IndexFault>
-    ensures ok { IfOk result (λ e. IsRead (edge_row corners covers row last e) cursor.old cursor.new) }
-    ensures err { IfErr result (IsRowStop (edge_row corners covers row last) cursor.old) }
+    ensures ok { IfOk result (λ e. IsRead (edge_row version corners covers row last e) cursor.old cursor.new) }
+    ensures err { IfErr result (IsRowStop (edge_row version corners covers row last) cursor.old) }
 {
     let lower = cursor.number(corners)?;
     let upper = cursor.number(corners)?;
     let cover = cursor.number(covers)?;
+    let source = next_source(cursor, version, corners, (lower, upper))?;
     let edge = EdgeOf {
         ends: (lower, upper),
         cover,
+        source,
     };
-    cursor.in_order(is_in_order(last, edge), Part::Edges, row)?;
+    cursor.in_order(is_in_order(version, last, edge), Part::Edges, row)?;
     Ok(edge)
 }
 
@@ -68,17 +104,18 @@ fn next_edge(
 pub(crate) fn read_edges(
     alloc: Global,
     cursor: &mut Cursor<'_>,
+    version: u32,
     corners: u32,
     covers: u32,
     count: u32,
 ) -> Result<Vec<EdgeOf>, IndexFault>
-    ensures ok { IfOk result (λ edges. AreRows (rows_of (edge_row corners covers)) count edges.items cursor.old cursor.new) }
-    ensures err { IfErr result (IsRowsStop (rows_of (edge_row corners covers)) count cursor.old) }
+    ensures ok { IfOk result (λ edges. AreRows (rows_of (edge_row version corners covers)) count edges.items cursor.old cursor.new) }
+    ensures err { IfErr result (IsRowsStop (rows_of (edge_row version corners covers)) count cursor.old) }
 {
     let mut edges = Vec::new(alloc);
     let mut last = None;
     for row in 0..count {
-        let edge = next_edge(cursor, corners, covers, row, last)?;
+        let edge = next_edge(cursor, version, corners, covers, row, last)?;
         keep(&mut edges, edge)?;
         last = Some(edge);
     }

@@ -1,18 +1,17 @@
 // The header of a file.
 
-ghost use Rattle.std.specs.Prelude.{◌≡◌, ℕ, ◌*◌, ◌+◌, ◌^◌, ◌≤◌, ◌<◌, false, [], ◌∷◌, nat_eq, IfOk, IfErr, OnOk, codes};
-ghost use Rattle.std.specs.List.{starts_with};
-ghost use Rattle.loc_spec_index.specs.IndexFile.{magic, version};
+ghost use Rattle.std.specs.Prelude.{◌≡◌, ℕ, ◌*◌, ◌^◌, ◌≤◌, ◌<◌, [], ◌∷◌, IfOk, IfErr, OnOk, codes};
+ghost use Rattle.loc_spec_index.specs.IndexFile.{magic, most_edges, version};
 ghost use Rattle.loc_file.specs.Readings.{IsRead, IsWrong, IsRowStop};
 ghost use Rattle.loc_file.specs.Rows.{header_row};
 
 use crate::cursor::Cursor;
 use loc_spec_index::IndexFault;
 
-// How many features, and how many corners, edges and marks there may be.
+// How many features and corners there may be.
 const MOST_FEATURES: u32 = 262_144;
 
-const MOST_ROWS: u32 = 1_048_576;
+const MOST_CORNERS: u32 = 1_048_576;
 
 // The letters with which each file begins.
 const MAGIC: &[u8] = b"LOCINDEX";
@@ -20,6 +19,7 @@ const MAGIC: &[u8] = b"LOCINDEX";
 // The numbers of a header.
 #[derive(Clone, Copy, Drop)]
 pub(crate) struct Header {
+    pub(crate) version: u32,
     pub(crate) scale: u32,
     pub(crate) features: u32,
     pub(crate) corners: u32,
@@ -42,41 +42,51 @@ fn read_magic(cursor: &mut Cursor<'_>) -> Result<(), IndexFault>
     }
 }
 
-// The first version, where the bytes do not have the second.
-fn read_version(cursor: &mut Cursor<'_>) -> Result<(), IndexFault>
-    requires { starts_with nat_eq cursor.old.rest (0 ∷ 0 ∷ 0 ∷ 2 ∷ []) ≡ false }
-    ensures ok { OnOk result (IsRead (version 1 ∷ []) cursor.old cursor.new) }
-    ensures err { IfErr result (IsWrong (version 1) cursor.old) }
+// One of the two versions.
+fn read_version(cursor: &mut Cursor<'_>) -> Result<u32, IndexFault>
+    ensures ok { IfOk result (λ v. IsRead (version v ∷ []) cursor.old cursor.new) }
+    ensures err { IfErr result (λ f. (v : ℕ) → IsWrong (version v) cursor.old f) }
 {
     let held = cursor.take(4)?;
     let found = u32::from_be_bytes([held[0], held[1], held[2], held[3]]);
     if found == 1 {
-        Ok(())
-    } else {
-        Err(IndexFault::Version { found })
+        return Ok(found);
     }
+    if found == 2 {
+        return Ok(found);
+    }
+    Err(IndexFault::Version { found })
 }
 
-// The header of a file that does not have the second version.
+// How many edges, and how many marks, a file of the version may have.
+fn most_rows(version: u32) -> u32
+    ensures value { result ≡ most_edges version }
+    ensures within { result ≤ 2 ^ 21 }
+{
+    if version == 1 { 1_048_576 } else { 2_097_152 }
+}
+
+// The header of a file.
 pub(crate) fn read_header(cursor: &mut Cursor<'_>) -> Result<Header, IndexFault>
-    requires { starts_with nat_eq cursor.old.rest (76 ∷ 79 ∷ 67 ∷ 73 ∷ 78 ∷ 68 ∷ 69 ∷ 88 ∷ 0 ∷ 0 ∷ 0 ∷ 2 ∷ []) ≡ false }
     ensures ok { IfOk result (λ header. IsRead (header_row header) cursor.old cursor.new) }
     ensures scale { IfOk result (λ header. header.scale < 16) }
     ensures features { IfOk result (λ header. header.features ≤ 2 ^ 18) }
-    ensures edges { IfOk result (λ header. header.edges ≤ 2 ^ 20) }
-    ensures nodes { IfOk result (λ header. header.nodes ≤ 24 * 2 ^ 20) }
+    ensures edges { IfOk result (λ header. header.edges ≤ 2 ^ 21) }
+    ensures nodes { IfOk result (λ header. header.nodes ≤ 24 * 2 ^ 21) }
     ensures err { IfErr result (IsRowStop header_row cursor.old) }
 {
     read_magic(cursor)?;
-    read_version(cursor)?;
+    let version = read_version(cursor)?;
     let scale = cursor.number(16)?;
     let features = cursor.number(MOST_FEATURES + 1)?;
-    let corners = cursor.number(MOST_ROWS + 1)?;
-    let edges = cursor.number(MOST_ROWS + 1)?;
-    let marks = cursor.number(MOST_ROWS + 1)?;
+    let corners = cursor.number(MOST_CORNERS + 1)?;
+    let most = most_rows(version);
+    let edges = cursor.number(most + 1)?;
+    let marks = cursor.number(most + 1)?;
     let covers = cursor.number(edges + 1)?;
     let nodes = cursor.number(24 * edges + 1)?;
     Ok(Header {
+        version,
         scale,
         features,
         corners,

@@ -17,8 +17,8 @@ pub fn one_refusal()
 
 /// The most steps of a search in a true index are those of a search in the tree that it was made of.
 pub fn most_of_tree(held: &Held, table: &EdgeTable)
-    requires { IsIndexFor held.now table.now }
-    ensures { most_of held.now table.now ≡ most_steps table.now }
+    requires { IsIndexFor held.now.content table.now }
+    ensures { most_of held.now.content table.now ≡ most_steps table.now }
 {
     let _scale = held.scale();
 }

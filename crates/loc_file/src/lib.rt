@@ -17,6 +17,6 @@ mod parts;
 mod rows;
 mod search;
 
-pub use held::{Held, read_index};
+pub use held::{Held, read_index, write_held};
 pub use loc_spec_index::{IndexFault, NodeRow, Part};
 pub use loc_write::{WriteFault, write_index};

@@ -1,7 +1,6 @@
 // All parts of a file.
 
-ghost use Rattle.std.specs.Prelude.{◌≡◌, ◌<◌, false, [], ◌∷◌, nat_eq, IfOk, IfErr};
-ghost use Rattle.std.specs.List.{starts_with};
+ghost use Rattle.std.specs.Prelude.{ℕ, ◌<◌, IfOk, IfErr};
 ghost use Rattle.loc_spec_index.specs.IndexFile.{fields, IsShaped};
 ghost use Rattle.loc_file.specs.Readings.{IsRead, IsStop};
 ghost use Rattle.loc_file.specs.Contents.{content_in};
@@ -23,6 +22,7 @@ use std::alloc::Global;
 // What a file holds, part by part.
 #[derive(Drop)]
 pub(crate) struct Parts {
+    pub(crate) version: u32,
     pub(crate) scale: u32,
     pub(crate) ids: Vec<Vec<u8>>,
     pub(crate) corners: Vec<Point>,
@@ -34,24 +34,31 @@ pub(crate) struct Parts {
     pub(crate) nodes: Vec<NodeRow>,
 }
 
-// All parts of a file that does not have the second version.
+// All parts of a file.
 pub(crate) fn read_parts(alloc: Global, cursor: &mut Cursor<'_>) -> Result<Parts, IndexFault>
-    requires { starts_with nat_eq cursor.old.rest (76 ∷ 79 ∷ 67 ∷ 73 ∷ 78 ∷ 68 ∷ 69 ∷ 88 ∷ 0 ∷ 0 ∷ 0 ∷ 2 ∷ []) ≡ false }
-    ensures ok { IfOk result (λ parts. IsRead (fields 1 (content_in parts)) cursor.old cursor.new) }
+    ensures ok { IfOk result (λ parts. IsRead (fields parts.version (content_in parts)) cursor.old cursor.new) }
     ensures scale { IfOk result (λ parts. parts.scale < 16) }
-    ensures shaped { IfOk result (λ parts. IsShaped 1 (content_in parts)) }
-    ensures err { IfErr result (IsStop (IsShaped 1) (fields 1) cursor.old) }
+    ensures shaped { IfOk result (λ parts. IsShaped parts.version (content_in parts)) }
+    ensures err { IfErr result (λ f. (v : ℕ) × IsStop (IsShaped v) (fields v) cursor.old f) }
 {
     let header = read_header(cursor)?;
     let ids = read_ids(alloc, cursor, header.features)?;
     let corners = read_corners(alloc, cursor, header.corners)?;
-    let edges = read_edges(alloc, cursor, header.corners, header.covers, header.edges)?;
+    let edges = read_edges(
+        alloc,
+        cursor,
+        header.version,
+        header.corners,
+        header.covers,
+        header.edges,
+    )?;
     let marks = read_marks(alloc, cursor, header.edges, header.features, header.marks)?;
     let covers = read_covers(alloc, cursor, header.features, header.covers)?;
     let floors = read_floors(alloc, cursor, header.edges, header.corners)?;
     let roots = read_roots(alloc, cursor, header.nodes + 1, header.corners)?;
     let nodes = read_nodes(alloc, cursor, header.edges, header.corners, header.nodes)?;
     Ok(Parts {
+        version: header.version,
         scale: header.scale,
         ids,
         corners,

@@ -51,11 +51,11 @@ fn walk_version<L: Ledger>(
     p: Point,
     steps: &mut Steps<L>,
 ) -> Result<Place, Deep>
-    requires fits { views.now ≡ table_in held.now }
-    requires version { version < length held.now.corners }
-    ensures found { result ≡ answer_of (walk views.now held.now.nodes p version 42 (root_of held.now version) None) }
+    requires fits { views.now ≡ table_in held.now.content }
+    requires version { version < length held.now.content.corners }
+    ensures found { result ≡ answer_of (walk views.now held.now.content.nodes p version 42 (root_of held.now.content version) None) }
     ensures counted { steps.old ≤ steps.new }
-    ensures within { steps.new ≤ steps.old + depth_from held.now.nodes version 42 (root_of held.now version) }
+    ensures within { steps.new ≤ steps.old + depth_from held.now.content.nodes version 42 (root_of held.now.content version) }
 {
     let mut at = held.root(version);
     let mut floor = None;
@@ -87,11 +87,11 @@ fn search<L: Ledger>(
     p: Point,
     steps: &mut Steps<L>,
 ) -> Result<Place, Deep>
-    requires { views.now ≡ table_in held.now }
-    ensures found { result ≡ answer_of (search_for views.now held.now.nodes p held.now.roots) }
+    requires { views.now ≡ table_in held.now.content }
+    ensures found { result ≡ answer_of (search_for views.now held.now.content.nodes p held.now.content.roots) }
     ensures counted { steps.old ≤ steps.new }
-    ensures within { steps.new ≤ steps.old + most_of held.now views.now }
-    ensures few { IsIndexFor held.now views.now → 2 ^ (steps.new - steps.old) ≤ search_bound (length views.now.corners) (alive_count views.now p) }
+    ensures within { steps.new ≤ steps.old + most_of held.now.content views.now }
+    ensures few { IsIndexFor held.now.content views.now → 2 ^ (steps.new - steps.old) ≤ search_bound (length views.now.corners) (alive_count views.now p) }
 {
     // tells that the corners are in order
     views.law();
@@ -103,13 +103,13 @@ fn search<L: Ledger>(
 }
 
 impl Locator for Held {
-    ghost fits = { λ held t. t ≡ table_in held };
+    ghost fits = { λ held t. t ≡ table_in held.content };
 
-    ghost stands = { λ held t. IsIndexFor held t };
+    ghost stands = { λ held t. IsIndexFor held.content t };
 
-    ghost finds = { λ held t p. answer_of (search_for t held.nodes p held.roots) };
+    ghost finds = { λ held t p. answer_of (search_for t held.content.nodes p held.content.roots) };
 
-    ghost most = { most_of };
+    ghost most = { λ held t. most_of held.content t };
 
     // The first five clauses are those of the trait; the last counts only the edges that are alive at the point.
     fn locate<L: Ledger>(
@@ -118,13 +118,13 @@ impl Locator for Held {
         p: Point,
         steps: &mut Steps<L>,
     ) -> Result<Place, Deep>
-        requires { views.now ≡ table_in self.now }
-        ensures found { result ≡ answer_of (search_for views.now self.now.nodes p self.now.roots) }
-        ensures place { IsIndexFor self.now views.now → IsOkAnd result (IsPlace views.now p) }
+        requires { views.now ≡ table_in self.now.content }
+        ensures found { result ≡ answer_of (search_for views.now self.now.content.nodes p self.now.content.roots) }
+        ensures place { IsIndexFor self.now.content views.now → IsOkAnd result (IsPlace views.now p) }
         ensures in_range { IfOk result (IsInRange views.now) }
         ensures counted { steps.old ≤ steps.new }
-        ensures within { steps.new ≤ steps.old + most_of self.now views.now }
-        ensures few { IsIndexFor self.now views.now → 2 ^ (steps.new - steps.old) ≤ search_bound (length views.now.corners) (alive_count views.now p) }
+        ensures within { steps.new ≤ steps.old + most_of self.now.content views.now }
+        ensures few { IsIndexFor self.now.content views.now → 2 ^ (steps.new - steps.old) ≤ search_bound (length views.now.corners) (alive_count views.now p) }
     {
         self.law();
         search(self, views, p, steps)
@@ -132,7 +132,7 @@ impl Locator for Held {
 
     ghost stands_fits = { λ held t stands. stands.table_is };
 
-    ghost stands_apart = { index_apart };
+    ghost stands_apart = { λ held t stands. index_apart held.content t stands };
 
-    ghost stands_finds = { index_finds };
+    ghost stands_finds = { λ held t p stands. index_finds held.content t p stands };
 }

@@ -1,3 +1,4 @@
 pub mod Grid
 pub mod Products
 pub mod Symmetry
+mod Rows

@@ -108,6 +108,7 @@ module _ (same : FirstIsFound) (c : Content) (m : Moment) (readable : IsReadable
   goes_flawed (v.WrongFloor n) judged = flawed (wrong_floor n) refl judged
   goes_flawed (v.WrongCover e) judged = flawed (wrong_cover e) refl judged
   goes_flawed (v.SpareCover n) judged = flawed (spare_cover n) refl judged
+  goes_flawed (v.WrongSource e) judged = flawed (wrong_source e) refl judged
   goes_flawed (v.Deep i) judged = flawed (deep i) refl judged
   goes_flawed (v.WrongList i p) judged = flawed (wrong_list i p) refl judged
   goes_flawed v.NoMemory judged = lacks

@@ -53,26 +53,28 @@ pairs_decide a b = (
 rows_decide : (xs ys : List Mark) → Decides (pointwise same_mark xs ys) (xs ≡ ys)
 rows_decide xs ys = slice_eq-Decides marks_decide xs ys (pointwise same_mark xs ys) refl
 
-by_parts : (s t : Table) → s.corners ≡ t.corners → s.ends ≡ t.ends → s.marks ≡ t.marks → s ≡ t
-by_parts s t corners ends marks =
-    ap (λ (cs : List Point). record { corners = cs; ends = s.ends; marks = s.marks }) corners
-    ∙ (ap (λ (es : List (ℕ × ℕ)). record { corners = t.corners; ends = es; marks = s.marks }) ends ∙ ap (λ (ms : List (List Mark)). record { corners = t.corners; ends = t.ends; marks = ms }) marks)
+by_parts : (s t : Table) → s.corners ≡ t.corners → s.ends ≡ t.ends → s.marks ≡ t.marks → s.sources ≡ t.sources → s ≡ t
+by_parts s t corners ends marks sources =
+    ap (λ (cs : List Point). record { corners = cs; ends = s.ends; marks = s.marks; sources = s.sources }) corners
+    ∙ (ap (λ (es : List (ℕ × ℕ)). record { corners = t.corners; ends = es; marks = s.marks; sources = s.sources }) ends
+    ∙ (ap (λ (ms : List (List Mark)). record { corners = t.corners; ends = t.ends; marks = ms; sources = s.sources }) marks ∙ ap (λ (ss : List (ℕ × ℕ)). record { corners = t.corners; ends = t.ends; marks = t.marks; sources = ss }) sources))
 
 tables_decide : (s t : Table) → Decides (same_table s t) (s ≡ t)
 tables_decide s t = (
   λ is. (let first = and_parts (pointwise same_point s.corners t.corners) _ is in
       let second = and_parts (pointwise same_pair s.ends t.ends) _ first.1 in
-      by_parts s t ((slice_eq-Decides same_point_decides s.corners t.corners _ refl).0 first.0) ((slice_eq-Decides pairs_decide s.ends t.ends _ refl).0 second.0) ((slice_eq-Decides rows_decide s.marks t.marks _ refl).0 second.1)),
+      let third = and_parts (pointwise (pointwise same_mark) s.marks t.marks) _ second.1 in
+      by_parts s t ((slice_eq-Decides same_point_decides s.corners t.corners _ refl).0 first.0) ((slice_eq-Decides pairs_decide s.ends t.ends _ refl).0 second.0) ((slice_eq-Decides rows_decide s.marks t.marks _ refl).0 third.0) ((slice_eq-Decides pairs_decide s.sources t.sources _ refl).0 third.1)),
   λ same. subst (λ (x : Table). same_table s x ≡ true) same
       (and_from (pointwise same_point s.corners s.corners) _ ((slice_eq-Decides same_point_decides s.corners s.corners _ refl).1 refl)
-      (and_from (pointwise same_pair s.ends s.ends) _ ((slice_eq-Decides pairs_decide s.ends s.ends _ refl).1 refl) ((slice_eq-Decides rows_decide s.marks s.marks _ refl).1 refl))),
+      (and_from (pointwise same_pair s.ends s.ends) _ ((slice_eq-Decides pairs_decide s.ends s.ends _ refl).1 refl) (and_from (pointwise (pointwise same_mark) s.marks s.marks) _ ((slice_eq-Decides rows_decide s.marks s.marks _ refl).1 refl) ((slice_eq-Decides pairs_decide s.sources s.sources _ refl).1 refl)))),
 )
 
 module _ (scale : ℕ) (layer : List Feature) where
   abbrev ids : List (List ℕ)
   ids = map (λ (f : Feature). f.id) layer
 
-  contents_decide : (c : Content) → Decides (is_content_for scale layer c) (IsIndexOf scale ids (map rings_of layer) c)
+  contents_decide : (c : Content) → Decides (is_content_for scale layer c) (IsIndexOf 2 scale ids (map rings_of layer) c)
   contents_decide c = (
     λ is. (let first = and_parts (c.scale == scale) _ is in
         let second = and_parts (pointwise bytes_eq c.ids ids) _ first.1 in
@@ -88,14 +90,14 @@ module _ (scale : ℕ) (layer : List Feature) where
 
   -- an index file of the layer passes
   pub index_passes : (text : Text) → IsIndexFileOf scale layer text → is_index_text scale layer text ≡ true
-  index_passes text is = by_reading text is.content (file_reads text is.content is.bytes is.file) ∙ (contents_decide is.content).1 is.of_layer
+  index_passes text is = by_reading text is.content (file_reads text is.content is.bytes (2, is.file)) ∙ (contents_decide is.content).1 is.of_layer
 
   -- and the file of a true index that passes is one
-  pub index_is : (text : Text) (c : Content) → AreBytes text → IsFileOf 1 c text → IsTrueIndex c → is_index_text scale layer text ≡ true → IsIndexFileOf scale layer text
+  pub index_is : (text : Text) (c : Content) → AreBytes text → IsFileOf 2 c text → IsTrueIndex c → is_index_text scale layer text ≡ true → IsIndexFileOf scale layer text
   index_is text c bytes file is_true passes = record {
     content = c;
     bytes = bytes;
     file = file;
     is_true = is_true;
-    of_layer = (contents_decide c).0 (sym (by_reading text c (file_reads text c bytes file)) ∙ passes);
+    of_layer = (contents_decide c).0 (sym (by_reading text c (file_reads text c bytes (2, file))) ∙ passes);
   }

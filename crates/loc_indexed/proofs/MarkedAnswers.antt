@@ -1,6 +1,6 @@
 -- The answers of a true index are those by its marks, and those of the index of a layer are those of the layer.
 use Rattle.std.proofs.Common.{◌≡◌, ℕ, ◌<◌, ◌≤◌, Bool, true, false, not, ◌&&◌, List, [], ◌∷◌, length, map, filter, get_or, Option, Some, None, Ok, refl, sym, ◌∙◌, ap, ap₂, subst, arith, inl, inr}
-use Rattle.std.specs.Prelude.{◌^◌, nat_lt, option_map, unwrap_or, Result, codes}
+use Rattle.std.specs.Prelude.{◌^◌, if◌then◌else◌, nat_lt, option_map, unwrap_or, Result, codes}
 use Rattle.std.specs.List.{list_any}
 use Rattle.std.proofs.Math.Path.{fun_ext}
 use Rattle.std.proofs.lemmas.Bool.{and_left, and_parts, and_right, cases_lt, false_from_ne_true, ltb-true, true≢false}
@@ -16,10 +16,12 @@ use Rattle.loc_spec_plane.specs.Places.{IsFloor, IsPlace, alive, alive_at, is_ed
 use Rattle.loc_spec_plane.specs.Points.{Point, is_above, lies_on, same_point}
 use Rattle.loc_spec_plane.specs.Rays.{crosses_right}
 use Rattle.loc_spec_plane.specs.Rings.{Rings, covers, touches}
-use Rattle.loc_spec_plane.specs.Tables.{IsTable, Table, corner, covers_by_marks, edge, edge_numbers, has, has_odd, touches_by_marks}
+use Rattle.loc_spec_plane.specs.Tables.{IsTable, Table, corner, covers_by_marks, edge, edge_numbers, has, has_odd, noded_table_of, own_sources, touches_by_marks}
 use Rattle.loc_spec_text.specs.Points.{answer_text, answer_to, ended, in_face, no_point, on_border, on_corner, point_of}
 use Rattle.loc_spec_index.specs.Content.{Content, search_in, table_in}
-use Rattle.loc_spec_index.specs.IndexFile.{IsFileOf}
+use Rattle.loc_spec_index.specs.IndexFile.{names_sources}
+use Rattle.loc_file.proofs.Holding.{most-edges}
+use Rattle.loc_indexed.specs.IndexBytes.{IsIndexFile}
 use Rattle.loc_spec_index.specs.TrueIndex.{IsIndexOf, IsTrueIndex}
 use Rattle.loc_laws_index.proofs.FlawKinds.{as_many, as_many_corners}
 use Rattle.loc_laws_index.proofs.HeldTable.{file_holds_table}
@@ -89,15 +91,15 @@ ids_are c = refl
 
 -- ---- a true index
 
-module _ (c : Content) (bytes : Text) (file : IsFileOf 1 c bytes) (is_true : IsTrueIndex c) where
+module _ (c : Content) (bytes : Text) (file : IsIndexFile c bytes) (is_true : IsTrueIndex c) where
   ok : IsTable (table_in c)
-  ok = file_holds_table bytes 1 c file
+  ok = file_holds_table bytes file.0 c file.1
 
   planar : IsPlanar (table_in c)
   planar = record { in_order = ok; apart = is_true.apart }
 
   few : length c.edges ≤ 2 ^ 21
-  few = let k = (facts c bytes file).few_edges in omega (arith, k)
+  few = let k = (facts c bytes file.1).few_edges in let most = most-edges file.0 in omega (arith, k, most)
 
   -- its rows are of its table, and its lists and floors are true
   fits : FitsTable (table_in c) (rows_in c)
@@ -195,26 +197,31 @@ module _ (c : Content) (bytes : Text) (file : IsFileOf 1 c bytes) (is_true : IsT
 
 -- ---- the index of a layer
 
-module _ (scale : ℕ) (layer : List Feature) (c : Content) (of : IsIndexOf scale (map (λ (f : Feature). f.id) layer) (layer_rings layer) c) where
-  same_table : table_in c ≡ maps.table_in layer
+module _ (v scale : ℕ) (layer : List Feature) (c : Content) (of : IsIndexOf v scale (map (λ (f : Feature). f.id) layer) (layer_rings layer) c) where
+  -- what does not look at sources says of its table what it says of the layer's
+  said_of_table : {A : Type 0} (say : Table → A) → say (own_sources (noded_table_of (layer_rings layer))) ≡ say (noded_table_of (layer_rings layer)) → say (table_in c) ≡ say (maps.table_in layer)
   unfolding maps.table_in
-  same_table = of.2
+  said_of_table say same = ap say of.2 ∙ by (names_sources v)
+    where
+      by : (b : Bool) → say (if b then noded_table_of (layer_rings layer) else own_sources (noded_table_of (layer_rings layer))) ≡ say (noded_table_of (layer_rings layer))
+      by true = refl
+      by false = same
 
-  ids_same : (p : Point) (by_marks : Table → ℕ → Point → Bool) (test : Rings → Point → Bool) → test [] p ≡ false
+  ids_same : (p : Point) (by_marks : Table → ℕ → Point → Bool) (test : Rings → Point → Bool) → test [] p ≡ false → ((f : ℕ) → by_marks (own_sources (noded_table_of (layer_rings layer))) f p ≡ by_marks (noded_table_of (layer_rings layer)) f p)
       → ((f : ℕ) → by_marks (maps.table_in layer) f p ≡ test (get_or (layer_rings layer) f []) p) → ((f : ℕ) → by_marks (table_in c) f p ≡ true → f < feature_count (table_in c))
       → ids_marked c (λ f. by_marks (table_in c) f p) ≡ ids_where (λ rings. test rings p) layer
-  ids_same p by_marks test none same few =
+  ids_same p by_marks test none unsourced same few =
       let list = listed (table_in c) (λ f. by_marks (table_in c) f p) few in
       ap (λ (ids : List (List ℕ)). map (λ f. get_or ids f []) (features_where (table_in c) (λ f. by_marks (table_in c) f p))) (sym (ids_are c))
       ∙ named_are (λ rings. test rings p) none layer (rows_in c) (features_where (table_in c) (λ f. by_marks (table_in c) f p)) (ids_are c ∙ of.1) list.rising
-      (λ f. list.exact f ∙ (ap (λ (t : Table). by_marks t f p) same_table ∙ same f))
+      (λ f. list.exact f ∙ (said_of_table (λ (t : Table). by_marks t f p) (unsourced f) ∙ same f))
 
   marked_is : (p : Point) → marked c p ≡ located false layer p
-  unfolding marked located
+  unfolding marked located place_at
   marked_is p =
-      let on = ids_same p (λ t f p. touches_by_marks t f p) touches refl (λ f. touches_is layer f p) (touching_below (table_in c) p) in
-      let over = ids_same p (λ t f p. covers_by_marks t f p) covers refl (λ f. covers_is layer f p) (covering_below (table_in c) p) in
-      ap₂ (λ (t : Table) (ids : List (List ℕ)). answer_at unnumbered (place_at t p) ids (ids_marked c (λ f. covers_by_marks (table_in c) f p))) same_table on
+      let on = ids_same p (λ t f p. touches_by_marks t f p) touches refl (λ f. refl) (λ f. touches_is layer f p) (touching_below (table_in c) p) in
+      let over = ids_same p (λ t f p. covers_by_marks t f p) covers refl (λ f. refl) (λ f. covers_is layer f p) (covering_below (table_in c) p) in
+      ap₂ (λ (place : Place) (ids : List (List ℕ)). answer_at unnumbered place ids (ids_marked c (λ f. covers_by_marks (table_in c) f p))) (said_of_table (λ t. place_at t p) refl) on
       ∙ ap (answer_at unnumbered (place_at (maps.table_in layer) p) (ids_where (λ rings. touches rings p) layer)) over
 
   line_same : (line : List ℕ) → marked_line c line ≡ answer_line false scale layer line
@@ -225,4 +232,4 @@ module _ (scale : ℕ) (layer : List Feature) (c : Content) (of : IsIndexOf scal
 
   -- is asked as the layer is queried with the tree
   pub layer_course : (points : Text) → marked_course points c ≡ points_course Tree false scale points layer
-  layer_course points = ap₂ (answers (source points limit (ended (codes "points: too long")))) (ap most_steps same_table) (fun_ext (λ line. ap Ok (line_same line)))
+  layer_course points = ap₂ (answers (source points limit (ended (codes "points: too long")))) (said_of_table most_steps refl) (fun_ext (λ line. ap Ok (line_same line)))

@@ -9,7 +9,7 @@ use Rattle.loc_spec_text.specs.Bytes.{Text, lines}
 use Rattle.loc_spec_text.specs.Points.{ended}
 use Rattle.loc_spec_text.proofs.AnsweredLaws.{all_of, all_answered, joined}
 use Rattle.loc_spec_index.specs.Content.{Content}
-use Rattle.loc_spec_index.specs.IndexFile.{IsFileOf}
+use Rattle.loc_indexed.specs.IndexBytes.{IsIndexFile}
 use Rattle.loc_spec_index.specs.TrueIndex.{IsIndexOf, IsTrueIndex}
 use Rattle.loc_laws_index.specs.IndexReading.{AreBytes, reading}
 use Rattle.loc_rings.specs.Values.{Feature, rings_of}
@@ -51,18 +51,18 @@ module _ (index points : Text) (old new : Moment) (n n' : Stream) (status : ℕ)
   in_any bytes text c a reads none = finished (ask_course index points) old new n n' status s (out_of (answered (answer_in c) (lines text)))
       (comes_to old.shelf.told index points bytes a.index_told text c a.index_short reads a.points_told a.points_short None none) (none_failed a.reads a.out)
 
-  in_true : (bytes text : Text) (c : Content) → AreAsked index points old new bytes text → AreBytes bytes → IsFileOf 1 c bytes → IsTrueIndex c
+  in_true : (bytes text : Text) (c : Content) → AreAsked index points old new bytes text → AreBytes bytes → IsIndexFile c bytes → IsTrueIndex c
       → OrMemory old new status (IsDone old new status (flat_map (marked_line c) (lines text)))
   in_true bytes text c a small file is_true =
       let all : answered (answer_in c) (lines text) ≡ all_of (marked_line c) (lines text) = ap (λ (f : Answering). answered f (lines text)) (true_answers c bytes file is_true) ∙ all_answered (marked_line c) (lines text) in
       subst (λ (out : Text). OrMemory old new status (IsDone old new status out)) (ap (λ (x : Answered Text Text). out_of x) all ∙ joined (marked_line c) (lines text))
       (in_any bytes text c a (file_reads bytes c small file) (ap (λ (x : Answered Text Text). x.refusal) all))
 
-  in_layer : (bytes text : Text) (c : Content) (scale : ℕ) (layer : List Feature) → AreAsked index points old new bytes text → AreBytes bytes → IsFileOf 1 c bytes → IsTrueIndex c
-      → IsIndexOf scale (map (λ (f : Feature). f.id) layer) (map rings_of layer) c → OrMemory old new status (IsDone old new status (output_of false scale layer text))
+  in_layer : (bytes text : Text) (c : Content) (v scale : ℕ) (layer : List Feature) → AreAsked index points old new bytes text → AreBytes bytes → IsIndexFile c bytes → IsTrueIndex c
+      → IsIndexOf v scale (map (λ (f : Feature). f.id) layer) (map rings_of layer) c → OrMemory old new status (IsDone old new status (output_of false scale layer text))
   unfolding output_of
-  in_layer bytes text c scale layer a small file is_true of =
-      subst (λ (f : Text → Text). OrMemory old new status (IsDone old new status (flat_map f (lines text)))) (layer_lines scale layer c of) (in_true bytes text c a small file is_true)
+  in_layer bytes text c v scale layer a small file is_true of =
+      subst (λ (f : Text → Text). OrMemory old new status (IsDone old new status (flat_map f (lines text)))) (layer_lines v scale layer c of) (in_true bytes text c a small file is_true)
 
   pub asks : Asks index points old new n n' status
   asks = record {

@@ -5,8 +5,8 @@ use Rattle.std.proofs.lemmas.Bool.{cond_both}
 use Rattle.std.proofs.lemmas.List.{append_cancel_left, length-append}
 use Rattle.loc_spec_text.specs.Bytes.{Text}
 use Rattle.loc_io.specs.Meaning.{Told, untold, absent, holds}
-use Rattle.loc_spec_index.specs.Content.{Content}
-use Rattle.loc_spec_index.specs.IndexFile.{IsFileOf}
+use Rattle.loc_file.specs.Keeping.{FileOf}
+use Rattle.loc_indexed.specs.IndexBytes.{IsIndexFile}
 use Rattle.loc_laws_index.specs.IndexReading.{AreBytes}
 use Rattle.loc_course.specs.Courses.{Source, Course, reads, refuses, Stopped, refused}
 use Rattle.loc_course.specs.Following.{Follows, Moment, refuses_by}
@@ -37,6 +37,6 @@ told_of s m n text goes =
     by_line s text (m.shelf.told s.name) m.out.written n
     (ends_so (goes (λ t. refuses (exactly (telling s t))) (Some (refused (telling s text))) (refuses_by (telling s text) (exactly_it (telling s text) (telling s text) refl))))
 
-pub told_file : {E : Type 0} (told : Told) (bytes : Text) (r : Result Content E) → IsToldText told bytes → AreBytes bytes → IfOk r (λ c. IsFileOf 1 c bytes) → IfOk r (IsToldFile told)
-told_file told bytes (Ok c) is small file = (bytes, is, small, file)
+pub told_file : {E : Type 0} (told : Told) (bytes : Text) (r : Result FileOf E) → IsToldText told bytes → AreBytes bytes → IfOk r (λ held. IsIndexFile held.content bytes) → IfOk r (λ held. IsToldFile told held.content)
+told_file told bytes (Ok held) is small file = (bytes, is, small, file)
 told_file told bytes (Err e) is small file = tt

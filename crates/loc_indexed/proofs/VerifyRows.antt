@@ -10,7 +10,7 @@ use Rattle.loc_spec_text.specs.Points.{ended}
 use Rattle.loc_spec_index.specs.declared.IndexFault.{IndexFault}
 use Rattle.loc_spec_index.specs.Content.{Content}
 use Rattle.loc_spec_index.specs.Flaws.{Flaw, IsFirst, conflicting}
-use Rattle.loc_spec_index.specs.IndexFile.{IsFileOf}
+use Rattle.loc_indexed.specs.IndexBytes.{IsIndexFile}
 use Rattle.loc_spec_index.specs.TrueIndex.{IsTrueIndex}
 use Rattle.loc_laws_index.specs.IndexReading.{AreBytes, reading}
 use Rattle.loc_laws_judge.specs.FirstFlaw.{first_flaw}
@@ -106,11 +106,11 @@ module _ (index : Text) (old new : Moment) (n n' : Stream) (status : ℕ) (s : S
     held_comes_to = comes_to bytes h.told h.within c (file_reads bytes c h.small h.file)
 
     in_true : IsTrueIndex c → Steady old.out.faults new.out.faults → OrMemory old new status (IsDone old new status (ended (index_text c)))
-    in_true is_true out = finished (verify_course index) old new n n' status s (ended (index_text c)) (held_comes_to None (true_has_none c (files_are_readable bytes 1 c h.file) is_true)) (none_failed h.reads out)
+    in_true is_true out = finished (verify_course index) old new n n' status s (ended (index_text c)) (held_comes_to None (true_has_none c (files_are_readable bytes h.file.0 c h.file.1) is_true)) (none_failed h.reads out)
 
     by_first : (flaw : Flaw) → IsFirst c flaw → IsTrue (not (is_clash flaw)) → OrMemory old new status (IsRefused old new status × Wrote n n' (ended (flaw_text flaw)))
     by_first flaw first other =
-        let is = one_of flaw (first_flaw c) other (first_is_found c flaw (files_are_readable bytes 1 c h.file) first) in
+        let is = one_of flaw (first_flaw c) other (first_is_found c flaw (files_are_readable bytes h.file.0 c h.file.1) first) in
         elim (refused_by (verify_course index) old new n n' status s (ended (flaw_text flaw)) (held_comes_to (Some flaw) is ∙ ap (λ (f : Text → Bool). refusal f) (says_exactly c flaw other)) h.reads) [
           | inl one ↦ inl ((one.0, one.1), one.2)
           | inr five ↦ inr five
@@ -118,27 +118,27 @@ module _ (index : Text) (old new : Moment) (n n' : Stream) (status : ℕ) (s : S
 
     by_clash : (a b : ℕ) → IsFirst c (conflicting a b) → OrMemory old new status (IsRefused old new status × (line : Text) × IsTrue (names_clash c line) × Wrote n n' line)
     by_clash a b first =
-        let found = first_is_found c (conflicting a b) (files_are_readable bytes 1 c h.file) first in
+        let found = first_is_found c (conflicting a b) (files_are_readable bytes h.file.0 c h.file.1) first in
         elim (refused_so (verify_course index) old new n n' status s (names_clash c) (held_comes_to (Some (conflicting found.0 found.1)) found.2) h.reads) [
           | inl one ↦ inl ((one.0, one.1), one.2, one.3, one.4)
           | inr five ↦ inr five
         ]
 
   module _ (judged : Judged (old.shelf.told index) status) where
-    only_true : (bytes : Text) → old.shelf.told index ≡ holds bytes → status ≡ 0 → (c : Content) × IsFileOf 1 c bytes × IsTrueIndex c × Appends old.out.written new.out.written (ended (index_text c))
+    only_true : (bytes : Text) → old.shelf.told index ≡ holds bytes → status ≡ 0 → (c : Content) × IsIndexFile c bytes × IsTrueIndex c × Appends old.out.written new.out.written (ended (index_text c))
     only_true bytes told zero =
         let j = judged zero in
         let text : j.1.0 ≡ bytes = subst (λ (t : Told). IsToldText t j.1.0) told j.1.1 in
         let small : AreBytes bytes = subst AreBytes text j.1.2 in
-        let file : IsFileOf 1 j.0 bytes = subst (IsFileOf 1 j.0) text j.1.3 in
-        let none = true_has_none j.0 (files_are_readable bytes 1 j.0 file) j.2 in (
+        let file : IsIndexFile j.0 bytes = subst (IsIndexFile j.0) text j.1.3 in
+        let none = true_has_none j.0 (files_are_readable bytes file.0 j.0 file.1) j.2 in (
           j.0,
           file,
           j.2,
           grown (verify_course index) old new n n' status s (ended (index_text j.0)) (comes_to bytes told (within bytes told zero) j.0 (file_reads bytes j.0 small file) None none) zero,
         )
 
-    other : (bytes : Text) → old.shelf.told index ≡ holds bytes → ((c : Content) → IsFileOf 1 c bytes → IsTrueIndex c → ⊥) → Steady old.shelf.read_faults new.shelf.read_faults → Steady old.out.faults new.out.faults
+    other : (bytes : Text) → old.shelf.told index ≡ holds bytes → ((c : Content) → IsIndexFile c bytes → IsTrueIndex c → ⊥) → Steady old.shelf.read_faults new.shelf.read_faults → Steady old.out.faults new.out.faults
         → OrMemory old new status (IsRefused old new status)
     other bytes told no_true reads out = elim (cases_lt index_limit (length bytes)) [
       | inl more ↦ (elim (long bytes told more reads) [ inl one ↦ inl one.0 | inr five ↦ inr five ])

@@ -78,11 +78,11 @@ module _ (layer : List Feature) (t : Table) (rows : LegendRows) (laid : IsLaidOu
   same : t ≡ noded_table_of (layer_rings layer)
   same = laid.map.table ∙ table_is layer
 
-  pub few_edges : length t.ends ≤ 2 ^ 20
+  pub few_edges : length t.ends ≤ 2 ^ 21
   few_edges = let few = (layer_fits layer laid.map.few_pieces).0 in let is = ap (λ (u : Table). length u.ends) same in omega (arith, few, is)
 
-  pub few_marks : sum_by length t.marks ≤ 2 ^ 20
-  few_marks = subst (λ (u : Table). sum_by length u.marks ≤ 2 ^ 20) (sym same) (layer_fits layer laid.map.few_pieces).1
+  pub few_marks : sum_by length t.marks ≤ 2 ^ 21
+  few_marks = subst (λ (u : Table). sum_by length u.marks ≤ 2 ^ 21) (sym same) (layer_fits layer laid.map.few_pieces).1
 
   pub features_within : feature_count t ≤ length rows.ids
   features_within =
@@ -119,7 +119,7 @@ module _ (layer : List Feature) (t : Table) (rows : LegendRows) (laid : IsLaidOu
     }
 
     -- the file of what is written is an index file of the layer
-    pub index_written : (scale : ℕ) (c : Content) → IsContentOf scale t rows m c → HoldsParts t rows c → IsFileOf 1 c (bytes_of 1 c) → IsIndexFileOf scale layer (bytes_of 1 c)
+    pub index_written : (scale : ℕ) (c : Content) → IsContentOf scale t rows m c → HoldsParts t rows c → IsFileOf 2 c (bytes_of 2 c) → IsIndexFileOf scale layer (bytes_of 2 c)
     index_written scale c of holds_parts file =
         let here = content_is_true scale (layer_rings layer) rows m c plane_of (subst (λ (u : Table). IsContentOf scale u rows m c) same of) (subst (λ (u : Table). HoldsParts u rows c) same holds_parts) in
         let ids : c.ids ≡ rows.ids = here.1.1 in
@@ -128,5 +128,5 @@ module _ (layer : List Feature) (t : Table) (rows : LegendRows) (laid : IsLaidOu
           bytes = bytes_of_are c (subst (All AreBytes) (sym ids) byte_ids);
           file = file;
           is_true = here.0;
-          of_layer = subst (λ (i : List (List ℕ)). IsIndexOf scale i (layer_rings layer) c) laid.map.ids here.1;
+          of_layer = subst (λ (i : List (List ℕ)). IsIndexOf 2 scale i (layer_rings layer) c) laid.map.ids here.1;
         }

@@ -9,7 +9,7 @@ use Rattle.loc_spec_text.specs.Bytes.{Text, lines}
 use Rattle.loc_spec_text.specs.Points.{ended}
 use Rattle.loc_spec_index.specs.declared.IndexFault.{IndexFault}
 use Rattle.loc_spec_index.specs.Content.{Content}
-use Rattle.loc_spec_index.specs.IndexFile.{IsFileOf}
+use Rattle.loc_indexed.specs.IndexBytes.{IsIndexFile}
 use Rattle.loc_spec_index.specs.TrueIndex.{IsIndexOf, IsTrueIndex}
 use Rattle.loc_laws_index.specs.IndexReading.{AreBytes, reading}
 use Rattle.loc_rings.specs.Values.{Feature, rings_of}
@@ -47,11 +47,11 @@ pub record Asks (index points : Text) (old new : Moment) (n n' : Stream) (status
   pub gives_up : (bytes text line : Text) (c : Content) → AreAsked index points old new bytes text → reading bytes ≡ Ok c → (answered (answer_in c) (lines text)).refusal ≡ Some line
       → OrMemory old new status ((status ≡ 1) × Appends old.out.written new.out.written (out_of (answered (answer_in c) (lines text))) × Wrote n n' line)
   -- The answers of a true index file are those by its marks,
-  pub of_true : (bytes text : Text) (c : Content) → AreAsked index points old new bytes text → AreBytes bytes → IsFileOf 1 c bytes → IsTrueIndex c
+  pub of_true : (bytes text : Text) (c : Content) → AreAsked index points old new bytes text → AreBytes bytes → IsIndexFile c bytes → IsTrueIndex c
       → OrMemory old new status (IsDone old new status (flat_map (marked_line c) (lines text)))
   -- and where it is of a layer, those of a query of the layer.
-  pub of_layer : (bytes text : Text) (c : Content) (scale : ℕ) (layer : List Feature) → AreAsked index points old new bytes text → AreBytes bytes → IsFileOf 1 c bytes → IsTrueIndex c
-      → IsIndexOf scale (map (λ (f : Feature). f.id) layer) (map rings_of layer) c → OrMemory old new status (IsDone old new status (output_of false scale layer text))
+  pub of_layer : (bytes text : Text) (c : Content) (v scale : ℕ) (layer : List Feature) → AreAsked index points old new bytes text → AreBytes bytes → IsIndexFile c bytes → IsTrueIndex c
+      → IsIndexOf v scale (map (λ (f : Feature). f.id) layer) (map rings_of layer) c → OrMemory old new status (IsDone old new status (output_of false scale layer text))
   -- Bytes that are too long or at fault are refused, and nothing is on out.
   pub too_long : (bytes : Text) → old.shelf.told index ≡ holds bytes → index_limit < length bytes → Steady old.shelf.read_faults new.shelf.read_faults
       → OrMemory old new status ((status ≡ 1) × (new.out.written ≡ old.out.written) × Wrote n n' (ended (codes "index: too long")))

@@ -28,9 +28,9 @@ same_mark a b = (a.feature == b.feature) && not (exactly_one a.odd b.odd)
 abbrev pub same_pair : ℕ × ℕ → ℕ × ℕ → Bool
 same_pair a b = (a.0 == b.0) && (a.1 == b.1)
 
--- two tables have the same corners, the same edges and the same marks
+-- two tables have the same corners, the same edges, the same marks and the same sources
 abbrev pub same_table : Table → Table → Bool
-same_table s t = pointwise same_point s.corners t.corners && (pointwise same_pair s.ends t.ends && pointwise (pointwise same_mark) s.marks t.marks)
+same_table s t = pointwise same_point s.corners t.corners && (pointwise same_pair s.ends t.ends && (pointwise (pointwise same_mark) s.marks t.marks && pointwise same_pair s.sources t.sources))
 
 -- a content has the scale, the ids and the table of a layer
 abbrev pub is_content_for : ℕ → List Feature → Content → Bool

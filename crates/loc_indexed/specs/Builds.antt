@@ -29,13 +29,13 @@ use Rattle.loc_query.specs.Headline.{IsAccepted}
 use Rattle.loc_indexed.specs.Asks.{OrMemory}
 use Rattle.loc_cover.specs.Legends.{most_members}
 
--- the text is the file of a content that is a true index, of this layer at this scale
+-- the text is the file, of the second version, of a content that is a true index, of this layer at this scale
 pub record IsIndexFileOf (scale : ℕ) (layer : List Feature) (text : Text) : Type 0 where
   pub content : Content
   pub bytes : AreBytes text
-  pub file : IsFileOf 1 content text
+  pub file : IsFileOf 2 content text
   pub is_true : IsTrueIndex content
-  pub of_layer : IsIndexOf scale (map (λ (f : Feature). f.id) layer) (map rings_of layer) content
+  pub of_layer : IsIndexOf 2 scale (map (λ (f : Feature). f.id) layer) (map rings_of layer) content
 
 -- the text of a layer's file is accepted, and the other text is an index file of its layer
 pub record IsBuiltOf (file : LayerFile) (text made : Text) : Type 0 where

@@ -73,6 +73,7 @@ flaw_stop (v.Conflict a b meeting) = refused (ended (clash_text a b meeting))
 flaw_stop (v.WrongFloor n) = refused (ended (flaw_text (wrong_floor n)))
 flaw_stop (v.WrongCover e) = refused (ended (flaw_text (wrong_cover e)))
 flaw_stop (v.SpareCover n) = refused (ended (flaw_text (spare_cover n)))
+flaw_stop (v.WrongSource e) = refused (ended (flaw_text (wrong_source e)))
 flaw_stop (v.Deep i) = refused (ended (flaw_text (deep i)))
 flaw_stop (v.WrongList i p) = refused (ended (flaw_text (wrong_list i p)))
 flaw_stop v.NoMemory = no_memory

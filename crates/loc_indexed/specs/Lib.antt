@@ -3,8 +3,9 @@ pub mod Building
 pub mod Builds
 pub mod FlawTexts
 pub mod Followed
-pub mod IndexedCourses
+pub mod IndexBytes
 pub mod IndexTexts
+pub mod IndexedCourses
 pub mod Marked
 pub mod Verifies
 pub mod Verifying

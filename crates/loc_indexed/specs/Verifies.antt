@@ -13,7 +13,7 @@ use Rattle.loc_spec_text.specs.Points.{ended}
 use Rattle.loc_spec_index.specs.declared.IndexFault.{IndexFault}
 use Rattle.loc_spec_index.specs.Content.{Content}
 use Rattle.loc_spec_index.specs.Flaws.{Flaw, IsFirst, conflicting}
-use Rattle.loc_spec_index.specs.IndexFile.{IsFileOf}
+use Rattle.loc_indexed.specs.IndexBytes.{IsIndexFile}
 use Rattle.loc_spec_index.specs.TrueIndex.{IsTrueIndex}
 use Rattle.loc_laws_index.specs.IndexReading.{AreBytes, reading}
 use Rattle.loc_course.specs.Moments.{Moment, IsToldText}
@@ -25,7 +25,7 @@ use Rattle.loc_indexed.specs.IndexTexts.{index_fault_text}
 
 -- the text of a file, where it is told, is the index file of the content
 abbrev pub IsToldFile : Told → Content → Type 0
-IsToldFile told c = (bytes : Text) × IsToldText told bytes × AreBytes bytes × IsFileOf 1 c bytes
+IsToldFile told c = (bytes : Text) × IsToldText told bytes × AreBytes bytes × IsIndexFile c bytes
 
 -- with status 0 what was told is the file of a true index
 abbrev pub Judged : Told → ℕ → Type 0
@@ -36,7 +36,7 @@ pub record AreHeld (index : Text) (old new : Moment) (bytes : Text) (c : Content
   pub told : old.shelf.told index ≡ holds bytes
   pub within : length bytes ≤ index_limit
   pub small : AreBytes bytes
-  pub file : IsFileOf 1 c bytes
+  pub file : IsIndexFile c bytes
   pub reads : Steady old.shelf.read_faults new.shelf.read_faults
 
 -- the status is 1, and nothing is on out
@@ -50,9 +50,9 @@ pub record Verifies (index : Text) (old new : Moment) (n n' : Stream) (status : 
       → OrMemory old new status (IsDone old new status (ended (index_text c)))
   -- With status 0 what was told is the file of a true index, and out has grown by its counts.
   pub only_true : (bytes : Text) → old.shelf.told index ≡ holds bytes → status ≡ 0
-      → (c : Content) × IsFileOf 1 c bytes × IsTrueIndex c × Appends old.out.written new.out.written (ended (index_text c))
+      → (c : Content) × IsIndexFile c bytes × IsTrueIndex c × Appends old.out.written new.out.written (ended (index_text c))
   -- Other bytes are refused, unless a read or a write failed.
-  pub other : (bytes : Text) → old.shelf.told index ≡ holds bytes → ((c : Content) → IsFileOf 1 c bytes → IsTrueIndex c → ⊥)
+  pub other : (bytes : Text) → old.shelf.told index ≡ holds bytes → ((c : Content) → IsIndexFile c bytes → IsTrueIndex c → ⊥)
       → Steady old.shelf.read_faults new.shelf.read_faults → Steady old.out.faults new.out.faults → OrMemory old new status (IsRefused old new status)
   -- An index that is not true is refused by the line of its first flaw,
   pub flaw : (bytes : Text) (c : Content) (flaw : Flaw) → AreHeld index old new bytes c → IsFirst c flaw → IsTrue (not (is_clash flaw))

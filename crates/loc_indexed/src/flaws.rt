@@ -102,6 +102,9 @@ pub(crate) fn flaw_stop_of(fault: VerifyFault) -> Stop
         VerifyFault::SpareCover { list } => {
             Stop::Refused(numbered_line(b"verify: list ", list, b" spare"))
         }
+        VerifyFault::WrongSource { edge } => {
+            Stop::Refused(numbered_line(b"verify: source of edge ", edge, b""))
+        }
         VerifyFault::Deep { version } => {
             Stop::Refused(numbered_line(b"verify: version ", version, b" deep"))
         }

@@ -4,7 +4,7 @@ ghost use Rattle.std.specs.Prelude.{◌≤◌, IfOk, length, ℕ};
 ghost use Rattle.loc_io.specs.Meaning.{Meaning};
 ghost use Rattle.loc_io.specs.Streams.{Stream};
 ghost use Rattle.loc_spec_index.specs.Content.{Content};
-ghost use Rattle.loc_spec_index.specs.IndexFile.{IsFileOf};
+ghost use Rattle.loc_indexed.specs.IndexBytes.{IsIndexFile};
 ghost use Rattle.loc_laws_index.specs.IndexReading.{AreBytes, reading};
 ghost use Rattle.loc_course.specs.Courses.{Course};
 ghost use Rattle.loc_course.specs.Following.{Moment, moment};
@@ -24,9 +24,9 @@ const LIMIT: usize = 2_147_483_648;
 // What bytes hold.
 fn read_index_in(alloc: Global, bytes: &[u8]) -> Result<Held, Stop>
     requires { length bytes.now ≤ index_limit }
-    ensures goes_on { (next : Content → Course) (m : Moment) → GoesOn (index_in (reading bytes.now) next) m next m result }
+    ensures goes_on { (next : Content → Course) (m : Moment) → GoesOn (index_in (reading bytes.now) next) m (λ held. next held.content) m result }
     ensures small { AreBytes bytes.now }
-    ensures file { IfOk result (λ held. IsFileOf 1 held bytes.now) }
+    ensures file { IfOk result (λ held. IsIndexFile held.content bytes.now) }
 {
     match read_index(alloc, bytes) {
         Ok(held) => Ok(held),
@@ -36,8 +36,8 @@ fn read_index_in(alloc: Global, bytes: &[u8]) -> Result<Held, Stop>
 
 /// Reads an index file. Its bytes are given back when they were read.
 pub fn read_index_file<F: Shelf>(alloc: Global, shelf: &mut F, name: &str) -> Result<Held, Stop>
-    ensures goes_on { (next : Content → Course) (o : Stream) (k : ℕ) → GoesOn (index_course name.now next) (moment (F.meaning shelf.old) o k) next (moment (F.meaning shelf.new) o k) result }
-    ensures told { IfOk result (IsToldFile ((F.meaning shelf.old).told name.now)) }
+    ensures goes_on { (next : Content → Course) (o : Stream) (k : ℕ) → GoesOn (index_course name.now next) (moment (F.meaning shelf.old) o k) (λ held. next held.content) (moment (F.meaning shelf.new) o k) result }
+    ensures told { IfOk result (λ held. IsToldFile ((F.meaning shelf.old).told name.now) held.content) }
 {
     let bytes = read_source(alloc, shelf, name, LIMIT, b"index: too long")?;
     read_index_in(alloc, &bytes)

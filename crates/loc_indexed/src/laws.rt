@@ -8,7 +8,7 @@ ghost use Rattle.loc_spec_asked.specs.declared.Index.TheVariants as by;
 ghost use Rattle.loc_spec_text.specs.Points.{ended};
 ghost use Rattle.loc_spec_index.specs.declared.IndexFault.{IndexFault as Fault};
 ghost use Rattle.loc_spec_index.specs.Content.{Content};
-ghost use Rattle.loc_spec_index.specs.IndexFile.{IsFileOf};
+ghost use Rattle.loc_indexed.specs.IndexBytes.{IsIndexFile};
 ghost use Rattle.loc_spec_index.specs.TrueIndex.{IsIndexOf, IsTrueIndex};
 ghost use Rattle.loc_laws_index.specs.IndexReading.{AreBytes, reading};
 ghost use Rattle.loc_rings.specs.Values.{Feature, rings_of};
@@ -32,9 +32,9 @@ pub fn ask_law()
     ensures too_long { (told : Text → Told) (index points bytes : Text) → told index ≡ holds bytes → index_limit < length bytes → outcome told (ask_course index points) ≡ refusal (exactly (ended (codes "index: too long"))) }
     ensures at_fault { (told : Text → Told) (index points bytes : Text) (fault : Fault) → told index ≡ holds bytes → length bytes ≤ index_limit → reading bytes ≡ Err fault → outcome told (ask_course index points) ≡ refusal (exactly (ended (index_fault_text fault))) }
     ensures asked { (told : Text → Told) (index points bytes : Text) (c : Content) → told index ≡ holds bytes → length bytes ≤ index_limit → reading bytes ≡ Ok c → outcome told (ask_course index points) ≡ outcome told (asked_course points c) }
-    ensures reads { (bytes : Text) (c : Content) → AreBytes bytes → IsFileOf 1 c bytes → reading bytes ≡ Ok c }
-    ensures of_true { (points bytes : Text) (c : Content) → IsFileOf 1 c bytes → IsTrueIndex c → asked_course points c ≡ marked_course points c }
-    ensures of_layer { (points : Text) (scale : ℕ) (layer : List Feature) (c : Content) → IsIndexOf scale (map (λ (f : Feature). f.id) layer) (map rings_of layer) c → marked_course points c ≡ points_course by.Tree false scale points layer }
+    ensures reads { (bytes : Text) (c : Content) → AreBytes bytes → IsIndexFile c bytes → reading bytes ≡ Ok c }
+    ensures of_true { (points bytes : Text) (c : Content) → IsIndexFile c bytes → IsTrueIndex c → asked_course points c ≡ marked_course points c }
+    ensures of_layer { (points : Text) (v scale : ℕ) (layer : List Feature) (c : Content) → IsIndexOf v scale (map (λ (f : Feature). f.id) layer) (map rings_of layer) c → marked_course points c ≡ points_course by.Tree false scale points layer }
     ensures makes_none { (index points : Text) → MakesNone (ask_course index points) }
     ensures refuses_behind { (index points line : Text) → MayRefuseBehind (ask_course index points) line → (line ≡ ended (codes "points: too long")) ⊎ ((version : ℕ) × (line ≡ deep_text version)) }
 {}

@@ -35,7 +35,7 @@ fn push_count(out: &mut Vec<u8>, words: &[u8], number: u32) -> Result<(), AllocE
 // The line of the counts of an index.
 #[tactic(auto, unfolding(loc_spec_index::specs::Content::table_in))]
 fn index_line(alloc: Global, held: &Held) -> Result<Vec<u8>, AllocError>
-    ensures { IfOk result (λ line. line.items ≡ ended (index_text held.now)) }
+    ensures { IfOk result (λ line. line.items ≡ ended (index_text held.now.content)) }
 {
     let mut line = Vec::new(alloc);
     push_count(&mut line, b"index of ", held.legend().features())?;
@@ -48,8 +48,8 @@ fn index_line(alloc: Global, held: &Held) -> Result<Vec<u8>, AllocError>
 
 // What was read is a true index, or it is refused by its first flaw.
 fn judge_held(alloc: Global, held: &Held) -> Result<(), Stop>
-    ensures goes_on { (m : Moment) → GoesOn (judged_course held.now (first_flaw held.now)) m (λ _. writes (exactly (ended (index_text held.now)))) m result }
-    ensures is_true { OnOk result (IsTrueIndex held.now) }
+    ensures goes_on { (m : Moment) → GoesOn (judged_course held.now.content (first_flaw held.now.content)) m (λ _. writes (exactly (ended (index_text held.now.content)))) m result }
+    ensures is_true { OnOk result (IsTrueIndex held.now.content) }
 {
     held.law();
     match loc_verify::verify(alloc, held) {

@@ -84,13 +84,13 @@ parts_small (part ∷ ps) small =
     let both = and_parts (list_all is_small part) (list_all (λ part. list_all is_small part) ps) small in
     all_joined is_small part (flat_map (λ part. part) ps) both.0 (parts_small ps both.1)
 
-fields_small : (c : Content) → All AreBytes c.ids → list_all is_small (fields 1 c) ≡ true
+fields_small : (c : Content) → All AreBytes c.ids → list_all is_small (fields 2 c) ≡ true
 unfolding fields
-fields_small c are = parts_small (parts 1 c)
+fields_small c are = parts_small (parts 2 c)
     (and_from _ _ refl
     (and_from _ _ (ids_small c.ids are)
     (and_from _ _ (from corner_fields (λ earlier p. refl) [] c.corners)
-    (and_from _ _ (from (edge_fields 1 (length c.corners) (length c.covers)) (λ earlier e. refl) [] c.edges)
+    (and_from _ _ (from (edge_fields 2 (length c.corners) (length c.covers)) (λ earlier e. refl) [] c.edges)
     (and_from _ _ (from (mark_fields (length c.edges) (length c.ids)) (λ earlier m. refl) [] c.marks)
     (and_from _ _ (from (cover_fields (length c.ids)) (cover_small (length c.ids)) [] c.covers)
     (and_from _ _ (mapped (λ floor. number w32 (length c.edges + 1) (none_or_next floor)) (λ floor. refl) c.floors)
@@ -99,4 +99,4 @@ fields_small c are = parts_small (parts 1 c)
 
 -- all that is written is bytes
 pub bytes_of_are : BytesOf
-bytes_of_are c are = are_bytes _ (all_spelled (fields 1 c) (fields_small c are))
+bytes_of_are c are = are_bytes _ (all_spelled (fields 2 c) (fields_small c are))

@@ -5,24 +5,22 @@ use Rattle.std.proofs.lemmas.Bool.{both_ways, ltb-true, not_from_false, not-true
 use Rattle.std.proofs.lemmas.List.Sums.{length-filter}
 use Rattle.std.proofs.lemmas.Option.{get_or_from_slice_get, slice_get-get_or}
 use Rattle.loc_spec_plane.specs.Rings.{Rings}
-use Rattle.loc_spec_plane.specs.Tables.{Table, IsTable, AllEnds, AllEven, NoConflict, corner, edge_numbers, cut_at, layer_corners, noded_table_of}
+use Rattle.loc_spec_plane.specs.Tables.{Table, AllEnds, AllEven, NoConflict, corner, edge_numbers, cut_at, layer_corners, noded_table_of, is_on_source}
 use Rattle.loc_spec_plane.specs.Places.{IsFloor, IsVersion, alive_at}
 use Rattle.loc_spec_plane.specs.Covers.{cover_above}
 use Rattle.loc_spec_plane.specs.Lists.{is_in}
 use Rattle.loc_spec_index.specs.declared.NodeRow.{NodeRow}
-use Rattle.loc_spec_index.specs.Content.{Content, cover_numbers, floor_of_corner, root_of}
+use Rattle.loc_spec_index.specs.Content.{Content, cover_numbers, floor_of_corner, root_of, table_in}
 use Rattle.loc_spec_index.specs.Nodes.{IsShallow, is_deep}
-use Rattle.loc_spec_index.specs.TrueIndex.{IsIndexOf, IsTrueIndex, IsTrueVersion, alive_count, is_on_source}
+use Rattle.loc_spec_index.specs.TrueIndex.{IsIndexOf, IsTrueIndex, IsTrueVersion, alive_count}
 use Rattle.loc_persist.specs.Meaning.{VersionsMeaning}
 use Rattle.loc_persist.proofs.ByNumber.{rows_by_number_read}
 use Rattle.loc_treeidx.proofs.Standing.{listed_count, square_rises}
 use Rattle.loc_cover.specs.Legends.{LegendRows}
 use Rattle.loc_write.specs.Written.{HoldsParts, IsContentOf}
 use Rattle.loc_laws_index.proofs.FlawKinds.{as_many, as_many_corners}
-use Rattle.loc_laws_index.proofs.OwnSources.{on_source}
 use Rattle.loc_laws_noding.proofs.Counted.{every_marked}
-use Rattle.loc_laws_noding.proofs.Noded.{cutting_noded}
-use Rattle.loc_laws_noding.proofs.Tables.{is_table}
+use Rattle.loc_laws_noding.proofs.Sources.{noded_sources}
 use Rattle.loc_laws_built.specs.Built.{ContentIsTrue, IsPlaneOf}
 use Rattle.loc_laws_built.proofs.Named.{every_named}
 
@@ -55,8 +53,8 @@ module _ (scale : ℕ) (layer : List Rings) (rows : LegendRows) (m : VersionsMea
   floors_are : c.floors ≡ rows.floors
   floors_are = ap (λ (x : Content). x.floors) of.parts
 
-  sources_on : (e : ℕ) → e < length c.edges → is_on_source c e ≡ true
-  sources_on = on_source c (subst IsTable (sym holds.table) (is_table (cut_at (layer_corners layer)) layer (cutting_noded layer))) (holds.sources ∙ sym (ap (λ (u : Table). u.ends) holds.table))
+  sources_on : (e : ℕ) → e < length c.edges → is_on_source (table_in c) e ≡ true
+  sources_on e lt = ap (λ (u : Table). is_on_source u e) holds.table ∙ noded_sources layer e (within e lt)
 
   -- version i
   version_true : (i : ℕ) → i < length c.corners → IsTrueVersion c i
@@ -92,7 +90,7 @@ module _ (scale : ℕ) (layer : List Rings) (rows : LegendRows) (m : VersionsMea
     versions = version_true;
   }
 
-  of_layer : IsIndexOf scale rows.ids layer c
+  of_layer : IsIndexOf 2 scale rows.ids layer c
   of_layer = (ap (λ (x : Content). x.scale) of.parts, ap (λ (x : Content). x.ids) of.parts, holds.table)
 
 pub content_is_true : ContentIsTrue

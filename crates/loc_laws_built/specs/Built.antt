@@ -32,12 +32,12 @@ pub record IsPlaneOf (layer : List Rings) (rows : LegendRows) (m : VersionsMeani
 abbrev pub ContentIsTrue : Type 0
 ContentIsTrue =
     (scale : ℕ) (layer : List Rings) (rows : LegendRows) (m : VersionsMeaning) (c : Content) → IsPlaneOf layer rows m → IsContentOf scale (noded_table_of layer) rows m c
-    → HoldsParts (noded_table_of layer) rows c → IsTrueIndex c × IsIndexOf scale rows.ids layer c
+    → HoldsParts (noded_table_of layer) rows c → IsTrueIndex c × IsIndexOf 2 scale rows.ids layer c
 
--- a layer of at most 2^20 pieces has no more edges, and no more marks
+-- a layer of at most 2^21 pieces has no more edges, and no more marks
 abbrev pub LayerFits : Type 0
-LayerFits = (layer : List Feature) → piece_count (layer_rings layer) ≤ 2 ^ 20 → (length (noded_table_of (layer_rings layer)).ends ≤ 2 ^ 20) × (sum_by length (noded_table_of (layer_rings layer)).marks ≤ 2 ^ 20)
+LayerFits = (layer : List Feature) → piece_count (layer_rings layer) ≤ 2 ^ 21 → (length (noded_table_of (layer_rings layer)).ends ≤ 2 ^ 21) × (sum_by length (noded_table_of (layer_rings layer)).marks ≤ 2 ^ 21)
 
 -- where the ids are bytes, all that is written of a content is
 abbrev pub BytesOf : Type 0
-BytesOf = (c : Content) → All AreBytes c.ids → AreBytes (bytes_of 1 c)
+BytesOf = (c : Content) → All AreBytes c.ids → AreBytes (bytes_of 2 c)

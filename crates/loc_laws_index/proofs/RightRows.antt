@@ -1,9 +1,9 @@
 -- What right fields say of the rows of a file: each is in its bounds, and each comes behind the one before it.
-use Rattle.std.proofs.Common.{◌≡◌, ℕ, zero, suc, ◌+◌, ◌-◌, ◌^◌, ◌<◌, ◌≤◌, Bool, true, false, ◌&&◌, ◌||◌, List, [], ◌∷◌, ◌++◌, length, map, get_or, refl, sym, ◌∙◌, subst, arith, inl, inr}
+use Rattle.std.proofs.Common.{◌≡◌, ℕ, zero, suc, ◌+◌, ◌-◌, ◌^◌, ◌<◌, ◌≤◌, Bool, true, false, ◌&&◌, ◌||◌, List, [], ◌∷◌, ◌++◌, length, map, get_or, refl, sym, ◌∙◌, ap, subst, arith, inl, inr}
 use Rattle.std.specs.Prelude.{Option, Some, None, nat_lt, ◌==◌, ◌⊎◌, min, sum_by, IfSome, if◌then◌else◌}
 use Rattle.std.specs.List.{flat_map, last_or, list_all}
 use Rattle.std.specs.Int.{w32}
-use Rattle.std.proofs.lemmas.Bool.{and_parts, and_from, or_cases, or_left, or_right, ltb-true, lt-ltb, eqb-true, eq-eqb}
+use Rattle.std.proofs.lemmas.Bool.{and_parts, and_from, or_cases, or_left, or_right, ltb-true, lt-ltb, eqb-true, eq-eqb, cond-true}
 use Rattle.std.proofs.lemmas.List.Sums.{sum_by-append}
 use Rattle.loc_spec_plane.specs.Points.{Point, before}
 use Rattle.loc_spec_plane.specs.Lists.{is_rising}
@@ -14,7 +14,7 @@ use Rattle.loc_laws_order.proofs.Sides.{before_trans}
 use Rattle.loc_spec_index.specs.declared.NodeRow.{NodeRow}
 use Rattle.loc_spec_index.specs.declared.Part.TheVariants.{Edges, Covers}
 use Rattle.loc_spec_index.specs.Content.{EdgeRow}
-use Rattle.loc_spec_index.specs.IndexFile.{Field, number, order, none_or_next, follows, are_right, rows_from, is_rising_pair, source_fields, corner_fields, edge_fields, edge_row_before, mark_fields, mark_row_before, cover_fields, node_fields}
+use Rattle.loc_spec_index.specs.IndexFile.{Field, number, order, none_or_next, follows, are_right, rows_from, is_rising_pair, names_sources, source_fields, corner_fields, edge_fields, id_fields, edge_row_before, mark_fields, mark_row_before, cover_fields, node_fields}
 use Rattle.loc_laws_index.proofs.Progress.{flat-rows, map-rows}
 use Rattle.loc_laws_index.proofs.RightFields.{all-hold, right-parts}
 
@@ -125,6 +125,29 @@ edge-facts v nv nc earlier e h =
 pub edges-in-order : (v nv nc : ℕ) (es : List EdgeRow) → are_right (rows_from (edge_fields v nv nc) [] es) ≡ true → ((i : ℕ) (d : EdgeRow) → i < length es → IsEdgeIn nv nc (get_or es i d)) × (is_rising edge_row_before es ≡ true)
 edges-in-order v nv nc es h = rows-in-order (edge_fields v nv nc) (IsEdgeIn nv nc) edge_row_before (λ x y z. pair-trans x.ends y.ends z.ends) (edge-facts v nv nc) es h
 
+-- the source of an edge goes up, and where the version names it, to a corner that is there
+abbrev pub IsSourceIn : ℕ → ℕ → EdgeRow → Type 0
+IsSourceIn v nv e = (e.source.0 < e.source.1) × (names_sources v ≡ true → e.source.1 < nv)
+
+source-facts : (v nv nc : ℕ) (earlier : List EdgeRow) (e : EdgeRow) → are_right (edge_fields v nv nc earlier e) ≡ true → IsSourceIn v nv e × (follows edge_row_before (last_or None earlier) e ≡ true)
+source-facts v nv nc earlier e h =
+    let three = number w32 nv e.ends.0 ∷ number w32 nv e.ends.1 ∷ number w32 nc e.cover ∷ [] in
+    let last = order Edges (length earlier) ((is_rising_pair e.ends && is_rising_pair e.source) && follows edge_row_before (last_or None earlier) e) ∷ [] in
+    let p = right-parts (three ++ source_fields v nv e.source) last h in
+    let q = right-parts three (source_fields v nv e.source) p.0 in
+    let s = and_parts (is_rising_pair e.ends && is_rising_pair e.source) _ (all-hold last p.1).0 in (
+      (
+        ltb-true e.source.0 e.source.1 (and_parts (is_rising_pair e.ends) (is_rising_pair e.source) s.0).1,
+        λ named. (let two = number w32 nv e.source.0 ∷ number w32 nv e.source.1 ∷ [] in
+            let fields : are_right two ≡ true = ap are_right (sym (cond-true (names_sources v) two [] named)) ∙ q.1 in
+            (all-hold two fields).1.0),
+      ),
+      s.1,
+    )
+
+pub sources-in : (v nv nc : ℕ) (es : List EdgeRow) → are_right (rows_from (edge_fields v nv nc) [] es) ≡ true → (i : ℕ) (d : EdgeRow) → i < length es → IsSourceIn v nv (get_or es i d)
+sources-in v nv nc es h = (rows-in-order (edge_fields v nv nc) (IsSourceIn v nv) edge_row_before (λ x y z. pair-trans x.ends y.ends z.ends) (source-facts v nv nc) es h).0
+
 -- a mark in its bounds
 abbrev pub IsMarkIn : ℕ → ℕ → ℕ × Mark → Type 0
 IsMarkIn ne nf m = (m.0 < ne) × (m.1.feature < nf)
@@ -176,6 +199,10 @@ pub record IsRowIn (ne nn : ℕ) (row : NodeRow) : Type 0 where
   pub left : row.left ≤ nn
   pub right : row.right ≤ nn
   pub extra : row.extra ≤ nn
+
+-- an id has at most 200 bytes
+pub ids-in : (rows : List (List ℕ)) → are_right (flat_map id_fields rows) ≡ true → (i : ℕ) (d : List ℕ) → i < length rows → length (get_or rows i d) ≤ 200
+ids-in rows h = flat-each id_fields (λ id. length id ≤ 200) (λ id r. (let short = (all-hold (id_fields id) r).0 in omega (arith, short))) rows h
 
 pub nodes-in : (ne nv nn : ℕ) (rows : List NodeRow) → are_right (flat_map (node_fields ne nv nn) rows) ≡ true → (i : ℕ) (d : NodeRow) → i < length rows → IsRowIn ne nn (get_or rows i d)
 nodes-in ne nv nn rows h = flat-each (node_fields ne nv nn) (IsRowIn ne nn) each rows h

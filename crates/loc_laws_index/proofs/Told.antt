@@ -1,10 +1,11 @@
 -- What is taken off the front of bytes is told by its fields: each that fits and is right there is what the bytes hold.
-use Rattle.std.proofs.Common.{◌≡◌, ℕ, zero, suc, ◌+◌, ◌-◌, ◌<◌, ◌≤◌, true, false, List, [], ◌∷◌, ◌++◌, length, take, drop, map, refl, sym, ◌∙◌, ap, subst, arith, length-take-le, ne_eqb, ◌==◌, Some, None}
+use Rattle.std.proofs.Common.{◌≡◌, ℕ, zero, suc, ◌+◌, ◌-◌, ◌<◌, ◌≤◌, Bool, true, false, List, [], ◌∷◌, ◌++◌, length, take, drop, map, refl, sym, ◌∙◌, ap, subst, arith, length-take-le, ne_eqb, ◌==◌, Some, None}
 use Rattle.std.specs.Prelude.{replicate, nat_lt, if◌then◌else◌, ◌^◌, ◌&&◌, min, sum_by}
 use Rattle.std.specs.List.{flat_map, last_or}
 use Rattle.loc_spec_plane.specs.Lists.{is_rising}
 use Rattle.loc_spec_plane.specs.Covers.{list_before}
-use Rattle.loc_spec_index.specs.declared.Part.TheVariants.{Covers}
+use Rattle.loc_spec_index.specs.declared.Part.{Part}
+use Rattle.loc_spec_index.specs.declared.Part.TheVariants.{Edges, Covers}
 use Rattle.std.specs.Int.{w8, w32, w64, to_be_bytes, from_be_bytes, cast_unsigned}
 use Rattle.std.proofs.lemmas.Bool.{ltb-true}
 use Rattle.std.proofs.lemmas.Int.{of_z-to_z}
@@ -13,8 +14,8 @@ use Rattle.std.proofs.lemmas.Nat.{be_bytes_4, be_bytes_8}
 use Rattle.loc_spec_plane.specs.declared.Mark.{Mark}
 use Rattle.loc_spec_plane.specs.Points.{Point}
 use Rattle.loc_spec_index.specs.Content.{EdgeRow}
-use Rattle.loc_spec_index.specs.IndexFile.{Field, number, text, order, spelled, is_right, with_bytes, rows_from, id_fields, corner_fields, edge_fields, mark_fields, cover_fields, node_fields, none_or_next, bit, follows}
-use Rattle.loc_laws_index.specs.IndexReading.{AreBytes, Taker, front, byte_off, word_off, coordinate_off, times, id_off, corner_off, edge_off, mark_off, list_off, floor_off, node_off}
+use Rattle.loc_spec_index.specs.IndexFile.{Field, number, text, order, spelled, is_right, with_bytes, rows_from, id_fields, corner_fields, edge_fields, edge_row_before, is_rising_pair, names_sources, mark_fields, cover_fields, node_fields, none_or_next, bit, follows}
+use Rattle.loc_laws_index.specs.IndexReading.{AreBytes, Taker, front, byte_off, word_off, coordinate_off, times, id_off, corner_off, source_off, edge_off, mark_off, list_off, floor_off, node_off}
 use Rattle.loc_laws_index.proofs.Progress.{flat-rows, map-rows}
 use Rattle.loc_laws_index.proofs.Agree.{holds-unless}
 
@@ -102,10 +103,30 @@ told_id rest K k =
 pub told_corner : (earlier : List Point) (rest : List ℕ) (K : List ℕ → Type 0) → K (corner_off rest).1 → Told (corner_fields earlier (corner_off rest).0) rest K
 told_corner earlier rest K k = λ s f r. (refl, coordinate_is rest s f, λ s f r. (refl, coordinate_is (drop 8 rest) s f, λ s f r. (refl, refl, k)))
 
-pub told_edge : (corners covers : ℕ) (earlier : List EdgeRow) (rest : List ℕ) (K : List ℕ → Type 0) → K (edge_off rest).1 → Told (edge_fields 1 corners covers earlier (edge_off rest).0) rest K
-told_edge corners covers earlier rest K k =
+-- the source, and the order of the row
+told_source : (named : Bool) (corners : ℕ) (ends : ℕ × ℕ) (part : Part) (row : ℕ) (holds : Bool) (rest : List ℕ) (K : List ℕ → Type 0) → K (source_off named ends rest).1 → Told ((if named then number w32 corners (source_off named ends rest).0.0 ∷ number w32 corners (source_off named ends rest).0.1 ∷ [] else []) ++ order part row holds ∷ []) rest K
+told_source true corners ends part row holds rest K k = λ s f r. (refl, word_is rest s f, λ s f r. (refl, word_is (word_off rest).1 s f, λ s f r. (refl, refl, k)))
+told_source false corners ends part row holds rest K k = λ s f r. (refl, refl, k)
+
+pub told_edge : (v corners covers : ℕ) (earlier : List EdgeRow) (rest : List ℕ) (K : List ℕ → Type 0) → K (edge_off v rest).1 → Told (edge_fields v corners covers earlier (edge_off v rest).0) rest K
+told_edge v corners covers earlier rest K k =
     let lo = word_off rest in
-    λ s f r. (refl, word_is rest s f, λ s f r. (refl, word_is lo.1 s f, λ s f r. (refl, word_is (word_off lo.1).1 s f, λ s f r. (refl, refl, k))))
+    let hi = word_off lo.1 in
+    let cover = word_off hi.1 in
+    let e = (edge_off v rest).0 in
+    λ s f r. (
+      refl,
+      word_is rest s f,
+      λ s f r. (
+        refl,
+        word_is lo.1 s f,
+        λ s f r. (
+          refl,
+          word_is hi.1 s f,
+          told_source (names_sources v) corners (lo.0, hi.0) Edges (length earlier) ((is_rising_pair e.ends && is_rising_pair e.source) && follows edge_row_before (last_or None earlier) e) cover.1 K k,
+        ),
+      ),
+    )
 
 bit-back : (v : ℕ) → v < 2 → bit (v == 1) ≡ v
 bit-back zero h = refl

@@ -1,18 +1,18 @@
 -- What the bytes of an index file read as, as a function: what they hold where a file has its fields, be it right or wrong, is judged field by
--- field (this product's own format, its first version). The words:
+-- field (this product's own format, in both versions). The words:
 --   AreBytes         numbers below 256
 --   Taker            takes something off the front of bytes: what was taken, and what is behind it
 --   front            so many bytes off the front, zeros where there are none
 --   byte_off, word_off, coordinate_off  numbers of one, four and eight bytes
 --   times            the same so many times
---   id_off, corner_off, edge_off, mark_off, list_off, floor_off, node_off  rows
+--   id_off, corner_off, source_off, edge_off, mark_off, list_off, floor_off, node_off  rows
 --   Counts, counts_off  the numbers of a header behind the magic letters and the version
 --   rows_off, held_in  all rows of these numbers, and what the bytes of a file hold
 --   first_of, fault_from  the first fault of fields in bytes from an offset on
---   is_of_second     the bytes begin as a file of the second version does
+--   is_of_second, version_in  the bytes begin as a file of the second version does; the version that they are judged by
 --   reading          the content of the bytes, or their first fault
---   ReadsFiles       that is the content whose file they are, and the first fault
-use Rattle.std.specs.Prelude.{ℕ, zero, suc, ◌+◌, ◌-◌, Bool, List, [], ◌∷◌, ◌++◌, length, take, drop, replicate, codes, nat_lt, ◌==◌, ◌&&◌, if◌then◌else◌, ℤ, Option, Some, None, Result, Ok, Err, ◌≡◌, ◌<◌, get_or, not, IsTrue}
+--   ReadsFiles       that is the content whose file they are, in that version, and the first fault
+use Rattle.std.specs.Prelude.{ℕ, zero, suc, ◌+◌, ◌-◌, Bool, List, [], ◌∷◌, ◌++◌, length, take, drop, replicate, codes, nat_lt, ◌==◌, ◌&&◌, if◌then◌else◌, ℤ, Option, Some, None, Result, Ok, Err, ◌≡◌, ◌<◌, get_or, true, false}
 use Rattle.std.specs.Int.{w8, w32, w64, from_be_bytes, cast_signed}
 use Rattle.std.specs.Str.{bytes_eq}
 use Rattle.loc_spec_plane.specs.Points.{Point, point_at}
@@ -21,7 +21,7 @@ use Rattle.loc_spec_index.specs.declared.NodeRow.{NodeRow}
 use Rattle.loc_spec_index.specs.declared.IndexFault.{IndexFault}
 use Rattle.loc_spec_index.specs.declared.IndexFault.TheVariants as fault
 use Rattle.loc_spec_index.specs.Content.{Content, EdgeRow}
-use Rattle.loc_spec_index.specs.IndexFile.{Field, fields, spelled, fault_at, with_bytes, IsFileOf, HasFault}
+use Rattle.loc_spec_index.specs.IndexFile.{Field, fields, spelled, fault_at, with_bytes, names_sources, IsFileOf, HasFault}
 
 -- each is a byte
 abbrev pub AreBytes : List ℕ → Type 0
@@ -60,10 +60,19 @@ id_off rest = let n = byte_off rest in front n.0 n.1
 abbrev pub corner_off : Taker Point
 corner_off rest = let x = coordinate_off rest in let y = coordinate_off x.1 in (point_at x.0 y.0, y.1)
 
--- an edge: its ends, and its cover list; it is its own source
-abbrev pub edge_off : Taker EdgeRow
-edge_off rest = let lo = word_off rest in let hi = word_off lo.1 in let cover = word_off hi.1 in
-    (record { ends = (lo.0, hi.0); source = (lo.0, hi.0); cover = cover.0 }, cover.1)
+-- the source of an edge with these ends: its two corners where sources are named, and else the ends
+abbrev pub source_off : Bool → ℕ × ℕ → Taker (ℕ × ℕ)
+source_off true ends rest = let lo = word_off rest in let hi = word_off lo.1 in ((lo.0, hi.0), hi.1)
+source_off false ends rest = (ends, rest)
+
+-- an edge: its ends, its cover list, and its source, where sources are named
+abbrev pub edge_by : Bool → Taker EdgeRow
+edge_by named rest = let lo = word_off rest in let hi = word_off lo.1 in let cover = word_off hi.1 in let source = source_off named (lo.0, hi.0) cover.1 in
+    (record { ends = (lo.0, hi.0); source = source.0; cover = cover.0 }, source.1)
+
+-- an edge in a version
+abbrev pub edge_off : ℕ → Taker EdgeRow
+edge_off v = edge_by (names_sources v)
 
 -- a mark: its edge, its feature, and whether it is odd
 abbrev pub mark_off : Taker (ℕ × Mark)
@@ -103,16 +112,16 @@ counts_off rest =
     (record { scale = scale.0; features = features.0; corners = corners.0; edges = edges.0; marks = marks.0; covers = covers.0; nodes = nodes.0 }, nodes.1)
 
 -- the rows of all parts
-abbrev pub rows_off : Counts → Taker Content
-rows_off n rest =
-    let ids = times id_off n.features rest in let corners = times corner_off n.corners ids.1 in let edges = times edge_off n.edges corners.1 in
+abbrev pub rows_off : ℕ → Counts → Taker Content
+rows_off v n rest =
+    let ids = times id_off n.features rest in let corners = times corner_off n.corners ids.1 in let edges = times (edge_off v) n.edges corners.1 in
     let marks = times mark_off n.marks edges.1 in let covers = times list_off n.covers marks.1 in let floors = times floor_off n.corners covers.1 in
     let roots = times word_off n.corners floors.1 in let nodes = times node_off n.nodes roots.1 in
     (record { scale = n.scale; ids = ids.0; corners = corners.0; edges = edges.0; marks = marks.0; covers = covers.0; floors = floors.0; roots = roots.0; nodes = nodes.0 }, nodes.1)
 
--- what the bytes of a file hold, behind the magic letters and the version
-unfoldable pub held_in : List ℕ → Content
-held_in bytes = let n = counts_off (drop 4 (drop 8 bytes)) in (rows_off n.0 n.1).0
+-- what the bytes of a file of a version hold, behind the magic letters and the version
+unfoldable pub held_in : ℕ → List ℕ → Content
+held_in v bytes = let n = counts_off (drop 4 (drop 8 bytes)) in (rows_off v n.0 n.1).0
 
 -- the first of two, where there is one
 abbrev pub first_of : Option IndexFault → Option IndexFault → Option IndexFault
@@ -132,16 +141,20 @@ fault_from offset (f ∷ fs) rest =
 abbrev pub is_of_second : List ℕ → Bool
 is_of_second bytes = bytes_eq (take 8 bytes) (codes "LOCINDEX") && ((word_off (drop 8 bytes)).0 == 2)
 
+-- such bytes are judged as a file of the second version, and all others as one of the first
+abbrev pub version_in : List ℕ → ℕ
+version_in bytes = if is_of_second bytes then 2 else 1
+
 -- the content, or the fault where there is one
 abbrev pub unless_fault : Content → Option IndexFault → Result Content IndexFault
 unless_fault c None = Ok c
 unless_fault c (Some f) = Err f
 
--- What bytes read as: the content that they hold, or their first fault. Files of the second version are not read yet.
+-- What bytes read as: the content that they hold, or their first fault.
 unfoldable pub reading : List ℕ → Result Content IndexFault
-reading bytes = if is_of_second bytes then Err (fault.Version 2) else unless_fault (held_in bytes) (fault_from 0 (fields 1 (held_in bytes)) bytes)
+reading bytes = let v = version_in bytes in unless_fault (held_in v bytes) (fault_from 0 (fields v (held_in v bytes)) bytes)
 
--- Bytes that do not begin as a file of the second version read as a content exactly where they are its file, and as a fault exactly where it is their first.
+-- Bytes read as a content exactly where they are its file, in the version by which they are judged, and as a fault exactly where it is their first.
 pub record ReadsFiles : Type 0 where
-  pub content : (bytes : List ℕ) (c : Content) → AreBytes bytes → IsTrue (not (is_of_second bytes)) → IsFileOf 1 c bytes → reading bytes ≡ Ok c
-  pub fault : (bytes : List ℕ) (f : IndexFault) → AreBytes bytes → IsTrue (not (is_of_second bytes)) → HasFault bytes f → reading bytes ≡ Err f
+  pub content : (bytes : List ℕ) (v : ℕ) (c : Content) → AreBytes bytes → IsFileOf v c bytes → (reading bytes ≡ Ok c) × (version_in bytes ≡ v)
+  pub fault : (bytes : List ℕ) (f : IndexFault) → AreBytes bytes → HasFault bytes f → reading bytes ≡ Err f

@@ -1,1 +1,2 @@
 pub mod IndexReading
+pub mod Renewal

@@ -7,11 +7,10 @@ use Rattle.std.proofs.lemmas.Bool.{both_ways, eq-eqb, eqb-true, not-false, not-t
 use Rattle.std.proofs.lemmas.List.{nil_from_length}
 use Rattle.std.proofs.lemmas.Slice.Eq.{bytes_eq-Decides}
 use Rattle.loc_spec_plane.specs.Lists.{is_in}
-use Rattle.loc_spec_plane.specs.Tables.{AllEnds, corner, edge_numbers, ends_at}
+use Rattle.loc_spec_plane.specs.Tables.{AllEnds, corner, edge_numbers, ends_at, is_on_source}
 use Rattle.loc_spec_plane.specs.Places.{IsFloor}
 use Rattle.loc_spec_plane.specs.Covers.{cover_above}
 use Rattle.loc_spec_index.specs.Content.{Content, cover_numbers, cover_of_edge, floor_of_corner, table_in}
-use Rattle.loc_spec_index.specs.TrueIndex.{is_on_source}
 use Rattle.loc_spec_index.proofs.Refutes.{no_lone, no_bare, no_wrong_floor, no_wrong_cover, no_spare_cover, no_wrong_source}
 use Rattle.loc_laws_judge.specs.FirstFlaw.{bare_edge, is_floor, lone_corner, other_source, spare_list, untrue_cover, untrue_floor}
 use Rattle.loc_laws_judge.proofs.Floors.{floor_decides}
@@ -54,6 +53,6 @@ module _ (c : Content) where
   spare_told = told_named c 6 refl (λ n. refl) (λ n. refl) (λ n. not (is_in n (cover_numbers c))) (length c.covers)
       (λ n less fails. (less, fails)) (λ n passes h. both_ways _ passes h.1) ((n : ℕ) → n < length c.covers → IsTrue (is_in n (cover_numbers c))) (λ all n less. not-false _ (all n less)) (no_spare_cover c)
 
-  pub source_told : IsTold c 7 ((e : ℕ) → e < length c.edges → IsTrue (is_on_source c e)) (other_source c)
-  source_told = told_named c 7 refl (λ n. refl) (λ n. refl) (λ e. not (is_on_source c e)) (length c.edges)
-      (λ e less fails. (less, fails)) (λ e passes h. both_ways _ passes h.1) ((e : ℕ) → e < length c.edges → IsTrue (is_on_source c e)) (λ all e less. not-false _ (all e less)) (no_wrong_source c)
+  pub source_told : IsTold c 7 ((e : ℕ) → e < length c.edges → IsTrue (is_on_source (table_in c) e)) (other_source c)
+  source_told = told_named c 7 refl (λ n. refl) (λ n. refl) (λ e. not (is_on_source (table_in c) e)) (length c.edges)
+      (λ e less fails. (less, fails)) (λ e passes h. both_ways _ passes h.1) ((e : ℕ) → e < length c.edges → IsTrue (is_on_source (table_in c) e)) (λ all e less. not-false _ (all e less)) (no_wrong_source c)

@@ -20,14 +20,14 @@ use Rattle.std.specs.List.{list_any, list_all}
 use Rattle.std.specs.Str.{bytes_eq}
 use Rattle.loc_spec_plane.specs.Points.{Point, is_above, conflict}
 use Rattle.loc_spec_plane.specs.Lists.{numbers, is_in, odd_many, sorted_set}
-use Rattle.loc_spec_plane.specs.Tables.{Table, IsTable, corner, edge, edge_numbers, ends_at, has_odd}
+use Rattle.loc_spec_plane.specs.Tables.{Table, IsTable, corner, edge, edge_numbers, ends_at, has_odd, is_on_source}
 use Rattle.loc_spec_plane.specs.Places.{alive_at, lower_of}
 use Rattle.loc_spec_plane.specs.Covers.{cover_above, feature_count}
 use Rattle.loc_spec_index.specs.declared.NodeRow.{NodeRow}
 use Rattle.loc_spec_index.specs.Nodes.{Side, Left, Right, row_of, child_of, is_deep}
 use Rattle.loc_spec_index.specs.Content.{Content, table_in, cover_of_edge, cover_numbers, floor_of_corner, root_of}
 use Rattle.loc_spec_index.specs.IndexFile.{IsFileOf}
-use Rattle.loc_spec_index.specs.TrueIndex.{IsTrueIndex, alive_count, is_on_source}
+use Rattle.loc_spec_index.specs.TrueIndex.{IsTrueIndex, alive_count}
 use Rattle.loc_spec_index.specs.Flaws.{Flaw, IsFirst, lone, bare, uneven, conflicting, wrong_floor, wrong_cover, spare_cover, wrong_source, deep, wrong_list}
 
 -- what is found at the first member at which something is
@@ -86,7 +86,7 @@ spare_list c = first_some (λ n. flaw_if (not (is_in n (cover_numbers c))) (spar
 
 -- the least edge that is off its source
 abbrev pub other_source : Content → Option Flaw
-other_source c = first_some (λ e. flaw_if (not (is_on_source c e)) (wrong_source e)) (numbers (length c.edges))
+other_source c = first_some (λ e. flaw_if (not (is_on_source (table_in c) e)) (wrong_source e)) (numbers (length c.edges))
 
 -- ---- versions
 

@@ -11,4 +11,5 @@ pub mod Pieces
 pub mod RowsNoding
 pub mod Search
 pub mod SortedSet
+pub mod Sources
 pub mod Tables

@@ -1,18 +1,20 @@
 -- The noded table: no two of its edges touch, and where no two plain edges conflict it is the plain table.
 use Rattle.std.proofs.Common.{◌≡◌, ℕ, suc, ◌+◌, ◌<◌, Bool, true, false, not, ◌||◌, List, [], ◌∷◌, ◌++◌, length, get_or, map, refl, sym, ◌∙◌, ap, ap₂, subst, inl, inr, arith}
-use Rattle.std.specs.Prelude.{if◌then◌else◌, Some, None}
+use Rattle.std.specs.Prelude.{if◌then◌else◌, Option, Some, None, find, unwrap_or}
 use Rattle.std.specs.List.{list_any, list_all, flat_map, filter_map, enumerate_from, cons_option}
 use Rattle.std.proofs.lemmas.Bool.{and_parts, both_ways, false_from_ne_true, not-true, or_cases, or_from, or_left, or_right, true≢false}
 use Rattle.std.proofs.lemmas.List.Folds.{list_any-append, list_any_at}
 use Rattle.loc_spec_plane.specs.Points.{Point, Edge, same_point, same_edge, edge_before, inside, ends_inside, touch, cross, conflict}
 use Rattle.loc_spec_plane.specs.Lists.{exactly_one, odd_many, sorted_set}
 use Rattle.loc_spec_plane.specs.Rings.{Rings, segments}
-use Rattle.loc_spec_plane.specs.Tables.{Table, NoConflict, table_by, table_of, noded_table_of, whole, cut_at, edge, edge_marks, mark_of, layer_segments, layer_corners, pieces_of, number_of}
+use Rattle.loc_spec_plane.specs.Tables.{Table, NoConflict, table_by, table_of, noded_table_of, whole, cut_at, edge, edge_marks, mark_of, layer_segments, layer_corners, pieces_of, number_of, numbered_ends, source_in}
 use Rattle.loc_laws_order.proofs.Tests.{same_edge_decides, touch-conflict}
 use Rattle.loc_laws_order.proofs.TableOrder.{origin_point}
 use Rattle.loc_laws_noding.specs.Laws.{IsCutting, goes_up, has_ends, is_good}
 use Rattle.loc_laws_noding.proofs.Layers.{any-corners, corners_rise, cutting_at, layer_good}
+use Rattle.loc_laws_noding.proofs.Orders.{edges_by_before}
 use Rattle.loc_laws_noding.proofs.Pieces.{none_inside, one_piece, whole_cut}
+use Rattle.loc_laws_noding.proofs.SortedSet.{any-sorted_set}
 use Rattle.loc_laws_noding.proofs.Tables.{any_of_pieces, as_many_ends, edge_is_piece, piece_there, pieces}
 
 -- ---- the two cuts
@@ -31,7 +33,7 @@ cutting_noded layer = cutting_at (layer_corners layer) (corners_rise layer)
 none_at : {X : Type 0} (test : X → Bool) (xs : List X) (n : ℕ) (d : X) → list_any test xs ≡ false → n < length xs → test (get_or xs n d) ≡ false
 none_at test xs n d none fits = false_from_ne_true (test (get_or xs n d)) (λ h. both_ways (list_any test xs) none (list_any_at test xs n d fits h))
 
-number_in : {X : Type 0} (test : X → Bool) (xs : List X) (d : X) → list_any test xs ≡ true → (n : ℕ) × (n < length xs) × (test (get_or xs n d) ≡ true)
+pub number_in : {X : Type 0} (test : X → Bool) (xs : List X) (d : X) → list_any test xs ≡ true → (n : ℕ) × (n < length xs) × (test (get_or xs n d) ≡ true)
 number_in test [] d h = absurd (true≢false (sym h))
 number_in test (x ∷ xs) d h = elim (or_cases (test x) (list_any test xs) h) [
   | inl here ↦ (0, omega arith, here)
@@ -123,7 +125,14 @@ module _ (f g : Edge → List Edge) where
       (mark_same e a (segments r) (λ s there. agree s (list_any-append (same_edge s) (segments r) (layer_segments rs) ∙ or_left _ _ there)))
       (marks_same e (a + 1) rs (λ s there. agree s (list_any-append (same_edge s) (segments r) (layer_segments rs) ∙ or_right (list_any (same_edge s) (segments r)) _ there)))
 
-  map_same : {X Y : Type 0} (h k : X → Y) → ((x : X) → h x ≡ k x) → (xs : List X) → map h xs ≡ map k xs
+  find_same : (e : Edge) (ss : List Edge) → Agree f g ss → find (λ s. list_any (same_edge e) (f s)) ss ≡ find (λ s. list_any (same_edge e) (g s)) ss
+  find_same e [] agree = refl
+  find_same e (s ∷ ss) agree = ap₂ (λ (hit : Bool) (rest : Option Edge). if hit then Some s else rest) (ap (list_any (same_edge e)) (first_agree s ss agree)) (find_same e ss (rest_agree s ss agree))
+
+  source_same : (e : Edge) (layer : List Rings) → Agree f g (layer_segments layer) → source_in f layer e ≡ source_in g layer e
+  source_same e layer agree = ap (λ o. unwrap_or o e) (find_same e (sorted_set edge_before (layer_segments layer)) (λ s there. agree s (sym (any-sorted_set edges_by_before (same_edge s) (layer_segments layer)) ∙ there)))
+
+  pub map_same : {X Y : Type 0} (h k : X → Y) → ((x : X) → h x ≡ k x) → (xs : List X) → map h xs ≡ map k xs
   map_same h k same [] = refl
   map_same h k same (x ∷ xs) = ap₂ (λ y ys. y ∷ ys) (same x) (map_same h k same xs)
 
@@ -134,8 +143,9 @@ module _ (f g : Edge → List Edge) where
       let cs : List Point = layer_corners layer in
       let number : Edge → ℕ × ℕ = λ e. (number_of cs e.lo, number_of cs e.hi) in
       let same : pieces_of f layer ≡ pieces_of g layer = ap (sorted_set edge_before) (flat_same (layer_segments layer) agree) in
-      ap (λ es. record { corners = cs; ends = map number es; marks = map (edge_marks f layer) es }) same
-      ∙ ap (λ rows. record { corners = cs; ends = map number (pieces_of g layer); marks = rows }) (map_same (edge_marks f layer) (edge_marks g layer) (λ e. marks_same e 0 layer agree) (pieces_of g layer))
+      ap (λ es. record { corners = cs; ends = map number es; marks = map (edge_marks f layer) es; sources = map (λ (e : Edge). numbered_ends layer (source_in f layer e)) es }) same
+      ∙ (ap (λ rows. record { corners = cs; ends = map number (pieces_of g layer); marks = rows; sources = map (λ (e : Edge). numbered_ends layer (source_in f layer e)) (pieces_of g layer) }) (map_same (edge_marks f layer) (edge_marks g layer) (λ e. marks_same e 0 layer agree) (pieces_of g layer))
+      ∙ ap (λ rows. record { corners = cs; ends = map number (pieces_of g layer); marks = map (edge_marks g layer) (pieces_of g layer); sources = rows }) (map_same (λ (e : Edge). numbered_ends layer (source_in f layer e)) (λ (e : Edge). numbered_ends layer (source_in g layer e)) (λ e. ap (numbered_ends layer) (source_same e layer agree)) (pieces_of g layer)))
 
 -- ---- where nothing conflicts
 module _ (layer : List Rings) (calm : NoConflict (table_of layer)) where

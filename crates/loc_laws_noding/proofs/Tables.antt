@@ -1,17 +1,17 @@
 -- The table of a layer whose segments are cut, whatever they are cut into: it is a table, its edges are the pieces, every corner is an end, marks are even, and by its marks it has what the rings have.
 use Rattle.std.proofs.Common.{◌≡◌, ℕ, zero, suc, ◌+◌, ◌<◌, ◌≤◌, Bool, true, false, not, ◌||◌, ◌&&◌, List, [], ◌∷◌, length, get_or, refl, sym, ◌∙◌, ap, subst, inl, inr, arith}
-use Rattle.std.specs.Prelude.{◌==◌}
+use Rattle.std.specs.Prelude.{◌==◌, Some, find, unwrap_or}
 use Rattle.std.specs.List.{list_any, list_all, flat_map}
-use Rattle.std.proofs.lemmas.Bool.{and_parts, cases_Bool, cases_lt, eq-eqb, ne_eqb, not_from_false, or_cases, or_left, or_right}
+use Rattle.std.proofs.lemmas.Bool.{and_from, and_parts, cases_Bool, cases_lt, cond-false, cond-true, eq-eqb, ne_eqb, not_from_false, or_cases, or_left, or_right}
 use Rattle.std.proofs.lemmas.List.{length-map, get_or-map, get_or_past}
 use Rattle.std.proofs.lemmas.List.Folds.{list_any-append, list_any_at}
 use Rattle.loc_spec_plane.specs.declared.Mark.{Mark}
 use Rattle.loc_spec_plane.specs.Points.{Point, Edge, same_point, same_edge, edge_before, is_end, lies_on}
-use Rattle.loc_spec_plane.specs.Lists.{numbers, odd_many, is_rising}
+use Rattle.loc_spec_plane.specs.Lists.{numbers, odd_many, is_rising, sorted_set}
 use Rattle.loc_spec_plane.specs.Rays.{crosses_right}
 use Rattle.loc_spec_plane.specs.Rings.{Rings, segments, touches, covers}
 use Rattle.loc_spec_plane.specs.Covers.{feature_count}
-use Rattle.loc_spec_plane.specs.Tables.{Table, IsTable, AllEnds, AllEven, table_by, corner, edge, lo_of, hi_of, ends_at, edge_numbers, has, has_odd, edge_marks, layer_segments, layer_corners, pieces_of, number_of, mark_before, touches_by_marks, covers_by_marks}
+use Rattle.loc_spec_plane.specs.Tables.{Table, IsTable, AllEnds, AllEven, table_by, corner, edge, lo_of, hi_of, ends_at, edge_numbers, has, has_odd, edge_marks, layer_segments, layer_corners, pieces_of, number_of, numbered_ends, source_in, source_of, mark_before, touches_by_marks, covers_by_marks}
 use Rattle.loc_laws_order.proofs.Booleans.{and_swap, and_true}
 use Rattle.loc_laws_order.proofs.Sides.{same_point_refl}
 use Rattle.loc_laws_order.proofs.TableOrder.{all_from, is_end_is, origin_point}
@@ -44,12 +44,26 @@ segments_part p [] f h = h
 segments_part p (r ∷ rs) zero h = list_any-append p (segments r) (layer_segments rs) ∙ or_left (list_any p (segments r)) _ h
 segments_part p (r ∷ rs) (suc f) h = list_any-append p (segments r) (layer_segments rs) ∙ or_right (list_any p (segments r)) _ (segments_part p rs f h)
 
+-- what passes for all, and for what stands in where none is found, passes for what is found
+found_passes : (q p : Edge → Bool) (e : Edge) → q e ≡ true → (ss : List Edge) → list_all q ss ≡ true → q (unwrap_or (find p ss) e) ≡ true
+found_passes q p e here [] all = here
+found_passes q p e here (s ∷ ss) all =
+    let parts = and_parts (q s) (list_all q ss) all in
+    elim (cases_Bool (p s)) [
+      | inl found ↦ ap (λ o. q (unwrap_or o e)) (cond-true (p s) (Some s) (find p ss) found) ∙ parts.0
+      | inr other ↦ ap (λ o. q (unwrap_or o e)) (cond-false (p s) (Some s) (find p ss) other) ∙ found_passes q p e here ss parts.1
+    ]
+
 module _ (cut : Edge → List Edge) (layer : List Rings) where
   abbrev cs : List Point
   cs = layer_corners layer
 
   abbrev pub pieces : List Edge
   pieces = pieces_of cut layer
+
+  -- the segments in order, each once
+  abbrev segments_once : List Edge
+  segments_once = sorted_set edge_before (layer_segments layer)
 
   abbrev t : Table
   t = table_by cut layer
@@ -71,6 +85,10 @@ module _ (cut : Edge → List Edge) (layer : List Rings) where
   pub as_many_marks : length t.marks ≡ length pieces
   unfolding table_by
   as_many_marks = length-map pieces (edge_marks cut layer)
+
+  as_many_sources : length t.sources ≡ length pieces
+  unfolding table_by
+  as_many_sources = length-map pieces (λ (e : Edge). numbered_ends layer (source_in cut layer e))
 
   -- there are no more edges than pieces of all segments
   pub few_ends : length t.ends ≤ length (flat_map cut (layer_segments layer))
@@ -128,6 +146,28 @@ module _ (cut : Edge → List Edge) (layer : List Rings) where
         let within : number_of cs piece.hi < length cs = number_fits cs (corners_rise layer) piece.hi there.1 in
         subst (λ (ends : ℕ × ℕ). (ends.0 < ends.1) × (ends.1 < length cs)) (sym (row_is n d fits)) (up, within)
 
+    -- the source of a piece is a segment, which goes up between two corners
+    pub source_good : (e : Edge) → is_good cs e ≡ true → is_good cs (source_in cut layer e) ≡ true
+    source_good e good = found_passes (is_good cs) (λ s. list_any (same_edge e) (cut s)) e good segments_once (all_is (is_good cs) segments_once ∙ (ap not (any-sorted_set edges_by_before (λ s. not (is_good cs s)) (layer_segments layer)) ∙ (sym (all_is (is_good cs) (layer_segments layer)) ∙ layer_good layer)))
+
+    -- and so is a piece
+    pub piece_good : (n : ℕ) (d : Edge) → n < length pieces → is_good cs (get_or pieces n d) ≡ true
+    piece_good n d fits = and_from (goes_up (get_or pieces n d)) (has_ends cs (get_or pieces n d)) (piece_up n d fits) (piece_there n d fits)
+
+    sources_up : (n : ℕ) → n < length t.ends → ((source_of t n).0 < (source_of t n).1) × ((source_of t n).1 < length t.corners)
+    unfolding table_by
+    sources_up n short =
+        let fits : n < length pieces = omega (arith, as_many_ends) in
+        let d : Edge = record { lo = origin_point; hi = origin_point } in
+        let piece : Edge = get_or pieces n d in
+        let s : Edge = source_in cut layer piece in
+        let good = and_parts (goes_up s) (has_ends cs s) (source_good piece (piece_good n d fits)) in
+        let there = and_parts (list_any (same_point s.lo) cs) (list_any (same_point s.hi) cs) good.1 in
+        let up : number_of cs s.lo < number_of cs s.hi = number_up cs (corners_rise layer) s.lo s.hi there.0 there.1 good.0 in
+        let within : number_of cs s.hi < length cs = number_fits cs (corners_rise layer) s.hi there.1 in
+        let here : source_of t n ≡ numbered_ends layer s = get_or-map (λ (e : Edge). numbered_ends layer (source_in cut layer e)) pieces n d (0, 0) fits in
+        subst (λ (ends : ℕ × ℕ). (ends.0 < ends.1) × (ends.1 < length cs)) (sym here) (up, within)
+
     -- the table of a layer is a table
     pub is_table : IsTable t
     unfolding table_by
@@ -137,6 +177,8 @@ module _ (cut : Edge → List Edge) (layer : List Rings) where
       goes_up = ends_go_up;
       marks_fit = as_many_marks ∙ sym as_many_ends;
       marks_rise = rows_rise;
+      sources_fit = as_many_sources ∙ sym as_many_ends;
+      sources_go_up = sources_up;
     }
 
     -- edge k ends at corner c where the piece has the corner's point as an end

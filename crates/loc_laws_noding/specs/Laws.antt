@@ -9,6 +9,8 @@
 --   AreEven                           every feature has each point as an end an even number of times
 --   NodedTable, NodedEven, NodedMarks the noded table is one, marks are even, and by its marks it has what the rings have
 --   NodedCount, NodedMarked           it has no more edges and marks than there are pieces, and marks no more features than there are; every edge has a mark
+--   NodedSources                      both ends of every edge of the noded table lie on its source
+--   PlainSources                      in the plain table each edge is its own source
 --   NeverTouch, PlainIsNoded          no two of its edges touch; where no two plain edges conflict it is the plain table
 use Rattle.std.specs.Prelude.{◌≡◌, ◌≢◌, ℕ, ◌<◌, ◌≤◌, Bool, true, false, ◌&&◌, List, [], ◌∷◌, length, get_or, sum_by, IsTrue}
 use Rattle.std.specs.List.{list_any, list_all, flat_map}
@@ -17,7 +19,7 @@ use Rattle.loc_spec_plane.specs.Lists.{is_rising, odd_many}
 use Rattle.loc_spec_plane.specs.Rays.{crosses_right}
 use Rattle.loc_spec_plane.specs.Rings.{Rings, segments, touches, covers}
 use Rattle.loc_spec_plane.specs.Covers.{feature_count}
-use Rattle.loc_spec_plane.specs.Tables.{IsTable, AllEnds, AllEven, NoConflict, cut_at, edge, noded_table_of, piece_count, table_of, touches_by_marks, covers_by_marks, whole}
+use Rattle.loc_spec_plane.specs.Tables.{IsTable, AllEnds, AllEven, NoConflict, cut_at, edge, is_on_source, noded_table_of, piece_count, table_of, touches_by_marks, covers_by_marks, whole}
 
 -- the edge goes up
 abbrev pub goes_up : Edge → Bool
@@ -105,6 +107,14 @@ NodedCount = (layer : List Rings)
 -- every edge has a mark
 abbrev pub NodedMarked : Type 0
 NodedMarked = (layer : List Rings) (e : ℕ) → e < length (noded_table_of layer).ends → get_or (noded_table_of layer).marks e [] ≢ []
+
+-- both ends of every edge of the noded table lie on its source
+abbrev pub NodedSources : Type 0
+NodedSources = (layer : List Rings) (e : ℕ) → e < length (noded_table_of layer).ends → IsTrue (is_on_source (noded_table_of layer) e)
+
+-- in the plain table each edge is its own source
+abbrev pub PlainSources : Type 0
+PlainSources = (layer : List Rings) → (table_of layer).sources ≡ (table_of layer).ends
 
 -- no two edges of the noded table touch
 abbrev pub NeverTouch : Type 0

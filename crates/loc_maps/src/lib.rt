@@ -12,6 +12,6 @@ mod sweeping;
 pub use checking::check;
 pub use laws::check_law;
 pub use maps::read_layer_file;
-pub use plane::{Plane, judge, judge_over};
+pub use plane::{Plane, judge, judge_layer, judge_over};
 pub use statuses::FreshStatus;
 pub use sweeping::{SweptTable, layer_table, sweep_layer, sweep_table};

@@ -1,9 +1,9 @@
 -- Pieces sorted by their edges and then by their features: the features of an edge stand as they do in the layer.
-use Rattle.std.proofs.Common.{◌≡◌, ℕ, suc, ◌+◌, ◌<◌, ◌≤◌, Bool, true, false, cond, not, ◌&&◌, ◌||◌, List, [], ◌∷◌, ◌++◌, length, get_or, map, refl, sym, ◌∙◌, ap, ap₂, subst, inl, inr, arith, Ordering, Less, Equal, Greater}
+use Rattle.std.proofs.Common.{◌≡◌, ℕ, suc, ◌+◌, ◌<◌, ◌≤◌, Bool, true, false, cond, not, ◌&&◌, ◌||◌, List, [], ◌∷◌, ◌++◌, length, get_or, map, refl, sym, ◌∙◌, ap, ap₂, inl, inr, arith, Ordering, Less, Equal, Greater}
 use Rattle.std.specs.Prelude.{◌==◌, nat_lt, filter, count_by, sum_by}
 use Rattle.std.specs.Cmp.{IsTotalOrder}
 use Rattle.std.specs.List.{list_all, list_any, flat_map}
-use Rattle.std.specs.List.Sorted.{IsPermutation, IsSorted, IsSortedBy, IsSortedByKey}
+use Rattle.std.specs.List.Sorted.{IsPermutation, IsSorted, IsSortedByKey}
 use Rattle.std.specs.Ordering.{is_lt, nat_cmp, ordering_then}
 use Rattle.std.proofs.lemmas.Bool.{and_from, and_parts, both_ways, cases_Bool, cases_lt, cases_order, cond-true, cond-false, eq-eqb, le-ltb, lt-ltb, ne_eqb, not-true, not_from_false}
 use Rattle.std.proofs.lemmas.Cmp.{by_ranked, nat_cmp_total, on_total, then_total}
@@ -13,7 +13,7 @@ use Rattle.std.proofs.lemmas.List.Sums.{list_all-from_AllPass, sum_by-append, su
 use Rattle.loc_spec_plane.specs.Points.{Point, Edge, edge_before, same_edge}
 use Rattle.loc_spec_plane.specs.Lists.{is_rising, sorted_set}
 use Rattle.loc_spec_plane.specs.Rings.{Rings, segments}
-use Rattle.loc_spec_plane.specs.Tables.{cut_at, layer_corners, layer_segments, pieces_of}
+use Rattle.loc_spec_plane.specs.Tables.{cut_at, layer_corners, layer_segments, numbered_ends, pieces_of, source_in}
 use Rattle.loc_laws_order.proofs.Kept.{rising_kept}
 use Rattle.loc_laws_order.proofs.Tests.{same_edge_decides}
 use Rattle.loc_laws_noding.proofs.Noded.{cutting_noded}
@@ -22,7 +22,7 @@ use Rattle.loc_laws_noding.proofs.SortedSet.{irrefl, same-sorted_set}
 use Rattle.loc_edges.specs.Layers.{AreOfLayer}
 use Rattle.loc_edges.specs.Tagged.{features_of, segments_in, tagged_by, tagged_from, tagged_pieces}
 use Rattle.loc_edges.proofs.MarkRows.{features_of-append}
-use Rattle.loc_edges.proofs.Tagged.{segments_in-pieces}
+use Rattle.loc_edges.proofs.Tagged.{in_order as edges_in_order, segments_in-pieces}
 use Rattle.loc_node.specs.Pieces.{cut_tagged}
 use Rattle.loc_node.proofs.Cutting.{cut_layer, own}
 
@@ -77,10 +77,10 @@ one_list (x ∷ xs) (y ∷ ys) h k same =
 abbrev pub piece_cmp : Edge × ℕ → Edge × ℕ → Ordering
 piece_cmp a b = ordering_then (edge_cmp a.0 b.0) (nat_cmp a.1 b.1)
 
-piece_total : IsTotalOrder piece_cmp
+pub piece_total : IsTotalOrder piece_cmp
 piece_total = then_total (on_total (λ (t : Edge × ℕ). t.0) edges_by_before.total) (on_total (λ (t : Edge × ℕ). t.1) nat_cmp_total)
 
-first_not_less : (r s : Ordering) → is_lt (ordering_then r s) ≡ false → is_lt r ≡ false
+pub first_not_less : (r s : Ordering) → is_lt (ordering_then r s) ≡ false → is_lt r ≡ false
 first_not_less Less s h = h
 first_not_less Equal s h = refl
 first_not_less Greater s h = refl
@@ -112,7 +112,7 @@ module _ (e : Edge) where
   abbrev is_of : Edge × ℕ → Bool
   is_of t = same_edge e t.0
 
-  edge_ties : (d : Edge) → edge_cmp d d ≡ Equal
+  pub edge_ties : (d : Edge) → edge_cmp d d ≡ Equal
   edge_ties d = by_ranked _ _ _ (edge_cmp d d) (edges_by_before.ranked d d) (λ _ lt. absurd (both_ways _ (irrefl edges_by_before d) lt)) (λ is _. is) (λ _ gt. absurd (both_ways _ (irrefl edges_by_before d) gt))
 
   -- of two pieces that are e the later has no lesser feature
@@ -225,18 +225,17 @@ module _ (cut : Edge → List Edge) (layer : List Rings) (tagged pieces : List (
       (λ p. count_features e p pieces ∙ (same_counts (λ (t : Edge × ℕ). same_edge e t.0 && p t.1) ∙ sym (count_features e p (tagged_pieces cut 0 layer))))
 
 -- the lists of a layer whose segments are cut at the corners on them, as they are made one from another
-pub noded_lists : (layer : List Rings) (corners cs : List Point) (tagged pieces ps : List (Edge × ℕ)) (edges : List Edge)
-    → corners ≡ layer_corners layer → cs ≡ corners → IsPermutation (tagged_from 0 layer) tagged → IsPermutation (cut_tagged (cut_at cs) tagged) pieces → IsSortedBy edge_before (segments_in pieces)
-    → ((l : List Rings) → IsPermutation (tagged_from 0 l) tagged → (e : Edge) → features_of pieces e ≡ features_of (tagged_pieces (cut_at cs) 0 l) e)
-    → ps ≡ pieces → edges ≡ sorted_set edge_before (segments_in ps) → AreOfLayer (cut_at (layer_corners layer)) layer corners edges pieces
-noded_lists layer corners cs tagged pieces ps edges corners_are cs_are from moved in_order features ps_are edges_are =
-    let same : cs ≡ layer_corners layer = cs_are ∙ corners_are in
-    let distinct = pieces_stay (cut_at (layer_corners layer)) layer tagged pieces from (subst (λ ks. IsPermutation (cut_tagged (cut_at ks) tagged) pieces) same moved) in
-    record {
-      is_cutting = cutting_noded layer;
-      corners_are = corners_are;
-      edges_are = edges_are ∙ (ap (λ ts. sorted_set edge_before (segments_in ts)) ps_are ∙ distinct);
-      in_order = in_order;
-      distinct = distinct;
-      features = λ e. features layer from e ∙ ap (λ ks. features_of (tagged_pieces (cut_at ks) 0 layer) e) same;
-    }
+pub noded_lists : (layer : List Rings) (corners : List Point) (tagged pieces : List (Edge × ℕ)) (edges : List Edge) (ends sources : List (ℕ × ℕ))
+    → corners ≡ layer_corners layer → IsPermutation (tagged_from 0 layer) tagged → IsPermutation (cut_tagged (cut_at (layer_corners layer)) tagged) pieces → IsSorted piece_cmp pieces
+    → edges ≡ pieces_of (cut_at (layer_corners layer)) layer → ends ≡ map (numbered_ends layer) (pieces_of (cut_at (layer_corners layer)) layer) → sources ≡ map (λ (e : Edge). numbered_ends layer (source_in (cut_at (layer_corners layer)) layer e)) (pieces_of (cut_at (layer_corners layer)) layer)
+    → AreOfLayer (cut_at (layer_corners layer)) layer corners edges ends sources pieces
+noded_lists layer corners tagged pieces edges ends sources corners_are from moved sorted edges_are ends_are sources_are = record {
+  is_cutting = cutting_noded layer;
+  corners_are = corners_are;
+  edges_are = edges_are;
+  ends_are = ends_are;
+  sources_are = sources_are;
+  in_order = edges_in_order pieces (by_edge_first pieces sorted);
+  distinct = pieces_stay (cut_at (layer_corners layer)) layer tagged pieces from moved;
+  features = features_sorted (cut_at (layer_corners layer)) layer tagged pieces from moved sorted;
+}

@@ -1,7 +1,7 @@
--- The pieces of tagged segments, and how many a layer may have. The words: `cut_tagged`, `most_pieces`, `IsRefused`.
-use Rattle.std.specs.Prelude.{ℕ, ◌<◌, List}
-use Rattle.std.specs.List.{flat_map}
-use Rattle.loc_spec_plane.specs.Points.{Edge}
+-- The pieces of tagged segments, and how many a layer may have. The words: `cut_tagged`, `placed_from`, `piece_before`, `with_feature`, `first_with`, `most_pieces`, `IsRefused`.
+use Rattle.std.specs.Prelude.{ℕ, ◌<◌, nat_lt, Bool, ◌&&◌, ◌||◌, List, map, find, unwrap_or, slice_index_or}
+use Rattle.std.specs.List.{flat_map, list_any, enumerate_from}
+use Rattle.loc_spec_plane.specs.Points.{Edge, edge_before, same_edge}
 use Rattle.loc_edges.specs.Tagged.{tagged_by}
 use Rattle.loc_node.specs.declared.fault.NodeFault.{NodeFault}
 use Rattle.loc_node.specs.declared.fault.NodeFault.TheVariants.{ManyPieces, NoMemory}
@@ -10,9 +10,25 @@ use Rattle.loc_node.specs.declared.fault.NodeFault.TheVariants.{ManyPieces, NoMe
 abbrev pub cut_tagged : (Edge → List Edge) → List (Edge × ℕ) → List (Edge × ℕ)
 cut_tagged cut tagged = flat_map (λ (t : Edge × ℕ). tagged_by t.1 (cut t.0)) tagged
 
+-- the segments, each with its place in place of its feature, where the first has this place
+abbrev pub placed_from : ℕ → List (Edge × ℕ) → List (Edge × ℕ)
+placed_from first tagged = map (λ (numbered : ℕ × (Edge × ℕ)). (numbered.1.0, numbered.0)) (enumerate_from first tagged)
+
+-- pieces are ordered by their edges, and those of an edge by their numbers
+abbrev pub piece_before : Edge × ℕ → Edge × ℕ → Bool
+piece_before a b = edge_before a.0 b.0 || (same_edge a.0 b.0 && nat_lt a.1 b.1)
+
+-- the piece with the feature of the segment at its place
+abbrev pub with_feature : List (Edge × ℕ) → Edge × ℕ → Edge × ℕ
+with_feature tagged p = (p.0, (slice_index_or tagged p.1 p).1)
+
+-- the first of the segments that has the edge as a piece
+abbrev pub first_with : (Edge → List Edge) → List Edge → Edge → Edge
+first_with cut ss e = unwrap_or (find (λ s. list_any (same_edge e) (cut s)) ss) e
+
 -- how many pieces the segments of a layer may have together
 abbrev pub most_pieces : ℕ
-most_pieces = 1048576
+most_pieces = 2097152
 
 -- why segments with so many pieces are refused; want of memory may come at any time
 abbrev pub IsRefused : ℕ → NodeFault → Type 0

@@ -14,8 +14,8 @@ ghost use Rattle.loc_edges.specs.Tagged.{segments_in};
 ghost use Rattle.loc_node.specs.Pieces.{IsRefused, most_pieces};
 
 use crate::fault::NodeFault;
-use crate::pieces::sorted_pieces;
-use loc_edges::{EdgeTable, corners_between, distinct_edges, sorted_segments};
+use crate::pieces::{featured_pieces, placed_pieces, sources};
+use loc_edges::{EdgeTable, corners_between, distinct_edges, numbered_ends, sorted_segments};
 use loc_geom::{Edge, Point};
 use loc_rings::{Feature, Layer};
 use std::alloc::{AllocError, Global};
@@ -39,13 +39,18 @@ fn noded_table(alloc: Global, features: &[Feature]) -> Result<EdgeTable, NodeFau
 {
     let tagged = sorted_segments(alloc, features)?;
     let corners = corners_of(alloc, &tagged)?;
-    let pieces = sorted_pieces(alloc, &corners, tagged)?;
-    let edges = distinct_edges(alloc, &pieces)?;
-    Ok(EdgeTable::of_tagged(alloc, corners, edges, pieces)?)
+    let placed = placed_pieces(alloc, &corners, &tagged)?;
+    let edges = distinct_edges(alloc, &placed)?;
+    let ends = numbered_ends(alloc, &corners, &edges)?;
+    let segments = sources(alloc, &tagged, &placed)?;
+    let sources = numbered_ends(alloc, &corners, &segments)?;
+    let pieces = featured_pieces(placed, &tagged);
+    Ok(EdgeTable::of_tagged(alloc, corners, edges, ends, sources, pieces)?)
 }
 
-/// The noded table of a layer: its corners, and as edges the pieces of its segments, each of which is cut at the corners on it. It is refused
-/// exactly where the pieces of all segments are more than 1,048,576, want of memory aside. No two of its edges touch; by its marks it touches
+/// The noded table of a layer: its corners, and as edges the pieces of its segments, each of which is cut at the corners on it. The
+/// source of an edge is the least segment that has it as a piece. It is refused
+/// exactly where the pieces of all segments are more than 2,097,152, want of memory aside. No two of its edges touch; by its marks it touches
 /// and covers what the layer touches and covers by its rings.
 pub fn node(alloc: Global, layer: &Layer) -> Result<EdgeTable, NodeFault>
     ensures ok { IfOk result (λ table. table ≡ noded_table_of (layer_rings layer.now)) }

@@ -1,13 +1,12 @@
-// The pieces of tagged segments.
+// The pieces of tagged segments, and the first segment of each.
 
-ghost use Rattle.std.specs.Prelude.{◌≡◌, ℕ, ◌<◌, ◌≤◌, ◌+◌, ◌-◌, ◌++◌, List, true, length, slice_index_or, IsTrue, IfOk, IfErr, OnOk};
+ghost use Rattle.std.specs.Prelude.{◌≡◌, ℕ, ◌<◌, ◌≤◌, ◌+◌, ◌-◌, ◌++◌, List, false, length, map, slice_index_or, All, IsTrue, IfOk, IfErr, OnOk};
 ghost use Rattle.std.specs.List.Sorted.{IsPermutation, IsSortedBy};
-ghost use Rattle.loc_spec_plane.specs.Points.{Edge as EdgeOf, before, edge_before};
-ghost use Rattle.loc_spec_plane.specs.Lists.{is_rising};
-ghost use Rattle.loc_spec_plane.specs.Rings.{Rings};
+ghost use Rattle.loc_spec_plane.specs.Points.{Edge as EdgeOf, before, edge_before, same_edge};
+ghost use Rattle.loc_spec_plane.specs.Lists.{is_rising, sorted_set};
 ghost use Rattle.loc_spec_plane.specs.Tables.{cut_at};
-ghost use Rattle.loc_edges.specs.Tagged.{features_of, segments_in, tagged_by, tagged_from, tagged_pieces};
-ghost use Rattle.loc_node.specs.Pieces.{IsRefused, cut_tagged, most_pieces};
+ghost use Rattle.loc_edges.specs.Tagged.{segments_in, tagged_by};
+ghost use Rattle.loc_node.specs.Pieces.{IsRefused, cut_tagged, first_with, most_pieces, piece_before, placed_from, with_feature};
 
 use crate::fault::NodeFault;
 use crate::finder::Finder;
@@ -16,7 +15,7 @@ use loc_geom::{Edge, Point};
 use std::alloc::{AllocError, Global};
 
 // How many pieces the segments of a layer may have together.
-const MOST_PIECES: usize = 1_048_576;
+const MOST_PIECES: usize = 2_097_152;
 
 // Puts the pieces of a segment of a feature behind the others.
 fn put_pieces(
@@ -52,7 +51,8 @@ fn add_pieces(
 // Whether the segment at place n is the edge that the one before it is.
 pub(crate) fn is_again(tagged: &[(Edge, usize)], n: usize) -> bool
     requires in_range { n < length tagged.now }
-    ensures { result ≡ true → (0 < n) × ((d : EdgeOf × ℕ) → (slice_index_or tagged.now n d).0 ≡ (slice_index_or tagged.now (n - 1) d).0) }
+    ensures first { n ≡ 0 → result ≡ false }
+    ensures later { 0 < n → (d : EdgeOf × ℕ) → result ≡ same_edge (slice_index_or tagged.now n d).0 (slice_index_or tagged.now (n - 1) d).0 }
 {
     n > 0 && tagged[n].0 == tagged[n - 1].0
 }
@@ -75,13 +75,13 @@ fn cut_next(
     finder.cut(pieces, found, tagged[n].0)
 }
 
-// The pieces of all segments, each with the number of its feature. They are refused where they are too many.
+// The pieces of all segments, each with the place of its segment. They are refused where they are too many.
 fn cut_all(
     alloc: Global,
     finder: &Finder,
     tagged: &[(Edge, usize)],
 ) -> Result<Vec<(Edge, usize)>, NodeFault>
-    ensures ok { IfOk result (λ all. all.items ≡ cut_tagged (cut_at finder.now) tagged.now) }
+    ensures ok { IfOk result (λ all. all.items ≡ cut_tagged (cut_at finder.now) (placed_from 0 tagged.now)) }
     ensures few { IfOk result (λ all. length all.items ≤ most_pieces) }
     ensures refused { IfErr result (IsRefused (length (cut_tagged (cut_at finder.now) tagged.now))) }
 {
@@ -90,28 +90,71 @@ fn cut_all(
     let mut found = Vec::new(alloc);
     for n in 0..tagged.len() {
         cut_next(finder, &mut pieces, &mut found, tagged, n)?;
-        add_pieces(&mut all, &pieces, tagged[n].1)?;
+        add_pieces(&mut all, &pieces, n)?;
     }
     Ok(all)
 }
 
-/// The pieces of all segments, cut at the corners on them, in order, those of an edge in the order of their features. They are refused where they
-/// are too many.
-pub(crate) fn sorted_pieces(
+/// The pieces of all segments, cut at the corners on them, in order, those of an edge in the order of their segments. Each has the place of its
+/// segment. They are refused where they are too many.
+pub(crate) fn placed_pieces(
     alloc: Global,
     corners: &[Point],
-    tagged: Vec<(Edge, usize)>,
+    tagged: &[(Edge, usize)],
 ) -> Result<Vec<(Edge, usize)>, NodeFault>
     requires rise { IsTrue (is_rising before corners.now) }
-    ensures moved { IfOk result (λ pieces. IsPermutation (cut_tagged (cut_at corners.now) tagged.items) pieces.items) }
-    ensures in_order { IfOk result (λ pieces. IsSortedBy edge_before (segments_in pieces.items)) }
-    ensures features { IfOk result (λ pieces. (layer : List Rings) → IsPermutation (tagged_from 0 layer) tagged.items → (e : EdgeOf) → features_of pieces.items e ≡ features_of (tagged_pieces (cut_at corners.now) 0 layer) e) }
+    ensures moved { IfOk result (λ pieces. IsPermutation (cut_tagged (cut_at corners.now) (placed_from 0 tagged.now)) pieces.items) }
+    ensures in_order { IfOk result (λ pieces. IsSortedBy piece_before pieces.items) }
     ensures few { IfOk result (λ pieces. length pieces.items ≤ most_pieces) }
-    ensures refused { IfErr result (IsRefused (length (cut_tagged (cut_at corners.now) tagged.items))) }
+    ensures refused { IfErr result (IsRefused (length (cut_tagged (cut_at corners.now) tagged.now))) }
 {
-    let guides = guides(alloc, corners, &tagged)?;
+    let guides = guides(alloc, corners, tagged)?;
     let finder = Finder::make(alloc, corners, &guides)?;
-    let mut pieces = cut_all(alloc, &finder, &tagged)?;
+    let mut pieces = cut_all(alloc, &finder, tagged)?;
     pieces.sort_unstable();
     Ok(pieces)
+}
+
+/// The source of each edge of the pieces, in order: the first of the segments that have it as a piece.
+pub(crate) fn sources(
+    alloc: Global,
+    tagged: &[(Edge, usize)],
+    pieces: &[(Edge, usize)],
+) -> Result<Vec<Edge>, AllocError>
+    requires in_range { All (λ (p : EdgeOf × ℕ). p.1 < length tagged.now) pieces.now }
+    requires in_order { IsSortedBy piece_before pieces.now }
+    ensures { IfOk result (λ sources. (cut : EdgeOf → List EdgeOf) → IsPermutation (cut_tagged cut (placed_from 0 tagged.now)) pieces.now → sources.items ≡ map (first_with cut (segments_in tagged.now)) (sorted_set edge_before (segments_in pieces.now))) }
+{
+    let mut sources = Vec::new(alloc);
+    for n in 0..pieces.len() {
+        if !is_again(pieces, n) {
+            sources.push(tagged[pieces[n].1].0)?;
+        }
+    }
+    sources.shrink_to_fit();
+    Ok(sources)
+}
+
+// Puts the features of the segments in the place of their places.
+fn put_features(pieces: &mut [(Edge, usize)], tagged: &[(Edge, usize)])
+    requires in_range { All (λ (p : EdgeOf × ℕ). p.1 < length tagged.now) pieces.old }
+    ensures { pieces.new ≡ map (with_feature tagged.now) pieces.old }
+{
+    for n in 0..pieces.len() {
+        pieces[n].1 = tagged[pieces[n].1].1;
+    }
+}
+
+/// The pieces with the features of their segments in place of their places, in order, those of an edge in the order of their features.
+pub(crate) fn featured_pieces(
+    mut pieces: Vec<(Edge, usize)>,
+    tagged: &[(Edge, usize)],
+) -> Vec<(Edge, usize)>
+    requires in_range { All (λ (p : EdgeOf × ℕ). p.1 < length tagged.now) pieces.items }
+    ensures moved { IsPermutation (map (with_feature tagged.now) pieces.items) result.items }
+    ensures in_order { IsSortedBy piece_before result.items }
+{
+    put_features(&mut pieces, tagged);
+    pieces.sort_unstable();
+    pieces
 }

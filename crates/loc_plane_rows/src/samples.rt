@@ -9,17 +9,6 @@ use std::test::Fail;
 /// The features of a layer, each by its text.
 pub(crate) type Features = &'static [&'static [u8]];
 
-/// The greatest coordinate.
-pub(crate) const FAR: i64 = 1_000_000_000_000_000_000;
-
-pub(crate) const SQUARE: &[u8] = b"POLYGON ((0 0, 4 0, 4 4, 0 4, 0 0))";
-
-/// A lower rectangle right of the square.
-pub(crate) const BESIDE: &[u8] = b"POLYGON ((4 0, 6 0, 6 2, 4 2, 4 0))";
-
-/// One edge, there and back.
-pub(crate) const BACK: &[u8] = b"POLYGON ((4 -1, 0 0, 0 0, 4 -1))";
-
 /// A point by its coordinates.
 pub(crate) fn point_of(x: i64, y: i64) -> Result<Point, Fail> {
     Ok(Point::new(x, y).ok_or("off the grid")?)

@@ -1,26 +1,22 @@
 -- The answers to a spans text as the end of a command.
-use Rattle.std.proofs.Common.{◌≡◌, ℕ, ◌+◌, ◌≤◌, Option, Some, None, Result, Ok, Err, refl, subst}
+use Rattle.std.proofs.Common.{◌≡◌, ℕ, ◌+◌, ◌≤◌, Option, Some, None, Result, Ok, Err, subst}
 use Rattle.loc_io.specs.Meaning.{Meaning}
 use Rattle.loc_io.specs.Streams.{Stream, TakesAll}
 use Rattle.loc_spec_plane.specs.Tables.{Table}
 use Rattle.loc_spec_text.specs.Bytes.{Text}
 use Rattle.loc_course.specs.Courses.{Stopped, unwritten}
-use Rattle.loc_course.specs.Following.{Follows, Moment, moment, searches_by, writes_by}
-use Rattle.loc_course.proofs.Told.{exactly_it}
+use Rattle.loc_course.specs.Following.{Follows, Moment, moment, searches_by}
+use Rattle.loc_course.proofs.Taken.{cut, done}
 use Rattle.loc_reach.specs.SpanCourses.{answered_course, met_output, text_steps}
 
 module _ (scale : ℕ) (t : Table) (text : Text) (shelf : Meaning) (o m : Stream) (k l : ℕ) (up : k ≤ l) (within : l ≤ k + text_steps scale t text) where
   -- all was written
   pub written : {T E : Type 0} (r : Result T E) (x : T) → r ≡ Ok x → TakesAll (met_output scale t text) o m r → Follows (answered_course scale t text) (moment shelf o k) (moment shelf m l) None
-  written r x is takes =
-      let took = subst (λ r. TakesAll (met_output scale t text) o m r) is takes in
-      searches_by l up within (writes_by (met_output scale t text) m (exactly_it (met_output scale t text) (met_output scale t text) refl) (record { wrote = (took.ok, took.cause.steady); in_time = took.in_time }))
+  written r x is takes = searches_by l up within (done (met_output scale t text) shelf l o m r x is takes)
 
   -- a write failed
-  pub cut : {T E : Type 0} (r : Result T E) (e : E) → r ≡ Err e → TakesAll (met_output scale t text) o m r → Follows (answered_course scale t text) (moment shelf o k) (moment shelf m l) (Some unwritten)
-  cut r e is takes =
-      let failed = subst (λ r. TakesAll (met_output scale t text) o m r) is takes in
-      searches_by l up within (writes_by (met_output scale t text) m (exactly_it (met_output scale t text) (met_output scale t text) refl) (record { wrote = (failed.err, failed.cause.failed); in_time = failed.in_time }))
+  pub failed : {T E : Type 0} (r : Result T E) (e : E) → r ≡ Err e → TakesAll (met_output scale t text) o m r → Follows (answered_course scale t text) (moment shelf o k) (moment shelf m l) (Some unwritten)
+  failed r e is takes = searches_by l up within (cut (met_output scale t text) shelf l o m r e is takes)
 
 -- the same by the decimals of a scale, by the table that views show, and by the bytes of a text
 pub same_course : {s scale : ℕ} {u t : Table} {x text : Text} {m n : Moment} {end : Option Stopped} → s ≡ scale → u ≡ t → x ≡ text → Follows (answered_course s u x) m n end → Follows (answered_course scale t text) m n end

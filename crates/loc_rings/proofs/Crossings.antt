@@ -1,8 +1,7 @@
 -- The ray against one segment, by the side of the point.
-use Rattle.std.proofs.Common.{◌≡◌, Bool, true, false, ◌&&◌, ◌||◌, [], ◌∷◌, Some, refl, sym, ◌∙◌, ap, subst, arith, pos, ◌-ℤ◌, int_lt, int_le, inl, inr}
+use Rattle.std.proofs.Common.{◌≡◌, Bool, true, false, ◌&&◌, ◌||◌, [], ◌∷◌, Some, refl, sym, ◌∙◌, ap, subst, arith, pos, int_lt, int_le, inl, inr}
 use Rattle.std.proofs.lemmas.Int.{ints}
 use Rattle.std.proofs.lemmas.Bool.{cases_Bool, cond-false, false_from_ne_true, both_ways, or_from, not_from_false}
-use Rattle.loc_algebra.proofs.Ring.{ring, variable, number, minus, times}
 use Rattle.loc_spec_plane.specs.Points.{Point, Edge, turn, same_point, is_above, is_on, is_below, lies_on}
 use Rattle.loc_spec_plane.specs.Rays.{crosses_right}
 use Rattle.loc_spec_plane.specs.Rings.{ring_segments, segment_between}

@@ -1,3 +1,4 @@
+pub mod Lone
 pub mod Crossings
 pub mod Passes
 pub mod RingLists

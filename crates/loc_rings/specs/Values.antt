@@ -1,4 +1,4 @@
--- Rings, polygons and features as values. The words: `IsRing`, `with_ring`, `rings_before`, `cut_into`, `most_id_bytes`, `Feature`, `rings_of`.
+-- Rings, polygons and features as values. The words: `IsRing`, `with_ring`, `rings_before`, `cut_into`, `most_id_bytes`, `Feature`, `rings_of`, `unnamed`.
 use Rattle.std.specs.Prelude.{◌≡◌, ℕ, ◌-◌, ◌≤◌, List, [], ◌∷◌, ◌++◌, length, take, drop, slice_get}
 use Rattle.loc_spec_plane.specs.Rings.{Ring, Rings}
 use Rattle.loc_spec_text.specs.Reading.{Polygons, all_rings}
@@ -36,3 +36,7 @@ pub record Feature : Type 0 where
 -- the rings of a feature: those of its polygons
 abbrev pub rings_of : Feature → Rings
 rings_of feature = all_rings feature.polygons
+
+-- a feature without an id that has these rings as its one polygon
+abbrev pub unnamed : Rings → Feature
+unnamed rings = record { id = []; polygons = rings ∷ [] }

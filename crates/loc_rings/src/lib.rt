@@ -1,6 +1,7 @@
 //! Features as rings of points, and which points a feature touches and covers, by looking at every segment.
 #![tactic(auto)]
 
+mod alone;
 mod containment;
 mod features;
 mod layers;

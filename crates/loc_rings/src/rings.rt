@@ -108,6 +108,7 @@ impl Rings {
         ensures past { result.1 ≡ rings_before self.now (n + 1) }
         ensures in_order { result.0 ≤ result.1 }
         ensures within { result.1 ≤ length (all_rings self.now) }
+        ensures few { result.1 ≤ 2 ^ 28 }
     {
         let first = self.starts[n as usize];
         match self.starts.get(n as usize + 1) {

@@ -28,11 +28,12 @@ use std::alloc::Global;
 use std::{fs, io};
 
 // The files of rows, in the order in which they are played.
-const FILES: [&str; 11] = [
+const FILES: [&str; 12] = [
     "layers.rows",
     "words.rows",
     "faces.rows",
     "spans.rows",
+    "groups.rows",
     "texts.rows",
     "plane.rows",
     "orders.rows",

@@ -48,10 +48,10 @@ fn put_steps(text: &mut String, count: u64) -> Result<(), AllocError>
     text.push_str(", 0 0))\n")
 }
 
-// A ring of one point fewer than so many, an even number: the two ends of that line by turns.
+// A ring of one point fewer than twice so many: the two ends of that line by turns.
 fn put_turns(text: &mut String, count: u64) -> Result<(), AllocError> {
     text.push_str("POLYGON ((0 0")?;
-    for _ in 1..count / 2 {
+    for _ in 1..count {
         write!(text, ", {count} 0, 0 0")?;
     }
     text.push_str("))\n")

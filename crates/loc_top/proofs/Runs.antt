@@ -3,8 +3,8 @@ use Rattle.std.proofs.Common.{◌≡◌, ◌≢◌, ◌⊎◌, ℕ, ◌≤◌, a
 use Rattle.std.specs.Prelude.{IfSome, option_and_then, option_map}
 use Rattle.loc_spec_text.specs.Bytes.{Text}
 use Rattle.loc_io.specs.Meaning.{KeepsFiles}
-use Rattle.loc_io.specs.Streams.{Stream}
-use Rattle.loc_words.specs.Words.{Asked, query, check, build, ask, verify, face, gen, trial, stab}
+use Rattle.loc_io.specs.Streams.{InTime, Stream}
+use Rattle.loc_words.specs.Words.{Asked, query, check, build, ask, verify, face, gen, trial, stab, dissolve}
 use Rattle.loc_course.specs.Courses.{Course, no_memory}
 use Rattle.loc_course.specs.Following.{lacks}
 use Rattle.loc_course.specs.Moments.{Moment}
@@ -19,9 +19,10 @@ use Rattle.loc_maps.specs.MapCourses.{layer_file}
 use Rattle.loc_maps.proofs.Checked.{check_plain}
 use Rattle.loc_query.proofs.Headlines.{query_makes_none, query_refuses_behind}
 use Rattle.loc_face.proofs.Plainly.{face_plain}
+use Rattle.loc_groups.proofs.Plainly.{dissolve_plain}
 use Rattle.loc_reach.proofs.Plainly.{stab_plain}
 use Rattle.loc_trial.proofs.Plain.{gen_plain, trial_plain}
-use Rattle.loc_top.specs.Run.{FilesOf, OutOf, Ran, RefusesPoints, RefusesWords, WritesFail, course_by, made_by}
+use Rattle.loc_top.specs.Run.{FilesOf, OutOf, Ran, RefusesPoints, RefusesWords, RunSentences, WritesFail, course_by, made_by}
 
 -- a command makes no file but this, and by these lines alone it refuses a file whose lines it answers
 pub record IsAnswering (made : Option Text) (c : Course) : Type 0 where
@@ -47,6 +48,7 @@ answering (face asked) = plain_answering None (course_by (face asked)) (face_pla
 answering (gen asked) = plain_answering None (course_by (gen asked)) (gen_plain asked.kind asked.n asked.shift)
 answering (trial asked) = plain_answering None (course_by (trial asked)) (trial_plain asked.index asked.kind asked.n asked.shift)
 answering (stab asked) = plain_answering None (course_by (stab asked)) (stab_plain (layer_file asked.layer asked.form asked.scale) asked.spans)
+answering (dissolve asked) = plain_answering None (course_by (dissolve asked)) (dissolve_plain (layer_file asked.layer asked.form asked.scale))
 
 answering_of : (o : Option Asked) (c : Course) → option_map course_by o ≡ Some c → IsAnswering (option_and_then made_by o) c
 answering_of None c is = absurd (cc is)
@@ -63,7 +65,7 @@ lacks_words (Some c) old n n' status is wrote = record { end = Some no_memory; f
 
 module _ (old new : Moment) (n n' : Stream) (status : ℕ) where
   -- each sentence holds of the course of the words
-  pub of_course : (P : Course → Type 0) (o : Option Course) → Ran o old new n n' status → ((c : Course) → Sentences c old new n n' status → P c) → IfSome o P
+  of_course : (P : Course → Type 0) (o : Option Course) → Ran o old new n n' status → ((c : Course) → Sentences c old new n n' status → P c) → IfSome o P
   of_course P None ran sentence = tt
   of_course P (Some c) ran sentence = sentence c (ended_so ran)
 
@@ -76,17 +78,17 @@ module _ (old new : Moment) (n n' : Stream) (status : ℕ) where
   other k (inl two) not_two not_five is = not_two (sym is ∙ two)
   other k (inr five) not_two not_five is = not_five (sym is ∙ five)
 
-  pub reads_fail : (o : Option Course) → Ran o old new n n' status → ReadsFail old new status
+  reads_fail : (o : Option Course) → Ran o old new n n' status → ReadsFail old new status
   reads_fail o ran = of_run (λ (x : Moment). ReadsFail old x status) o ran (λ c s. s.reads_fail)
       (λ is below. (λ three. absurd (other 3 is (λ e. omega (arith, e)) (λ e. omega (arith, e)) three), λ rose. absurd (omega (arith, rose))))
 
-  pub no_count_rose : (o : Option Course) → Ran o old new n n' status → NoCountRose old new status
+  no_count_rose : (o : Option Course) → Ran o old new n n' status → NoCountRose old new status
   no_count_rose o ran = of_run (λ (x : Moment). NoCountRose old x status) o ran (λ c s. s.no_count_rose) (λ is. record { reads = λ _. refl; out = λ _. refl; files = λ _. refl })
 
-  pub in_times : (o : Option Course) → Ran o old new n n' status → InTimes old new
+  in_times : (o : Option Course) → Ran o old new n n' status → InTimes old new
   in_times o ran = of_run (λ (x : Moment). InTimes old x) o ran (λ c s. s.in_time) (λ is. record { shelf = λ _ _. refl; out = λ _. refl })
 
-  pub notes_of : (o : Option Course) → Ran o old new n n' status → Notes n n' status
+  notes_of : (o : Option Course) → Ran o old new n n' status → Notes n n' status
   notes_of (Some c) ran = (ended_so ran).notes
   notes_of None ran = elim ran.noted [
     | inl words ↦ record { done = λ e. absurd (omega (arith, e, words.0)); read = λ e. absurd (omega (arith, e, words.0)); write = λ e. absurd (omega (arith, e, words.0)); memory = λ e. absurd (omega (arith, e, words.0)) }
@@ -150,8 +152,30 @@ module _ (old new : Moment) (n n' : Stream) (status : ℕ) where
     pub files_of : FilesOf a old new status
     files_of = (kept (option_map course_by a) refl ran).0
 
-    pub out_of : OutOf (option_map course_by a) old new n n' status
+    out_of : OutOf (option_map course_by a) old new n n' status
     out_of = (kept (option_map course_by a) refl ran).1
 
-    pub writes_fail : WritesFail a old new status
+    writes_fail : WritesFail a old new status
     writes_fail = (kept (option_map course_by a) refl ran).2
+
+    -- all that holds of a run by its words
+    pub sentences_hold : InTime n n' → RunSentences a old new n n' status
+    sentences_hold late =
+        let o = option_map course_by a in
+        record {
+          done = of_course _ o ran (λ c s. s.done);
+          succeeds = of_course _ o ran (λ c s. s.succeeds);
+          refuses = of_course _ o ran (λ c s. s.refuses);
+          refuses_partly = of_course _ o ran (λ c s. s.refuses_partly);
+          refused_only = of_course _ o ran (λ c s. s.refused_only);
+          misses = of_course _ o ran (λ c s. s.misses);
+          reads_fail = reads_fail o ran;
+          writes_fail = writes_fail;
+          no_count_rose = no_count_rose o ran;
+          out = out_of;
+          names = of_course _ o ran (λ c s. s.names);
+          steps = of_course _ o ran (λ c s. s.steps);
+          in_time = in_times o ran;
+          notes = notes_of o ran;
+          notes_in_time = late;
+        }

@@ -6,18 +6,19 @@
 --   OutOf                 what stands on out
 --   AWriteFailed, WritesFail  when a write failed
 --   FilesOf               which files change
+--   OfCourse, RunSentences  what holds of the course of the words, and all that holds of a run by its words
 use Rattle.std.specs.Prelude.{◌≡◌, ◌≢◌, ◌⊎◌, ℕ, ◌-◌, ◌^◌, ◌<◌, true, List, Option, Some, None, IfSome, option_and_then, option_map, codes}
 use Rattle.loc_spec_text.specs.Bytes.{Text}
 use Rattle.loc_io.specs.Meaning.{KeepsFiles}
-use Rattle.loc_io.specs.Streams.{Stream}
+use Rattle.loc_io.specs.Streams.{InTime, Stream}
 use Rattle.loc_spec_text.specs.Points.{ended}
 use Rattle.loc_words.specs.Usage.{usage_text}
-use Rattle.loc_words.specs.Words.{Asked, query, check, build, ask, verify, face, gen, trial, stab, command_of}
+use Rattle.loc_words.specs.Words.{Asked, query, check, build, ask, verify, face, gen, trial, stab, dissolve, command_of}
 use Rattle.loc_course.specs.Courses.{Course, no_memory}
 use Rattle.loc_course.specs.Following.{IsToldAtMost}
 use Rattle.loc_course.specs.Moments.{Moment}
 use Rattle.loc_course.specs.Outcomes.{outcome}
-use Rattle.loc_course.specs.Sentences.{AtOnce, Ended, OutSo, Wrote, note_of}
+use Rattle.loc_course.specs.Sentences.{AtOnce, Counts, Done, Ended, InTimes, Misses, Names, NoCountRose, Notes, OutSo, ReadsFail, RefusedOnly, Refuses, RefusesPartly, Succeeds, Wrote, note_of}
 use Rattle.loc_answering.specs.ByLine.{deep_text}
 use Rattle.loc_indexed.specs.Building.{build_course}
 use Rattle.loc_indexed.specs.IndexedCourses.{ask_course}
@@ -25,6 +26,7 @@ use Rattle.loc_indexed.specs.Verifying.{verify_course}
 use Rattle.loc_maps.specs.MapCourses.{check_course, layer_file}
 use Rattle.loc_query.specs.QueryCourses.{query_course}
 use Rattle.loc_face.specs.FaceCourses.{face_course}
+use Rattle.loc_groups.specs.GroupCourses.{dissolve_course}
 use Rattle.loc_reach.specs.SpanCourses.{stab_course}
 use Rattle.loc_trial.specs.TrialCourses.{gen_course, trial_course}
 
@@ -39,6 +41,7 @@ course_by (face asked) = face_course (layer_file asked.layer asked.form asked.sc
 course_by (gen asked) = gen_course asked.kind asked.n asked.shift
 course_by (trial asked) = trial_course asked.index asked.kind asked.n asked.shift
 course_by (stab asked) = stab_course (layer_file asked.layer asked.form asked.scale) asked.spans
+course_by (dissolve asked) = dissolve_course (layer_file asked.layer asked.form asked.scale)
 
 -- the file that a command makes, if it makes one
 abbrev pub made_by : Asked → Option Text
@@ -95,3 +98,25 @@ pub record FilesOf (asked : Option Asked) (old new : Moment) (status : ℕ) : Ty
   -- with status 0 no file is being made that was not being made before
   pub finished : status ≡ 0 → new.shelf.is_making ≡ true → old.shelf.is_making ≡ true
   pub none : option_and_then made_by asked ≡ None → KeepsFiles old.shelf new.shelf × (new.shelf.write_faults ≡ old.shelf.write_faults)
+
+-- this holds of the course of the words, if they are a command
+abbrev pub OfCourse : Option Asked → (Course → Type 0) → Type 0
+OfCourse asked holds = IfSome (option_map course_by asked) holds
+
+-- All that holds of a run by its words: what stands on out and on notes, and when each status comes.
+pub record RunSentences (asked : Option Asked) (old new : Moment) (n n' : Stream) (status : ℕ) : Type 0 where
+  pub done : OfCourse asked (λ (c : Course). Done c old new status)
+  pub succeeds : OfCourse asked (λ (c : Course). Succeeds c old new status)
+  pub refuses : OfCourse asked (λ (c : Course). Refuses c old new n n' status)
+  pub refuses_partly : OfCourse asked (λ (c : Course). RefusesPartly c old new n n' status)
+  pub refused_only : OfCourse asked (λ (c : Course). RefusedOnly c old new n n' status)
+  pub misses : OfCourse asked (λ (c : Course). Misses c old status)
+  pub reads_fail : ReadsFail old new status
+  pub writes_fail : WritesFail asked old new status
+  pub no_count_rose : NoCountRose old new status
+  pub out : OutOf (option_map course_by asked) old new n n' status
+  pub names : OfCourse asked (λ (c : Course). Names c old new status)
+  pub steps : OfCourse asked (λ (c : Course). Counts c old new)
+  pub in_time : InTimes old new
+  pub notes : Notes n n' status
+  pub notes_in_time : InTime n n'

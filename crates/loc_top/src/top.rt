@@ -1,22 +1,21 @@
 //! The top call: the words, the command, the status and the line on notes.
 
-ghost use Rattle.std.specs.Prelude.{◌≡◌, ◌≤◌, IfSome, Some, map, string_bytes};
+ghost use Rattle.std.specs.Prelude.{◌≡◌, ◌≤◌, Some, map, string_bytes};
 ghost use Rattle.loc_io.specs.Streams.{InTime};
 ghost use Rattle.loc_words.specs.Words.{AskedAsk, AskedBuild, AskedQuery, AskedStab, AskedVerify, ask, build, command_of, query, stab, verify};
-ghost use Rattle.loc_course.specs.Courses.{Course};
 ghost use Rattle.loc_course.specs.Moments.{moment};
-ghost use Rattle.loc_course.specs.Sentences.{Counts, Done, InTimes, Misses, Names, NoCountRose, Notes, ReadsFail, RefusedOnly, Refuses, RefusesPartly, Succeeds};
 ghost use Rattle.loc_indexed.specs.Asks.{Asks};
 ghost use Rattle.loc_indexed.specs.Builds.{Builds, Built};
 ghost use Rattle.loc_indexed.specs.Verifies.{Judged, Verifies};
 ghost use Rattle.loc_maps.specs.MapCourses.{layer_file};
 ghost use Rattle.loc_query.specs.Headline.{Headline};
 ghost use Rattle.loc_reach.specs.Stabs.{Stabs};
-ghost use Rattle.loc_top.specs.Run.{FilesOf, OutOf, Ran, RefusesWords, WritesFail, course_of};
+ghost use Rattle.loc_top.specs.Run.{FilesOf, Ran, RefusesWords, RunSentences, course_of};
 
 use loc_course::{Scale, Stop, report, write_text};
 use loc_face::face;
 use loc_geom::Steps;
+use loc_groups::dissolve;
 use loc_indexed::{ask, build, verify};
 use loc_io::{Shelf, Sink};
 use loc_maps::check;
@@ -36,7 +35,9 @@ fn run_course<F: Shelf, O: Sink, N: Sink, L: Ledger>(
     notes: &mut N,
     steps: &mut Steps<L>,
 ) -> u8
-    ensures ran { Ran (course_of (map string_bytes words.now)) (moment (F.meaning shelf.old) (O.meaning out.old) steps.old) (moment (F.meaning shelf.new) (O.meaning out.new) steps.new) (N.meaning notes.old) (N.meaning notes.new) result }
+    ensures ran { Ran (course_of (map string_bytes words.now))
+        (moment (F.meaning shelf.old) (O.meaning out.old) steps.old)
+        (moment (F.meaning shelf.new) (O.meaning out.new) steps.new) (N.meaning notes.old) (N.meaning notes.new) result }
     ensures built { (asked : AskedBuild) → command_of (map string_bytes words.now) ≡ Some (build asked) → Built (layer_file asked.layer asked.form asked.scale) asked.index (F.meaning shelf.old) (F.meaning shelf.new) result }
     ensures judged { (asked : AskedVerify) → command_of (map string_bytes words.now) ≡ Some (verify asked) → Judged ((F.meaning shelf.old).told asked.index) result }
     ensures notes_in_time { InTime (N.meaning notes.old) (N.meaning notes.new) }
@@ -59,13 +60,25 @@ fn run_course<F: Shelf, O: Sink, N: Sink, L: Ledger>(
             report(outcome, notes)
         }
         Ok(Command::Check(asked)) => {
-            let scale = Scale::new(asked.scale);
-            let outcome = check(alloc, asked.layer, asked.form, scale, shelf, out);
+            let outcome = check(
+                alloc,
+                asked.layer,
+                asked.form,
+                Scale::new(asked.scale),
+                shelf,
+                out,
+            );
             report(outcome, notes)
         }
         Ok(Command::Build(asked)) => {
-            let scale = Scale::new(asked.scale);
-            let outcome = build(alloc, asked.layer, asked.index, asked.form, scale, shelf);
+            let outcome = build(
+                alloc,
+                asked.layer,
+                asked.index,
+                asked.form,
+                Scale::new(asked.scale),
+                shelf,
+            );
             report(outcome, notes)
         }
         Ok(Command::Ask(asked)) => {
@@ -118,6 +131,11 @@ fn run_course<F: Shelf, O: Sink, N: Sink, L: Ledger>(
             );
             report(outcome, notes)
         }
+        Ok(Command::Dissolve(asked)) => {
+            let scale = Scale::new(asked.scale);
+            let outcome = dissolve(alloc, asked.layer, asked.form, scale, shelf, out);
+            report(outcome, notes)
+        }
         Err(WordsFault::Refused) => {
             let _ = write_text(notes, usage_text().as_bytes());
             2
@@ -136,33 +154,37 @@ pub fn run<F: Shelf, O: Sink, N: Sink, L: Ledger>(
     steps: &mut Steps<L>,
 ) -> u8
     ensures headline { (asked : AskedQuery) → command_of (map string_bytes words.now) ≡ Some (query asked)
-        → Headline asked.index asked.order asked.faces (layer_file asked.layer asked.form asked.scale) asked.points (moment (F.meaning shelf.old) (O.meaning out.old) steps.old) (moment (F.meaning shelf.new) (O.meaning out.new) steps.new) (N.meaning notes.old) (N.meaning notes.new) result }
+        → Headline asked.index asked.order asked.faces (layer_file asked.layer asked.form asked.scale) asked.points
+        (moment (F.meaning shelf.old) (O.meaning out.old) steps.old)
+        (moment (F.meaning shelf.new) (O.meaning out.new) steps.new) (N.meaning notes.old) (N.meaning notes.new) result }
     ensures asks { (asked : AskedAsk) → command_of (map string_bytes words.now) ≡ Some (ask asked)
-        → Asks asked.index asked.points (moment (F.meaning shelf.old) (O.meaning out.old) steps.old) (moment (F.meaning shelf.new) (O.meaning out.new) steps.new) (N.meaning notes.old) (N.meaning notes.new) result }
+        → Asks asked.index asked.points
+        (moment (F.meaning shelf.old) (O.meaning out.old) steps.old)
+        (moment (F.meaning shelf.new) (O.meaning out.new) steps.new) (N.meaning notes.old) (N.meaning notes.new) result }
     ensures builds { (asked : AskedBuild) → command_of (map string_bytes words.now) ≡ Some (build asked)
-        → Builds (layer_file asked.layer asked.form asked.scale) asked.index (moment (F.meaning shelf.old) (O.meaning out.old) steps.old) (moment (F.meaning shelf.new) (O.meaning out.new) steps.new) (N.meaning notes.old) (N.meaning notes.new) result }
+        → Builds (layer_file asked.layer asked.form asked.scale) asked.index
+        (moment (F.meaning shelf.old) (O.meaning out.old) steps.old)
+        (moment (F.meaning shelf.new) (O.meaning out.new) steps.new) (N.meaning notes.old) (N.meaning notes.new) result }
     ensures verifies { (asked : AskedVerify) → command_of (map string_bytes words.now) ≡ Some (verify asked)
-        → Verifies asked.index (moment (F.meaning shelf.old) (O.meaning out.old) steps.old) (moment (F.meaning shelf.new) (O.meaning out.new) steps.new) (N.meaning notes.old) (N.meaning notes.new) result }
+        → Verifies asked.index
+        (moment (F.meaning shelf.old) (O.meaning out.old) steps.old)
+        (moment (F.meaning shelf.new) (O.meaning out.new) steps.new) (N.meaning notes.old) (N.meaning notes.new) result }
     ensures stabs { (asked : AskedStab) → command_of (map string_bytes words.now) ≡ Some (stab asked)
-        → Stabs (layer_file asked.layer asked.form asked.scale) asked.spans (moment (F.meaning shelf.old) (O.meaning out.old) steps.old) (moment (F.meaning shelf.new) (O.meaning out.new) steps.new) (N.meaning notes.old) (N.meaning notes.new) result }
-    ensures ran { Ran (course_of (map string_bytes words.now)) (moment (F.meaning shelf.old) (O.meaning out.old) steps.old) (moment (F.meaning shelf.new) (O.meaning out.new) steps.new) (N.meaning notes.old) (N.meaning notes.new) result }
-    ensures done { IfSome (course_of (map string_bytes words.now)) (λ (c : Course). Done c (moment (F.meaning shelf.old) (O.meaning out.old) steps.old) (moment (F.meaning shelf.new) (O.meaning out.new) steps.new) result) }
-    ensures succeeds { IfSome (course_of (map string_bytes words.now)) (λ (c : Course). Succeeds c (moment (F.meaning shelf.old) (O.meaning out.old) steps.old) (moment (F.meaning shelf.new) (O.meaning out.new) steps.new) result) }
-    ensures refuses { IfSome (course_of (map string_bytes words.now)) (λ (c : Course). Refuses c (moment (F.meaning shelf.old) (O.meaning out.old) steps.old) (moment (F.meaning shelf.new) (O.meaning out.new) steps.new) (N.meaning notes.old) (N.meaning notes.new) result) }
-    ensures refuses_partly { IfSome (course_of (map string_bytes words.now)) (λ (c : Course). RefusesPartly c (moment (F.meaning shelf.old) (O.meaning out.old) steps.old) (moment (F.meaning shelf.new) (O.meaning out.new) steps.new) (N.meaning notes.old) (N.meaning notes.new) result) }
-    ensures refused_only { IfSome (course_of (map string_bytes words.now)) (λ (c : Course). RefusedOnly c (moment (F.meaning shelf.old) (O.meaning out.old) steps.old) (moment (F.meaning shelf.new) (O.meaning out.new) steps.new) (N.meaning notes.old) (N.meaning notes.new) result) }
-    ensures refuses_words { RefusesWords (course_of (map string_bytes words.now)) (moment (F.meaning shelf.old) (O.meaning out.old) steps.old) (moment (F.meaning shelf.new) (O.meaning out.new) steps.new) (N.meaning notes.old) (N.meaning notes.new) result }
-    ensures misses { IfSome (course_of (map string_bytes words.now)) (λ (c : Course). Misses c (moment (F.meaning shelf.old) (O.meaning out.old) steps.old) result) }
-    ensures reads_fail { ReadsFail (moment (F.meaning shelf.old) (O.meaning out.old) steps.old) (moment (F.meaning shelf.new) (O.meaning out.new) steps.new) result }
-    ensures writes_fail { WritesFail (command_of (map string_bytes words.now)) (moment (F.meaning shelf.old) (O.meaning out.old) steps.old) (moment (F.meaning shelf.new) (O.meaning out.new) steps.new) result }
-    ensures no_count_rose { NoCountRose (moment (F.meaning shelf.old) (O.meaning out.old) steps.old) (moment (F.meaning shelf.new) (O.meaning out.new) steps.new) result }
-    ensures out { OutOf (course_of (map string_bytes words.now)) (moment (F.meaning shelf.old) (O.meaning out.old) steps.old) (moment (F.meaning shelf.new) (O.meaning out.new) steps.new) (N.meaning notes.old) (N.meaning notes.new) result }
-    ensures notes { Notes (N.meaning notes.old) (N.meaning notes.new) result }
-    ensures names { IfSome (course_of (map string_bytes words.now)) (λ (c : Course). Names c (moment (F.meaning shelf.old) (O.meaning out.old) steps.old) (moment (F.meaning shelf.new) (O.meaning out.new) steps.new) result) }
-    ensures files { FilesOf (command_of (map string_bytes words.now)) (moment (F.meaning shelf.old) (O.meaning out.old) steps.old) (moment (F.meaning shelf.new) (O.meaning out.new) steps.new) result }
-    ensures steps { IfSome (course_of (map string_bytes words.now)) (λ (c : Course). Counts c (moment (F.meaning shelf.old) (O.meaning out.old) steps.old) (moment (F.meaning shelf.new) (O.meaning out.new) steps.new)) }
-    ensures in_time { InTimes (moment (F.meaning shelf.old) (O.meaning out.old) steps.old) (moment (F.meaning shelf.new) (O.meaning out.new) steps.new) }
-    ensures notes_in_time { InTime (N.meaning notes.old) (N.meaning notes.new) }
+        → Stabs (layer_file asked.layer asked.form asked.scale) asked.spans
+        (moment (F.meaning shelf.old) (O.meaning out.old) steps.old)
+        (moment (F.meaning shelf.new) (O.meaning out.new) steps.new) (N.meaning notes.old) (N.meaning notes.new) result }
+    ensures ran { Ran (course_of (map string_bytes words.now))
+        (moment (F.meaning shelf.old) (O.meaning out.old) steps.old)
+        (moment (F.meaning shelf.new) (O.meaning out.new) steps.new) (N.meaning notes.old) (N.meaning notes.new) result }
+    ensures sentences { RunSentences (command_of (map string_bytes words.now))
+        (moment (F.meaning shelf.old) (O.meaning out.old) steps.old)
+        (moment (F.meaning shelf.new) (O.meaning out.new) steps.new) (N.meaning notes.old) (N.meaning notes.new) result }
+    ensures refuses_words { RefusesWords (course_of (map string_bytes words.now))
+        (moment (F.meaning shelf.old) (O.meaning out.old) steps.old)
+        (moment (F.meaning shelf.new) (O.meaning out.new) steps.new) (N.meaning notes.old) (N.meaning notes.new) result }
+    ensures files { FilesOf (command_of (map string_bytes words.now))
+        (moment (F.meaning shelf.old) (O.meaning out.old) steps.old)
+        (moment (F.meaning shelf.new) (O.meaning out.new) steps.new) result }
     ensures range { result ≤ 5 }
 {
     run_course(alloc, words, shelf, out, notes, steps)

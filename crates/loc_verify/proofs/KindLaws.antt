@@ -5,7 +5,7 @@ use Rattle.std.specs.List.{list_any}
 use Rattle.std.proofs.lemmas.Bool.{both_ways, false_from_ne_true, not-true, not_from_false}
 use Rattle.loc_spec_plane.specs.Lists.{is_in}
 use Rattle.loc_spec_plane.specs.declared.Mark.{Mark}
-use Rattle.loc_spec_plane.specs.Tables.{corner, edge, edge_numbers, ends_at}
+use Rattle.loc_spec_plane.specs.Tables.{corner, edge, edge_numbers, ends_at, is_on_source}
 use Rattle.loc_spec_plane.specs.Places.{IsFloor}
 use Rattle.loc_spec_plane.specs.Covers.{cover_above}
 use Rattle.loc_laws_order.proofs.Unique.{floor-unique}
@@ -15,7 +15,7 @@ use Rattle.loc_geom.specs.Answers.{IsMeeting}
 use Rattle.loc_sweep.specs.Swept.{AreInConflict}
 use Rattle.loc_spec_index.specs.Content.{Content, cover_numbers, cover_of_edge, floor_of_corner, table_in}
 use Rattle.loc_spec_index.specs.IndexFile.{IsFileOf}
-use Rattle.loc_spec_index.specs.Flaws.{lone, bare, uneven, conflicting, wrong_floor, wrong_cover, spare_cover}
+use Rattle.loc_spec_index.specs.Flaws.{lone, bare, uneven, conflicting, wrong_floor, wrong_cover, spare_cover, wrong_source}
 use Rattle.loc_laws_index.proofs.FlawKinds as laws
 use Rattle.loc_verify.specs.Judged.{IsLeastOf}
 use Rattle.loc_verify.specs.Least.{IsLeastFailing, IsLeastUneven, is_odd_at}
@@ -70,19 +70,25 @@ module _ (c : Content) where
     pub lists_right : IsLeastFailing (length lists) (λ n. IsTrue (is_in n above)) None → (n : ℕ) → n < length c.covers → IsTrue (is_in n (cover_numbers c))
     lists_right all n fits = sym (ap (is_in n) above_is) ∙ all n (subst (λ ls. n < length ls) (sym lists_are) fits)
 
-    module _ (bytes : List ℕ) (file : IsFileOf 1 c bytes) where
+    module _ {v : ℕ} (bytes : List ℕ) (file : IsFileOf v c bytes) where
       pub covers_right : IsLeastFailing (length (table_in c).ends) (λ e. get_or lists (get_or above e 0) [] ≡ cover_above (table_in c) e) None → (e : ℕ) → e < length c.edges → cover_of_edge c e ≡ cover_above (table_in c) e
       covers_right all e fits = sym (list_at e) ∙ all e (subst (λ k. e < k) (sym (laws.as_many c)) fits)
 
       pub cover_there : (e : ℕ) → IsLeastFailing (length (table_in c).ends) (λ e. get_or lists (get_or above e 0) [] ≡ cover_above (table_in c) e) (Some e) → IsLeastOf c 5 (wrong_cover e)
       cover_there e found = least_at c 5 e refl refl refl (subst (λ k. e < k) (laws.as_many c) found.0, λ same. found.1 (list_at e ∙ same)) (λ m less h. h.1 (sym (list_at m) ∙ found.2 m less))
 
-  module _ (bytes : List ℕ) (file : IsFileOf 1 c bytes) where
+  module _ {v : ℕ} (bytes : List ℕ) (file : IsFileOf v c bytes) where
     pub marks_right : IsLeastFailing (length (table_in c).ends) (λ e. get_or (table_in c).marks e [] ≢ []) None → (e : ℕ) → e < length c.edges → get_or (table_in c).marks e [] ≢ []
     marks_right all e fits = all e (subst (λ k. e < k) (sym (laws.as_many c)) fits)
 
     pub bare_there : (e : ℕ) → IsLeastFailing (length (table_in c).ends) (λ e. get_or (table_in c).marks e [] ≢ []) (Some e) → IsLeastOf c 1 (bare e)
     bare_there e found = least_at c 1 e refl refl refl (subst (λ k. e < k) (laws.as_many c) found.0, no_marks _ found.1) (λ m less h. found.2 m less h.1)
+
+    pub sources_right : IsLeastFailing (length (table_in c).ends) (λ e. IsTrue (is_on_source (table_in c) e)) None → (e : ℕ) → e < length c.edges → IsTrue (is_on_source (table_in c) e)
+    sources_right all e fits = all e (subst (λ k. e < k) (sym (laws.as_many c)) fits)
+
+    pub source_there : (e : ℕ) → IsLeastFailing (length (table_in c).ends) (λ e. IsTrue (is_on_source (table_in c) e)) (Some e) → IsLeastOf c 7 (wrong_source e)
+    source_there e found = least_at c 7 e refl refl refl (subst (λ k. e < k) (laws.as_many c) found.0, fails (is_on_source (table_in c) e) found.1) (λ m less h. passes (is_on_source (table_in c) m) h.1 (found.2 m less))
 
     pub conflict_there : (a b : ℕ) (meeting : Meeting) → AreInConflict (table_in c) a b meeting → IsLeastOf c 3 (conflicting a b) × IsMeeting (edge (table_in c) a) (edge (table_in c) b) meeting
     conflict_there a b meeting found = (least_of c (conflicting a b) refl (found.in_order, subst (λ k. b < k) (laws.as_many c) found.in_range, found.conflict) (laws.least_conflict c), found.meets)

@@ -2,19 +2,16 @@
 use Rattle.std.proofs.Common.{◌≡◌, ◌≢◌, ℕ, ◌<◌, ◌≤◌, true, List, [], ◌∷◌, length, get_or, refl, sym, ◌∙◌, subst, arith}
 use Rattle.std.specs.Prelude.{IsTrue}
 use Rattle.loc_spec_plane.specs.Lists.{is_in}
-use Rattle.loc_laws_index.proofs.HeldTable.{file_holds_table}
-use Rattle.loc_spec_plane.specs.Tables.{AllEnds, AllEven, NoConflict, corner}
+use Rattle.loc_spec_plane.specs.Tables.{AllEnds, AllEven, NoConflict, corner, is_on_source}
 use Rattle.loc_spec_plane.specs.Places.{IsFloor}
 use Rattle.loc_spec_plane.specs.Covers.{cover_above}
 use Rattle.loc_spec_index.specs.Content.{Content, cover_numbers, cover_of_edge, floor_of_corner, table_in}
-use Rattle.loc_spec_index.specs.TrueIndex.{IsTrueVersion, is_on_source}
-use Rattle.loc_spec_index.specs.IndexFile.{IsFileOf}
+use Rattle.loc_spec_index.specs.TrueIndex.{IsTrueVersion}
 use Rattle.loc_spec_index.specs.Flaws.{Flaw, HasFlaw, rank, IsFirst, lone, bare, uneven, conflicting, wrong_floor, wrong_cover, spare_cover, wrong_source, deep, wrong_list}
 use Rattle.loc_spec_index.proofs.Refutes.{no_lone, no_bare, no_uneven, no_conflicting, no_wrong_floor, no_wrong_cover, no_spare_cover, no_wrong_source}
-use Rattle.loc_laws_index.proofs.OwnSources.{on_source, own_sources}
 use Rattle.loc_laws_index.proofs.FlawKinds as laws
 use Rattle.loc_verify.specs.declared.fault.VerifyFault.{VerifyFault}
-use Rattle.loc_verify.specs.declared.fault.VerifyFault.TheVariants.{Lone, Bare, Uneven, Conflict, WrongFloor, WrongCover, SpareCover, Deep, WrongList, NoMemory}
+use Rattle.loc_verify.specs.declared.fault.VerifyFault.TheVariants.{Lone, Bare, Uneven, Conflict, WrongFloor, WrongCover, SpareCover, WrongSource, Deep, WrongList, NoMemory}
 use Rattle.loc_verify.specs.Judged.{IsFaultOf, IsJudged, IsLeastOf, IsVersionFault, kind_of}
 
 -- the kinds of the judge are those of the laws
@@ -30,24 +27,21 @@ same_kind (wrong_source e) = refl
 same_kind (deep i) = refl
 same_kind (wrong_list i p) = refl
 
-module _ (c : Content) (bytes : List ℕ) (file : IsFileOf 1 c bytes) where
-  pub sources_right : (e : ℕ) → e < length c.edges → IsTrue (is_on_source c e)
-  sources_right = on_source c (file_holds_table bytes 1 c file) (own_sources c file.shaped.sources)
-
+module _ (c : Content) where
   -- ---- where all that is judged before a kind is right there is no flaw of an earlier kind
   pub none_below : (k : ℕ) → k ≤ 8 → (0 < k → AllEnds (table_in c)) → (1 < k → (e : ℕ) → e < length c.edges → get_or (table_in c).marks e [] ≢ []) → (2 < k → AllEven (table_in c)) → (3 < k → NoConflict (table_in c))
       → (4 < k → (n : ℕ) → n < length c.corners → IsFloor (table_in c) (corner (table_in c) n) (floor_of_corner c n)) → (5 < k → (e : ℕ) → e < length c.edges → cover_of_edge c e ≡ cover_above (table_in c) e)
-      → (6 < k → (n : ℕ) → n < length c.covers → IsTrue (is_in n (cover_numbers c))) → (other : Flaw) → HasFlaw c other → kind_of other < k → ⊥
-  none_below k most ended marked even apart floors covers named (lone n) h less = no_lone c (ended less) n h
-  none_below k most ended marked even apart floors covers named (bare e) h less = no_bare c (marked less) e h
-  none_below k most ended marked even apart floors covers named (uneven n f) h less = no_uneven c (even less) n f h
-  none_below k most ended marked even apart floors covers named (conflicting a b) h less = no_conflicting c (apart less) (laws.as_many c) a b h
-  none_below k most ended marked even apart floors covers named (wrong_floor n) h less = no_wrong_floor c (floors less) n h
-  none_below k most ended marked even apart floors covers named (wrong_cover e) h less = no_wrong_cover c (covers less) e h
-  none_below k most ended marked even apart floors covers named (spare_cover n) h less = no_spare_cover c (named less) n h
-  none_below k most ended marked even apart floors covers named (wrong_source e) h less = no_wrong_source c sources_right e h
-  none_below k most ended marked even apart floors covers named (deep i) h less = omega (arith, most, less)
-  none_below k most ended marked even apart floors covers named (wrong_list i p) h less = omega (arith, most, less)
+      → (6 < k → (n : ℕ) → n < length c.covers → IsTrue (is_in n (cover_numbers c))) → (7 < k → (e : ℕ) → e < length c.edges → IsTrue (is_on_source (table_in c) e)) → (other : Flaw) → HasFlaw c other → kind_of other < k → ⊥
+  none_below k most ended marked even apart floors covers named sources (lone n) h less = no_lone c (ended less) n h
+  none_below k most ended marked even apart floors covers named sources (bare e) h less = no_bare c (marked less) e h
+  none_below k most ended marked even apart floors covers named sources (uneven n f) h less = no_uneven c (even less) n f h
+  none_below k most ended marked even apart floors covers named sources (conflicting a b) h less = no_conflicting c (apart less) (laws.as_many c) a b h
+  none_below k most ended marked even apart floors covers named sources (wrong_floor n) h less = no_wrong_floor c (floors less) n h
+  none_below k most ended marked even apart floors covers named sources (wrong_cover e) h less = no_wrong_cover c (covers less) e h
+  none_below k most ended marked even apart floors covers named sources (spare_cover n) h less = no_spare_cover c (named less) n h
+  none_below k most ended marked even apart floors covers named sources (wrong_source e) h less = no_wrong_source c (sources less) e h
+  none_below k most ended marked even apart floors covers named sources (deep i) h less = omega (arith, most, less)
+  none_below k most ended marked even apart floors covers named sources (wrong_list i p) h less = omega (arith, most, less)
 
   -- so the least of the kind is the first of all
   module _ (k : ℕ) (none : (other : Flaw) → HasFlaw c other → kind_of other < k → ⊥) where
@@ -62,6 +56,7 @@ module _ (c : Content) (bytes : List ℕ) (file : IsFileOf 1 c bytes) where
     judged (WrongFloor n) least = first_is (wrong_floor n) least
     judged (WrongCover e) least = first_is (wrong_cover e) least
     judged (SpareCover n) least = first_is (spare_cover n) least
+    judged (WrongSource e) least = first_is (wrong_source e) least
     judged (Deep i) least = first_is (deep i) least
     judged (WrongList i p) least = first_is (wrong_list i p) least
     judged NoMemory least = tt

@@ -70,7 +70,7 @@ module _ (rows : List NodeRow) (version root k room : ℕ) where
   ]
 
 -- ---- a reading
-module _ (c : Content) (bytes : List ℕ) (file : IsFileOf 1 c bytes) (version : ℕ) where
+module _ (c : Content) {v : ℕ} (bytes : List ℕ) (file : IsFileOf v c bytes) (version : ℕ) where
   -- where no path is too long there is a reading
   pub readable : (room n : ℕ) → n ≤ length c.nodes → StaysWithin c.nodes version n room → (items : List ℕ) × Reads c.nodes version n items
   readable room zero fits stays = ([], nothing)
@@ -91,7 +91,7 @@ parts_differ items list next p =
       λ same. p.differs (sym same ∙ (ap (λ xs. slice_get xs next) p.whole ∙ (ap (slice_get (p.before ++ p.item ∷ p.after)) at ∙ at_seam p.before (p.item ∷ p.after)))),
     )
 
-module _ (c : Content) (bytes : List ℕ) (file : IsFileOf 1 c bytes) (i : ℕ) (list : List ℕ) (version : IsVersion (table_in c) i list) (room : ℕ)
+module _ (c : Content) {v : ℕ} (bytes : List ℕ) (file : IsFileOf v c bytes) (i : ℕ) (list : List ℕ) (version : IsVersion (table_in c) i list) (room : ℕ)
     (fits : 2 ^ room ≤ (length list + 1) * (length list + 1)) (past : (length list + 1) * (length list + 1) < 2 ^ (room + 1)) where
   n : ℕ
   n = root_of c i

@@ -9,7 +9,7 @@ use Rattle.loc_geom.specs.Answers.{IsMeeting}
 use Rattle.loc_spec_index.specs.Content.{Content, table_in}
 use Rattle.loc_spec_index.specs.Flaws.{Flaw, HasFlaw, rank, IsDeepIn, IsFirst, IsMisread, lone, bare, uneven, conflicting, wrong_floor, wrong_cover, spare_cover, wrong_source, deep, wrong_list}
 use Rattle.loc_verify.specs.declared.fault.VerifyFault.{VerifyFault}
-use Rattle.loc_verify.specs.declared.fault.VerifyFault.TheVariants.{Lone, Bare, Uneven, Conflict, WrongFloor, WrongCover, SpareCover, Deep, WrongList, NoMemory}
+use Rattle.loc_verify.specs.declared.fault.VerifyFault.TheVariants.{Lone, Bare, Uneven, Conflict, WrongFloor, WrongCover, SpareCover, WrongSource, Deep, WrongList, NoMemory}
 
 -- the fault is the first flaw of the index, and of two edges that conflict it says how they meet; want of memory may come at any time
 abbrev pub IsJudged : Content → VerifyFault → Type 0
@@ -20,6 +20,7 @@ IsJudged c (Conflict a b meeting) = IsFirst c (conflicting a b) × IsMeeting (ed
 IsJudged c (WrongFloor n) = IsFirst c (wrong_floor n)
 IsJudged c (WrongCover e) = IsFirst c (wrong_cover e)
 IsJudged c (SpareCover n) = IsFirst c (spare_cover n)
+IsJudged c (WrongSource e) = IsFirst c (wrong_source e)
 IsJudged c (Deep i) = IsFirst c (deep i)
 IsJudged c (WrongList i p) = IsFirst c (wrong_list i p)
 IsJudged c NoMemory = Unit {0}
@@ -52,6 +53,7 @@ IsFaultOf c kind (Conflict a b meeting) = IsLeastOf c kind (conflicting a b) × 
 IsFaultOf c kind (WrongFloor n) = IsLeastOf c kind (wrong_floor n)
 IsFaultOf c kind (WrongCover e) = IsLeastOf c kind (wrong_cover e)
 IsFaultOf c kind (SpareCover n) = IsLeastOf c kind (spare_cover n)
+IsFaultOf c kind (WrongSource e) = IsLeastOf c kind (wrong_source e)
 IsFaultOf c kind (Deep i) = IsLeastOf c kind (deep i)
 IsFaultOf c kind (WrongList i p) = IsLeastOf c kind (wrong_list i p)
 IsFaultOf c kind NoMemory = Unit {0}

@@ -30,6 +30,9 @@ pub enum VerifyFault {
     /// No edge names the list.
     #[error("list {list} spare")]
     SpareCover { list: u32 },
+    /// An end of the edge is not on the segment of its source.
+    #[error("source of edge {edge}")]
+    WrongSource { edge: u32 },
     /// A path of the version has too many nodes for the edges alive there.
     #[error("version {version} deep")]
     Deep { version: u32 },

@@ -7,7 +7,7 @@ ghost use Rattle.loc_verify.specs.Judged.{IsJudged};
 use crate::VerifyFault;
 use crate::kinds::{
     judge_corners, judge_covers, judge_crossings, judge_edges, judge_floors, judge_lists,
-    judge_marks,
+    judge_marks, judge_sources,
 };
 use crate::versions::judge_versions;
 use loc_file::Held;
@@ -15,11 +15,11 @@ use std::alloc::Global;
 
 /// Judges what was read from an index file. It is Ok exactly where that is a true index, want of memory aside; else its first flaw is shown,
 /// in the order of the faults: corners without an edge, edges without a mark, uneven features, conflicts, floors, cover lists, spare lists,
-/// and then one version after another. Of two edges that conflict any may be shown. It takes the time that all versions take to be read, by
+/// sources, and then one version after another. Of two edges that conflict any may be shown. It takes the time that all versions take to be read, by
 /// their lists.
 pub fn verify(alloc: Global, held: &Held) -> Result<(), VerifyFault>
-    ensures ok { OnOk result (IsTrueIndex held.now) }
-    ensures first { IfErr result (IsJudged held.now) }
+    ensures ok { OnOk result (IsTrueIndex held.now.content) }
+    ensures first { IfErr result (IsJudged held.now.content) }
 {
     held.law();
     judge_corners(held)?;
@@ -29,5 +29,6 @@ pub fn verify(alloc: Global, held: &Held) -> Result<(), VerifyFault>
     judge_floors(held, &floors)?;
     judge_covers(alloc, held)?;
     judge_lists(alloc, held)?;
+    judge_sources(held)?;
     judge_versions(alloc, held)
 }

@@ -2,7 +2,7 @@
 
 ghost use Rattle.std.specs.Prelude.{ℕ, ◌≡◌, ◌≢◌, ◌<◌, [], length, get_or, IsTrue, IfErr, IfOk, OnOk};
 ghost use Rattle.loc_spec_plane.specs.Lists.{is_in};
-ghost use Rattle.loc_spec_plane.specs.Tables.{AllEnds, AllEven, NoConflict, corner as corner_of};
+ghost use Rattle.loc_spec_plane.specs.Tables.{AllEnds, AllEven, NoConflict, corner as corner_of, is_on_source};
 ghost use Rattle.loc_spec_plane.specs.Places.{IsFloor};
 ghost use Rattle.loc_spec_plane.specs.Covers.{cover_above};
 ghost use Rattle.loc_edges.specs.Floors.{AreFloors};
@@ -15,6 +15,7 @@ use crate::covers::least_wrong_cover;
 use crate::features::least_uneven;
 use crate::lists::{least_other_floor, least_spare};
 use crate::marks::{least_bare, least_lone};
+use crate::sources::least_off_source;
 use loc_edges::Floors;
 use loc_file::Held;
 use loc_status::VecStatus;
@@ -23,8 +24,8 @@ use std::alloc::Global;
 
 // Every corner is an end of an edge.
 pub(crate) fn judge_corners(held: &Held) -> Result<(), VerifyFault>
-    ensures ok { OnOk result (AllEnds (table_in held.now)) }
-    ensures fault { IfErr result (IsFaultOf held.now 0) }
+    ensures ok { OnOk result (AllEnds (table_in held.now.content)) }
+    ensures fault { IfErr result (IsFaultOf held.now.content 0) }
 {
     match least_lone(held.table()) {
         None => Ok(()),
@@ -34,8 +35,8 @@ pub(crate) fn judge_corners(held: &Held) -> Result<(), VerifyFault>
 
 // Every edge has a mark.
 pub(crate) fn judge_edges(held: &Held) -> Result<(), VerifyFault>
-    ensures ok { OnOk result ((e : ℕ) → e < length held.now.edges → get_or (table_in held.now).marks e [] ≢ []) }
-    ensures fault { IfErr result (IsFaultOf held.now 1) }
+    ensures ok { OnOk result ((e : ℕ) → e < length held.now.content.edges → get_or (table_in held.now.content).marks e [] ≢ []) }
+    ensures fault { IfErr result (IsFaultOf held.now.content 1) }
 {
     held.law();
     match least_bare(held.table()) {
@@ -46,8 +47,8 @@ pub(crate) fn judge_edges(held: &Held) -> Result<(), VerifyFault>
 
 // Marks are even at every corner.
 pub(crate) fn judge_marks(alloc: Global, held: &Held) -> Result<(), VerifyFault>
-    ensures ok { OnOk result (AllEven (table_in held.now)) }
-    ensures fault { IfErr result (IsFaultOf held.now 2) }
+    ensures ok { OnOk result (AllEven (table_in held.now.content)) }
+    ensures fault { IfErr result (IsFaultOf held.now.content 2) }
 {
     match least_uneven(alloc, held.table())? {
         None => Ok(()),
@@ -57,9 +58,9 @@ pub(crate) fn judge_marks(alloc: Global, held: &Held) -> Result<(), VerifyFault>
 
 // No two edges conflict; then the floors are known.
 pub(crate) fn judge_crossings(alloc: Global, held: &Held) -> Result<Floors, VerifyFault>
-    ensures ok { OnOk result (NoConflict (table_in held.now)) }
-    ensures floors { IfOk result (AreFloors (table_in held.now)) }
-    ensures fault { IfErr result (IsFaultOf held.now 3) }
+    ensures ok { OnOk result (NoConflict (table_in held.now.content)) }
+    ensures floors { IfOk result (AreFloors (table_in held.now.content)) }
+    ensures fault { IfErr result (IsFaultOf held.now.content 3) }
 {
     held.law();
     match sweep(alloc, held.table(), VecStatus::new(alloc)) {
@@ -71,9 +72,9 @@ pub(crate) fn judge_crossings(alloc: Global, held: &Held) -> Result<Floors, Veri
 
 // The stored floors are those of the corners.
 pub(crate) fn judge_floors(held: &Held, floors: &Floors) -> Result<(), VerifyFault>
-    requires { AreFloors (table_in held.now) floors.now }
-    ensures ok { OnOk result ((n : ℕ) → n < length held.now.corners → IsFloor (table_in held.now) (corner_of (table_in held.now) n) (floor_of_corner held.now n)) }
-    ensures fault { IfErr result (IsFaultOf held.now 4) }
+    requires { AreFloors (table_in held.now.content) floors.now }
+    ensures ok { OnOk result ((n : ℕ) → n < length held.now.content.corners → IsFloor (table_in held.now.content) (corner_of (table_in held.now.content) n) (floor_of_corner held.now.content n)) }
+    ensures fault { IfErr result (IsFaultOf held.now.content 4) }
 {
     held.law();
     held.table().law();
@@ -85,9 +86,9 @@ pub(crate) fn judge_floors(held: &Held, floors: &Floors) -> Result<(), VerifyFau
 
 // The list that each edge names is the one above it.
 pub(crate) fn judge_covers(alloc: Global, held: &Held) -> Result<(), VerifyFault>
-    requires { IsEven (table_in held.now) }
-    ensures ok { OnOk result ((e : ℕ) → e < length held.now.edges → cover_of_edge held.now e ≡ cover_above (table_in held.now) e) }
-    ensures fault { IfErr result (IsFaultOf held.now 5) }
+    requires { IsEven (table_in held.now.content) }
+    ensures ok { OnOk result ((e : ℕ) → e < length held.now.content.edges → cover_of_edge held.now.content e ≡ cover_above (table_in held.now.content) e) }
+    ensures fault { IfErr result (IsFaultOf held.now.content 5) }
 {
     held.law();
     match least_wrong_cover(alloc, held.table(), held.legend())? {
@@ -98,12 +99,24 @@ pub(crate) fn judge_covers(alloc: Global, held: &Held) -> Result<(), VerifyFault
 
 // Every list is named.
 pub(crate) fn judge_lists(alloc: Global, held: &Held) -> Result<(), VerifyFault>
-    ensures ok { OnOk result ((n : ℕ) → n < length held.now.covers → IsTrue (is_in n (cover_numbers held.now))) }
-    ensures fault { IfErr result (IsFaultOf held.now 6) }
+    ensures ok { OnOk result ((n : ℕ) → n < length held.now.content.covers → IsTrue (is_in n (cover_numbers held.now.content))) }
+    ensures fault { IfErr result (IsFaultOf held.now.content 6) }
 {
     held.law();
     match least_spare(alloc, held.legend(), held.table().edge_count())? {
         None => Ok(()),
         Some(list) => Err(VerifyFault::SpareCover { list }),
+    }
+}
+
+// Both ends of every edge lie on the segment of its source.
+pub(crate) fn judge_sources(held: &Held) -> Result<(), VerifyFault>
+    ensures ok { OnOk result ((e : ℕ) → e < length held.now.content.edges → IsTrue (is_on_source (table_in held.now.content) e)) }
+    ensures fault { IfErr result (IsFaultOf held.now.content 7) }
+{
+    held.law();
+    match least_off_source(held.table()) {
+        None => Ok(()),
+        Some(edge) => Err(VerifyFault::WrongSource { edge }),
     }
 }

@@ -15,8 +15,8 @@ fn next_level(
     version: u32,
     level: &[bool],
 ) -> Result<Vec<bool>, AllocError>
-    requires { length level.now ≡ length held.now.nodes + 1 }
-    ensures { IfOk result (λ next. IsNextLevel held.now.nodes version level.now next.items) }
+    requires { length level.now ≡ length held.now.content.nodes + 1 }
+    ensures { IfOk result (λ next. IsNextLevel held.now.content.nodes version level.now next.items) }
 {
     let mut next = vec![in alloc; false; level.len()]?;
     for before in 0..held.nodes() {
@@ -48,8 +48,8 @@ pub(crate) fn has_path(
     version: u32,
     turns: u32,
 ) -> Result<bool, AllocError>
-    requires { version < length held.now.corners }
-    ensures { IfOk result (λ found. IsTrue found ↔ HasLongPath held.now.nodes version (root_of held.now version) turns) }
+    requires { version < length held.now.content.corners }
+    ensures { IfOk result (λ found. IsTrue found ↔ HasLongPath held.now.content.nodes version (root_of held.now.content version) turns) }
 {
     let mut level = vec![in alloc; false; held.nodes() as usize + 1]?;
     level[held.root(version) as usize] = true;

@@ -12,6 +12,7 @@ mod lists;
 mod marks;
 mod nodes;
 mod reading;
+mod sources;
 mod versions;
 
 pub use fault::VerifyFault;

@@ -31,10 +31,10 @@ pub(crate) fn follow(
     list: &[u32],
     read: u32,
 ) -> Followed
-    requires node { node ≤ length held.now.nodes }
+    requires node { node ≤ length held.now.content.nodes }
     requires within { read ≤ length list.now }
     requires few { length list.now ≤ 2 ^ 21 }
-    ensures { IsFollowed held.now.nodes version node room list.now read result }
+    ensures { IsFollowed held.now.content.nodes version node room list.now read result }
 {
     if node == 0 {
         return Followed::Past(read);

@@ -26,11 +26,11 @@ fn most_nodes(alive: usize) -> u32
 
 // Judges a version by the list at its corner.
 fn judge_version(alloc: Global, held: &Held, version: u32, list: &[u32]) -> Result<(), VerifyFault>
-    requires in_range { version < length held.now.corners }
+    requires in_range { version < length held.now.content.corners }
     requires few { length list.now ≤ 2 ^ 21 }
-    requires list { IsVersion (table_in held.now) version list.now }
-    ensures ok { OnOk result (IsTrueVersion held.now version) }
-    ensures fault { IfErr result (IsVersionFault held.now version) }
+    requires list { IsVersion (table_in held.now.content) version list.now }
+    ensures ok { OnOk result (IsTrueVersion held.now.content version) }
+    ensures fault { IfErr result (IsVersionFault held.now.content version) }
 {
     held.law();
     let room = most_nodes(list.len());
@@ -50,9 +50,9 @@ fn judge_version(alloc: Global, held: &Held, version: u32, list: &[u32]) -> Resu
 
 // Judges one version after another.
 pub(crate) fn judge_versions(alloc: Global, held: &Held) -> Result<(), VerifyFault>
-    requires { NoConflict (table_in held.now) }
-    ensures ok { OnOk result ((i : ℕ) → i < length held.now.corners → IsTrueVersion held.now i) }
-    ensures fault { IfErr result (IsFaultOf held.now 8) }
+    requires { NoConflict (table_in held.now.content) }
+    ensures ok { OnOk result ((i : ℕ) → i < length held.now.content.corners → IsTrueVersion held.now.content i) }
+    ensures fault { IfErr result (IsFaultOf held.now.content 8) }
 {
     let table = held.table();
     table.law();

@@ -47,7 +47,7 @@ fn put_fraction(room: &mut [u8], scale: u8, number: u64) -> usize
 }
 
 /// Puts a grid value at the end of a room, and says where it begins.
-fn put_value(room: &mut [u8], value: i64, scale: u8) -> usize
+pub fn put_grid(room: &mut [u8], value: i64, scale: u8) -> usize
     requires room { 40 ≤ length room.old }
     requires scale { scale ≤ 15 }
     ensures within { result ≤ length room.old }
@@ -71,6 +71,6 @@ pub fn print_grid<O: Sink>(value: i64, scale: u8, sink: &mut O) -> Result<(), Wr
     ensures { TakesAll (grid_text scale value) (O.meaning sink.old) (O.meaning sink.new) result }
 {
     let mut room = [b'0'; ROOM];
-    let start = put_value(&mut room, value, scale);
+    let start = put_grid(&mut room, value, scale);
     write_all(sink, &room[start..])
 }

@@ -16,7 +16,7 @@ mod values;
 
 pub use geometry::read_geometry;
 pub use grid_numbers::{GridNumber, grid_number, is_number};
-pub use grid_texts::print_grid;
+pub use grid_texts::{print_grid, put_grid};
 pub use lines::{is_blank, next_line};
 pub use loc_spec_text::TextFault;
 pub use points::read_point;

@@ -6,29 +6,7 @@ use Rattle.std.proofs.lemmas.Bool.{and_parts}
 use Rattle.std.proofs.lemmas.Option.{same_Some}
 use Rattle.loc_spec_text.specs.Bytes.{Text}
 use Rattle.loc_words.specs.Rows.{CommandRow, Entry, given_of, is_row}
-use Rattle.loc_words.specs.Words.{Asked, query_row, check_row, build_row, ask_row, verify_row, face_row, gen_row, trial_row, stab_row, query_from, check_from, build_from, ask_from, verify_from, face_from, gen_from, trial_from, stab_from}
-
--- a row, and what is made of what is given for it
-abbrev pub Making : Type 0
-Making = CommandRow × (List Entry → Option Asked)
-
--- all commands
-abbrev pub commands : List Making
-commands = (query_row, query_from) ∷ (check_row, check_from) ∷ (build_row, build_from) ∷ (ask_row, ask_from) ∷ (verify_row, verify_from) ∷ (face_row, face_from) ∷ (gen_row, gen_from) ∷ (trial_row, trial_from) ∷ (stab_row, stab_from) ∷ []
-
--- the row of this name
-abbrev pub row_in : List Making → Text → Option CommandRow
-row_in all name = find (λ row. bytes_eq name row.name) (map (λ by. by.0) all)
-
--- what is made, under this name, of what is given
-abbrev pub made_in : List Making → Text → List Entry → Option Asked
-made_in [] name given = None
-made_in (by ∷ all) name given = if bytes_eq name by.0.name then by.1 given else made_in all name given
-
--- what is made of the words behind this name
-abbrev pub named_in : List Making → Text → List Text → Option Asked
-named_in [] name words = None
-named_in (by ∷ all) name words = if bytes_eq name by.0.name then option_and_then by.1 (given_of by.0 words) else named_in all name words
+use Rattle.loc_words.specs.Words.{Asked, Making, commands, made_in, named_in, row_in}
 
 -- the first command, if it has the name, or else a later one
 first_or_later : (here : Bool) (first row : CommandRow) (by later : List Entry → Option Asked) (rows : Option CommandRow) (named : Option Asked) (words : List Text) → (if here then Some first else rows) ≡ Some row

@@ -1,6 +1,6 @@
 -- The command that a list of words is: the rows of the commands, what each makes of the words that are given for its row, and
 -- `command_of` for the whole list.
-use Rattle.std.specs.Prelude.{ℕ, ◌≤◌, ◌^◌, ◌&&◌, Bool, List, [], ◌∷◌, ◌++◌, length, codes, map, nat_lt, nat_le, if◌then◌else◌, Option, Some, None, option_map, option_and_then, ⊤}
+use Rattle.std.specs.Prelude.{ℕ, ◌≤◌, ◌^◌, ◌&&◌, Bool, List, [], ◌∷◌, ◌++◌, length, codes, map, nat_lt, nat_le, if◌then◌else◌, Option, Some, None, option_map, option_and_then, find, ⊤}
 use Rattle.std.specs.Char.{is_ascii_digit}
 use Rattle.std.specs.List.{list_all}
 use Rattle.std.specs.Str.{bytes_eq}
@@ -18,7 +18,7 @@ use Rattle.loc_words.specs.declared.row.OptionKind.TheVariants.{Required, Option
 use Rattle.loc_words.specs.declared.row.CommandRow.{CommandRow as Row}
 use Rattle.loc_words.specs.declared.row.OptionRow.{OptionRow as Declared}
 use Rattle.loc_words.specs.declared.command.Command.{Command}
-use Rattle.loc_words.specs.declared.command.Command.TheVariants.{Query, Check, Build, Ask, Verify, Face, Gen, Trial, Stab}
+use Rattle.loc_words.specs.declared.command.Command.TheVariants.{Query, Check, Build, Ask, Verify, Face, Gen, Trial, Stab, Dissolve}
 
 -- what a query says
 pub record AskedQuery : Type 0 where
@@ -79,6 +79,12 @@ pub record AskedStab : Type 0 where
   pub scale : ℕ
   pub form : Form
 
+-- which layer is dissolved
+pub record AskedDissolve : Type 0 where
+  pub layer : Text
+  pub scale : ℕ
+  pub form : Form
+
 -- a command with its values
 pub data Asked : Type 0 where
   query : AskedQuery → Asked
@@ -90,6 +96,7 @@ pub data Asked : Type 0 where
   gen : AskedGen → Asked
   trial : AskedTrial → Asked
   stab : AskedStab → Asked
+  dissolve : AskedDissolve → Asked
 
 -- what a command says
 abbrev pub asked_by : Command → Asked
@@ -102,18 +109,17 @@ asked_by (Face f) = face (record { layer = f.layer.now; point = f.point.now; sca
 asked_by (Gen g) = gen (record { kind = g.kind; n = g.n; shift = g.shift })
 asked_by (Trial t) = trial (record { kind = t.kind; n = t.n; shift = t.shift; index = t.index })
 asked_by (Stab s) = stab (record { layer = s.layer.now; spans = s.spans.now; scale = s.scale; form = s.form })
+asked_by (Dissolve d) = dissolve (record { layer = d.layer.now; scale = d.scale; form = d.form })
 
 -- the scale of a command that has one is one that coordinates can have
 abbrev pub HasScale : Command → Type 0
 HasScale (Query q) = q.scale ≤ 15
 HasScale (Check c) = c.scale ≤ 15
 HasScale (Build b) = b.scale ≤ 15
-HasScale (Ask a) = ⊤
-HasScale (Verify v) = ⊤
 HasScale (Face f) = f.scale ≤ 15
-HasScale (Gen g) = ⊤
-HasScale (Trial t) = ⊤
 HasScale (Stab s) = s.scale ≤ 15
+HasScale (Dissolve d) = d.scale ≤ 15
+HasScale other = ⊤
 
 -- an option as the program has it
 abbrev pub option_of : Declared → OptionRow
@@ -209,6 +215,10 @@ trial_row = record gen_row { name = codes "trial"; options = record { name = cod
 abbrev pub stab_row : CommandRow
 stab_row = record { name = codes "stab"; places = codes "layer" ∷ codes "spans" ∷ []; options = layer_options }
 
+-- dissolve LAYER
+abbrev pub dissolve_row : CommandRow
+dissolve_row = record { name = codes "dissolve"; places = codes "layer" ∷ []; options = layer_options }
+
 -- the layer's name, its scale and its form, of what was given
 abbrev pub layer_given : List Entry → Option (Text × ℕ × Form)
 layer_given given = option_and_then (λ name. option_map (λ values. (name, values.0, values.1)) (scale_and_form (value_in given (codes "scale")) (value_in given (codes "form"))))
@@ -264,19 +274,33 @@ trial_from given = option_and_then (λ of. option_map (λ index. trial (record {
 abbrev pub stab_from : List Entry → Option Asked
 stab_from given = option_and_then (λ file. option_map (λ spans. stab (record { layer = file.0; spans = spans; scale = file.1; form = file.2 })) (value_in given (codes "spans"))) (layer_given given)
 
+-- the layer to be dissolved, of what was given
+abbrev pub dissolve_from : List Entry → Option Asked
+dissolve_from given = option_map (λ file. dissolve (record { layer = file.0; scale = file.1; form = file.2 })) (layer_given given)
+
+-- a command: its row, and what is made of what is given for the row
+abbrev pub Making : Type 0
+Making = CommandRow × (List Entry → Option Asked)
+
+-- all commands
+abbrev pub commands : List Making
+commands = (query_row, query_from) ∷ (check_row, check_from) ∷ (build_row, build_from) ∷ (ask_row, ask_from) ∷ (verify_row, verify_from) ∷ (face_row, face_from) ∷ (gen_row, gen_from) ∷ (trial_row, trial_from) ∷ (stab_row, stab_from) ∷ (dissolve_row, dissolve_from) ∷ []
+
+-- the row of the command of this name
+abbrev pub row_in : List Making → Text → Option CommandRow
+row_in all name = find (λ row. bytes_eq name row.name) (map (λ by. by.0) all)
+
+-- what the command of this name makes of what is given
+abbrev pub made_in : List Making → Text → List Entry → Option Asked
+made_in [] name given = None
+made_in (by ∷ all) name given = if bytes_eq name by.0.name then by.1 given else made_in all name given
+
 -- the command of this name that the words behind it are, if they are one
-abbrev pub command_named : Text → List Text → Option Asked
-command_named name words = if bytes_eq name query_row.name then option_and_then query_from (given_of query_row words)
-    else if bytes_eq name check_row.name then option_and_then check_from (given_of check_row words)
-    else if bytes_eq name build_row.name then option_and_then build_from (given_of build_row words)
-    else if bytes_eq name ask_row.name then option_and_then ask_from (given_of ask_row words)
-    else if bytes_eq name verify_row.name then option_and_then verify_from (given_of verify_row words)
-    else if bytes_eq name face_row.name then option_and_then face_from (given_of face_row words)
-    else if bytes_eq name gen_row.name then option_and_then gen_from (given_of gen_row words)
-    else if bytes_eq name trial_row.name then option_and_then trial_from (given_of trial_row words)
-    else if bytes_eq name stab_row.name then option_and_then stab_from (given_of stab_row words) else None
+abbrev pub named_in : List Making → Text → List Text → Option Asked
+named_in [] name words = None
+named_in (by ∷ all) name words = if bytes_eq name by.0.name then option_and_then by.1 (given_of by.0 words) else named_in all name words
 
 -- the command that the words are, if they are one: the first word names it
 unfoldable pub command_of : List Text → Option Asked
 command_of [] = None
-command_of (name ∷ words) = command_named name words
+command_of (name ∷ words) = named_in commands name words

@@ -1,6 +1,5 @@
 //! The command that words are.
-ghost use Rattle.std.specs.Prelude.{◌≡◌, ◌≤◌, ◌∷◌, [], IfErr, IfOk, IfSome, None, Some, find, if◌then◌else◌, map, option_and_then, option_map, string_bytes};
-ghost use Rattle.std.specs.Str.{bytes_eq};
+ghost use Rattle.std.specs.Prelude.{◌≡◌, ◌≤◌, IfErr, IfOk, IfSome, None, Some, map, option_map, string_bytes};
 ghost use Rattle.loc_spec_asked.specs.Orders.{asked_order};
 ghost use Rattle.loc_words.specs.Apps.{given_by};
 ghost use Rattle.loc_words.specs.Words as spec;
@@ -32,6 +31,8 @@ pub enum Command<'a> {
     Trial(Trial),
     /// The edges that the spans of a file meet, against a layer.
     Stab(Stab<'a>),
+    /// The features of a layer by their ids, as the polygons that they cover together.
+    Dissolve(Dissolve<'a>),
 }
 
 /// What a query says. Its places are as they stand in the words. The trapezoids are made of edges in the order of a file, or shuffled from a
@@ -108,6 +109,14 @@ pub struct Trial {
 pub struct Stab<'a> {
     pub layer: &'a str,
     pub spans: &'a str,
+    pub scale: u8,
+    pub form: Form,
+}
+
+/// Which layer is dissolved.
+#[derive(Clone, Copy, Debug, PartialEq, Eq)]
+pub struct Dissolve<'a> {
+    pub layer: &'a str,
     pub scale: u8,
     pub form: Form,
 }
@@ -193,6 +202,12 @@ const TRIAL: CommandRow<'static> = CommandRow {
 const STAB: CommandRow<'static> = CommandRow {
     name: "stab",
     places: &["layer", "spans"],
+    options: &[SCALE, FORM],
+};
+
+const DISSOLVE: CommandRow<'static> = CommandRow {
+    name: "dissolve",
+    places: &["layer"],
     options: &[SCALE, FORM],
 };
 
@@ -333,9 +348,17 @@ fn stab_from<'a>(given: &Given<'a>) -> Option<Command<'a>>
     }))
 }
 
+fn dissolve_from<'a>(given: &Given<'a>) -> Option<Command<'a>>
+    ensures scale { IfSome result spec.HasScale }
+    ensures value { option_map spec.asked_by result ≡ spec.dissolve_from (given_by given.now) }
+{
+    let (layer, scale, form) = layer_given(given)?;
+    Some(Command::Dissolve(Dissolve { layer, scale, form }))
+}
+
 // The row of the command of this name.
 fn row_named(name: &str) -> Option<&'static CommandRow<'static>>
-    ensures { option_map (λ row. spec.row_of row.now) result ≡ find (λ row. bytes_eq name.now row.name) (spec.query_row ∷ spec.check_row ∷ spec.build_row ∷ spec.ask_row ∷ spec.verify_row ∷ spec.face_row ∷ spec.gen_row ∷ spec.trial_row ∷ spec.stab_row ∷ []) }
+    ensures { option_map (λ row. spec.row_of row.now) result ≡ spec.row_in spec.commands name.now }
 {
     match name {
         "query" => Some(&QUERY),
@@ -347,6 +370,7 @@ fn row_named(name: &str) -> Option<&'static CommandRow<'static>>
         "gen" => Some(&GEN),
         "trial" => Some(&TRIAL),
         "stab" => Some(&STAB),
+        "dissolve" => Some(&DISSOLVE),
         _ => None,
     }
 }
@@ -354,7 +378,7 @@ fn row_named(name: &str) -> Option<&'static CommandRow<'static>>
 // The command of this name that is made of what was given for its row.
 fn command_from<'a>(name: &str, given: &Given<'a>) -> Option<Command<'a>>
     ensures scale { IfSome result spec.HasScale }
-    ensures value { let said = given_by given.now in option_map spec.asked_by result ≡ (if bytes_eq name.now spec.query_row.name then spec.query_from said else if bytes_eq name.now spec.check_row.name then spec.check_from said else if bytes_eq name.now spec.build_row.name then spec.build_from said else if bytes_eq name.now spec.ask_row.name then spec.ask_from said else if bytes_eq name.now spec.verify_row.name then spec.verify_from said else if bytes_eq name.now spec.face_row.name then spec.face_from said else if bytes_eq name.now spec.gen_row.name then spec.gen_from said else if bytes_eq name.now spec.trial_row.name then spec.trial_from said else if bytes_eq name.now spec.stab_row.name then spec.stab_from said else None) }
+    ensures value { option_map spec.asked_by result ≡ spec.made_in spec.commands name.now (given_by given.now) }
 {
     match name {
         "query" => query_from(given),
@@ -366,6 +390,7 @@ fn command_from<'a>(name: &str, given: &Given<'a>) -> Option<Command<'a>>
         "gen" => gen_from(given),
         "trial" => trial_from(given),
         "stab" => stab_from(given),
+        "dissolve" => dissolve_from(given),
         _ => None,
     }
 }
@@ -377,7 +402,7 @@ fn command_named<'a>(
     words: &'a [String],
 ) -> Result<Option<Command<'a>>, AllocError>
     ensures scale { IfOk result (λ command. IfSome command spec.HasScale) }
-    ensures value { IfOk result (λ command. option_map spec.asked_by command ≡ spec.command_named name.now (map string_bytes words.now)) }
+    ensures value { IfOk result (λ command. option_map spec.asked_by command ≡ spec.named_in spec.commands name.now (map string_bytes words.now)) }
 {
     let Some(row) = row_named(name) else {
         return Ok(None);

@@ -12,7 +12,9 @@ mod usage;
 mod values;
 mod words;
 
-pub use command::{Ask, Build, Check, Command, Face, Gen, Query, Stab, Trial, Verify, command_of};
+pub use command::{
+    Ask, Build, Check, Command, Dissolve, Face, Gen, Query, Stab, Trial, Verify, command_of,
+};
 pub use fault::WordsFault;
 pub use loc_gen::Kind;
 pub use loc_spec_asked::{EdgeOrder, Index};

@@ -1,9 +1,10 @@
 //! The commands of `clap`, made from rows.
-ghost use Rattle.std.specs.Prelude.{◌≡◌, [], IfOk, false, map, option_map, string_bytes, true};
+ghost use Rattle.std.specs.Prelude.{◌≡◌, [], IfOk, IsTrue, false, map, option_map, string_bytes, true};
+ghost use Rattle.std.specs.List.{list_all};
 ghost use Rattle.clap.specs.Words.{app_of, is_simple_and_free, rule_of};
 ghost use Rattle.loc_words.specs.Apps.{Parses, TakesRows, app_of_row, app_with, given_by, option_rule, place_rule, with_rules};
 ghost use Rattle.loc_words.specs.Rows as rows;
-ghost use Rattle.loc_words.specs.Words.{build_row, check_row, ask_row, face_row, gen_row, option_of, query_row, row_of, stab_row, trial_row, verify_row};
+ghost use Rattle.loc_words.specs.Words.{commands, option_of, row_of};
 
 use crate::row::{CommandRow, OptionKind, OptionRow};
 use crate::words::are_tested;
@@ -98,7 +99,7 @@ fn parser_of<'a>(alloc: Global, row: &CommandRow<'a>) -> Result<Command<'a>, All
 /// `clap` takes the words of each row, and what it finds is what they give. The commands are such rows.
 pub fn clap_takes_commands()
     ensures taken { TakesRows }
-    ensures rows { (rows.is_row query_row ≡ true) × (rows.is_row check_row ≡ true) × (rows.is_row build_row ≡ true) × (rows.is_row ask_row ≡ true) × (rows.is_row verify_row ≡ true) × (rows.is_row face_row ≡ true) × (rows.is_row gen_row ≡ true) × (rows.is_row trial_row ≡ true) × (rows.is_row stab_row ≡ true) }
+    ensures rows { IsTrue (list_all (λ by. rows.is_row by.0) commands) }
 {}
 
 // What `clap` makes of the words behind the command's name.

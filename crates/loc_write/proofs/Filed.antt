@@ -35,18 +35,12 @@ pub record AreFit (scale : ℕ) (t : Table) (l : LegendRows) (m : VersionsMeanin
   pub fits : FitsTable t l
   pub short : All (λ (id : List ℕ). length id ≤ most_id_bytes) l.ids
   pub features : feature_count t ≤ length l.ids
-  pub few_edges : length t.ends ≤ 2 ^ 20
-  pub few_marks : sum_by length t.marks ≤ 2 ^ 20
+  pub few_edges : length t.ends ≤ 2 ^ 21
+  pub few_marks : sum_by length t.marks ≤ 2 ^ 21
   pub as_many : length m.roots ≡ length t.corners
   pub settled : m.is_changed ≡ false
   pub items : m.past_greatest ≤ length t.ends
   pub few_nodes : length m.rows ≤ 24 * length t.ends
-
-own-sources : (ends : List (ℕ × ℕ)) (above : List ℕ) → list_all is_own_source (edge_rows ends above) ≡ true
-own-sources [] above = refl
-own-sources (p ∷ ends) [] = refl
-own-sources (p ∷ ends) (n ∷ above) =
-    and_from _ (list_all is_own_source (edge_rows ends above)) (and_from (p.0 == p.0) (p.1 == p.1) (eq-eqb p.0 p.0 refl) (eq-eqb p.1 p.1 refl)) (own-sources ends above)
 
 module _ (scale : ℕ) (t : Table) (l : LegendRows) (m : VersionsMeaning) (fit : AreFit scale t l m) (roots : List ℕ) (nodes : List NodeRow)
     (as_many_roots : length roots ≡ length m.roots) (as_many_nodes : length nodes ≡ length m.rows)
@@ -58,16 +52,17 @@ module _ (scale : ℕ) (t : Table) (l : LegendRows) (m : VersionsMeaning) (fit :
   above_many = fit.sound.as_many_above ∙ fit.fits.as_many_edges
 
   edges_many : length c.edges ≡ length t.ends
-  edges_many = length-edges t.ends l.above above_many
+  edges_many = length-edges t.ends t.sources l.above fit.in_order.sources_fit above_many
 
   edge-within : (i : ℕ) (d : EdgeRow) → i < length c.edges → IsEdgeWithin (length t.corners) (length l.lists) (get_or c.edges i d)
   edge-within i d lt =
       let less : i < length t.ends = omega (arith, lt, edges_many) in
       let up = fit.in_order.goes_up i less in
+      let from = fit.in_order.sources_go_up i less in
       let cover = fit.sound.above_in_range i (omega (arith, less, above_many)) in
-      subst (IsEdgeWithin (length t.corners) (length l.lists)) (sym (edge-at t.ends l.above i d above_many less)) (record { goes_up = up.0; upper = up.1; source = up.0; cover = cover })
+      subst (IsEdgeWithin (length t.corners) (length l.lists)) (sym (edge-at t.ends t.sources l.above i d fit.in_order.sources_fit above_many less)) (record { goes_up = up.0; upper = up.1; source = from.0; source_upper = from.1; cover = cover })
 
-  header-right : are_right (header_fields 1 c) ≡ true
+  header-right : are_right (header_fields 2 c) ≡ true
   header-right =
       let few_ids = fit.sound.few_features in
       let few_corners = fit.small.few_corners in
@@ -78,7 +73,7 @@ module _ (scale : ℕ) (t : Table) (l : LegendRows) (m : VersionsMeaning) (fit :
       let edges = fit.fits.as_many_edges in
       let few_nodes = fit.few_nodes in
       let scale_fits = fit.scale_fits in
-      all-right (header_fields 1 c)
+      all-right (header_fields 2 c)
       (refl, (refl, (omega (arith, scale_fits), (omega (arith, few_ids), (omega (arith, few_corners), (omega (arith, few_edges, edges_many), (omega (arith, few_marks, marks), (omega (arith, few_lists, edges, edges_many), (omega (arith, few_nodes, as_many_nodes, edges_many), tt)))))))))
 
   ids-right : are_right (flat_map id_fields l.ids) ≡ true
@@ -87,9 +82,9 @@ module _ (scale : ℕ) (t : Table) (l : LegendRows) (m : VersionsMeaning) (fit :
   corners-right : are_right (rows_from corner_fields [] t.corners) ≡ true
   corners-right = rows-right corner_fields before IsGridPoint corner-right [] t.corners (each-at IsGridPoint t.corners fit.on_grid) (rising-chain before t.corners fit.in_order.corners_rise)
 
-  edges-right : are_right (rows_from (edge_fields 1 (length t.corners) (length l.lists)) [] c.edges) ≡ true
-  edges-right = rows-right (edge_fields 1 (length t.corners) (length l.lists)) edge_row_before (IsEdgeWithin (length t.corners) (length l.lists)) (edge-right (length t.corners) (length l.lists)) [] c.edges
-      (each-at (IsEdgeWithin (length t.corners) (length l.lists)) c.edges edge-within) (chain-edges t.ends l.above fit.in_order.edges_rise)
+  edges-right : are_right (rows_from (edge_fields 2 (length t.corners) (length l.lists)) [] c.edges) ≡ true
+  edges-right = rows-right (edge_fields 2 (length t.corners) (length l.lists)) edge_row_before (IsEdgeWithin (length t.corners) (length l.lists)) (edge-right (length t.corners) (length l.lists)) [] c.edges
+      (each-at (IsEdgeWithin (length t.corners) (length l.lists)) c.edges edge-within) (chain-edges t.ends t.sources l.above fit.in_order.edges_rise)
 
   marks-right : are_right (rows_from (mark_fields (length c.edges) (length l.ids)) [] c.marks) ≡ true
   marks-right = rows-right (mark_fields (length c.edges) (length l.ids)) mark_row_before (IsMarkIn (length c.edges) (length l.ids)) (mark-right (length c.edges) (length l.ids)) [] c.marks
@@ -113,13 +108,13 @@ module _ (scale : ℕ) (t : Table) (l : LegendRows) (m : VersionsMeaning) (fit :
       (λ row w. node-right (length c.edges) (length t.corners) (length nodes) m.past_greatest m.is_changed row (let items = fit.items in omega (arith, items, edges_many)) fit.settled w) nodes
       (each-at (IsWithin m.past_greatest (length t.corners) (length nodes) m.is_changed) nodes (λ i d lt. subst (λ k. IsWithin m.past_greatest k (length nodes) m.is_changed (get_or nodes i d)) fit.as_many (subst (λ k. IsWithin m.past_greatest (length m.roots) k m.is_changed (get_or nodes i d)) (sym as_many_nodes) (nodes_within i d lt))))
 
-  fields-right : are_right (fields 1 c) ≡ true
+  fields-right : are_right (fields 2 c) ≡ true
   unfolding fields
-  fields-right = parts-right (parts 1 c) (header-right, (ids-right, (corners-right, (edges-right, (marks-right, (lists-right, (floors-right, (roots-right, (nodes-right, tt)))))))))
+  fields-right = parts-right (parts 2 c) (header-right, (ids-right, (corners-right, (edges-right, (marks-right, (lists-right, (floors-right, (roots-right, (nodes-right, tt)))))))))
 
-  pub filed : IsFileOf 1 c (bytes_of 1 c)
+  pub filed : IsFileOf 2 c (bytes_of 2 c)
   filed = record {
-    shaped = record { floors = fit.sound.as_many_floors ∙ fit.fits.as_many_corners; roots = as_many_roots ∙ fit.as_many; sources = own-sources t.ends l.above };
+    shaped = record { floors = fit.sound.as_many_floors ∙ fit.fits.as_many_corners; roots = as_many_roots ∙ fit.as_many; sources = refl };
     right = fields-right;
     spelled = refl;
   }

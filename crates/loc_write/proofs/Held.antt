@@ -14,21 +14,25 @@ use Rattle.loc_write.proofs.Lists.{length-edges}
 
 -- ---- edges
 
-ends-of : (ends : List (ℕ × ℕ)) (above : List ℕ) → length above ≡ length ends → map (λ (e : EdgeRow). e.ends) (edge_rows ends above) ≡ ends
-ends-of [] above l = refl
-ends-of (p ∷ ends) [] l = absurd (omega (arith, l))
-ends-of (p ∷ ends) (n ∷ above) l = ap (λ ps. p ∷ ps) (ends-of ends above (omega (arith, l)))
+ends-of : (ends sources : List (ℕ × ℕ)) (above : List ℕ) → length sources ≡ length ends → length above ≡ length ends → map (λ (e : EdgeRow). e.ends) (edge_rows ends sources above) ≡ ends
+ends-of [] sources above s l = refl
+ends-of (p ∷ ends) [] above s l = absurd (omega (arith, s))
+ends-of (p ∷ ends) (q ∷ sources) [] s l = absurd (omega (arith, l))
+ends-of (p ∷ ends) (q ∷ sources) (n ∷ above) s l = ap (λ ps. p ∷ ps) (ends-of ends sources above (omega (arith, s)) (omega (arith, l)))
 
-sources-of : (ends : List (ℕ × ℕ)) (above : List ℕ) → length above ≡ length ends → map (λ (e : EdgeRow). e.source) (edge_rows ends above) ≡ ends
-sources-of [] above l = refl
-sources-of (p ∷ ends) [] l = absurd (omega (arith, l))
-sources-of (p ∷ ends) (n ∷ above) l = ap (λ ps. p ∷ ps) (sources-of ends above (omega (arith, l)))
+sources-of : (ends sources : List (ℕ × ℕ)) (above : List ℕ) → length sources ≡ length ends → length above ≡ length ends → map (λ (e : EdgeRow). e.source) (edge_rows ends sources above) ≡ sources
+sources-of [] [] above s l = refl
+sources-of [] (q ∷ sources) above s l = absurd (omega (arith, s))
+sources-of (p ∷ ends) [] above s l = absurd (omega (arith, s))
+sources-of (p ∷ ends) (q ∷ sources) [] s l = absurd (omega (arith, l))
+sources-of (p ∷ ends) (q ∷ sources) (n ∷ above) s l = ap (λ ps. q ∷ ps) (sources-of ends sources above (omega (arith, s)) (omega (arith, l)))
 
-pub covers-of : (ends : List (ℕ × ℕ)) (above : List ℕ) → length above ≡ length ends → map (λ (e : EdgeRow). e.cover) (edge_rows ends above) ≡ above
-covers-of [] [] l = refl
-covers-of [] (n ∷ above) l = absurd (omega (arith, l))
-covers-of (p ∷ ends) [] l = absurd (omega (arith, l))
-covers-of (p ∷ ends) (n ∷ above) l = ap (λ ns. n ∷ ns) (covers-of ends above (omega (arith, l)))
+pub covers-of : (ends sources : List (ℕ × ℕ)) (above : List ℕ) → length sources ≡ length ends → length above ≡ length ends → map (λ (e : EdgeRow). e.cover) (edge_rows ends sources above) ≡ above
+covers-of [] sources [] s l = refl
+covers-of [] sources (n ∷ above) s l = absurd (omega (arith, l))
+covers-of (p ∷ ends) [] above s l = absurd (omega (arith, s))
+covers-of (p ∷ ends) (q ∷ sources) [] s l = absurd (omega (arith, l))
+covers-of (p ∷ ends) (q ∷ sources) (n ∷ above) s l = ap (λ ns. n ∷ ns) (covers-of ends sources above (omega (arith, s)) (omega (arith, l)))
 
 -- ---- marks
 
@@ -73,18 +77,18 @@ marks-back k (row ∷ rows) =
 
 -- ---- the whole
 
-same-table : (b b' : List (ℕ × ℕ)) (corners : List Point) (d d' : List (List Mark)) → b ≡ b' → d ≡ d' → ◌≡◌ {A = Table} (record { corners = corners; ends = b; marks = d }) (record { corners = corners; ends = b'; marks = d' })
-same-table b b' corners d d' q r = cc
+same-table : (b b' e e' : List (ℕ × ℕ)) (corners : List Point) (d d' : List (List Mark)) → b ≡ b' → d ≡ d' → e ≡ e' → ◌≡◌ {A = Table} (record { corners = corners; ends = b; marks = d; sources = e }) (record { corners = corners; ends = b'; marks = d'; sources = e' })
+same-table b b' e e' corners d d' q r s = cc
 
 held : (scale : ℕ) (t : Table) (l : LegendRows) (c : Content) → IsTable t → length l.above ≡ length t.ends → table_in (content_of scale t l c.roots c.nodes) ≡ t
 unfolding table_in
 held scale t l c in_order many =
-    same-table _ t.ends t.corners _ t.marks (ends-of t.ends l.above many)
-    (ap (λ n. map (marks_of (marks_from 0 t.marks)) (numbers n)) (length-edges t.ends l.above many ∙ sym in_order.marks_fit) ∙ marks-back 0 t.marks)
+    same-table _ t.ends _ t.sources t.corners _ t.marks (ends-of t.ends t.sources l.above in_order.sources_fit many)
+    (ap (λ n. map (marks_of (marks_from 0 t.marks)) (numbers n)) (length-edges t.ends t.sources l.above in_order.sources_fit many ∙ sym in_order.marks_fit) ∙ marks-back 0 t.marks)
+    (sources-of t.ends t.sources l.above in_order.sources_fit many)
 
 pub content_holds_parts : ContentHoldsParts
 content_holds_parts scale t l m c in_order many is = record {
   table = ap table_in is.parts ∙ held scale t l c in_order many;
-  above = ap cover_numbers is.parts ∙ covers-of t.ends l.above many;
-  sources = ap (λ (k : Content). map (λ (e : EdgeRow). e.source) k.edges) is.parts ∙ sources-of t.ends l.above many;
+  above = ap cover_numbers is.parts ∙ covers-of t.ends t.sources l.above in_order.sources_fit many;
 }

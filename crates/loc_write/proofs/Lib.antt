@@ -5,4 +5,4 @@ mod Lists
 mod Numbering
 mod Ranges
 mod Right
-mod Spelling
+pub mod Spelling

@@ -29,29 +29,32 @@ pairs a b c d e f = cc
 same-pair : (p q : ℕ × ℕ) → p.0 ≡ q.0 → p.1 ≡ q.1 → p ≡ q
 same-pair p q e f = pairs p.0 q.0 p.1 q.1 e f
 
-abbrev edge-of : ℕ × ℕ → ℕ → EdgeRow
-edge-of pair cover = record { ends = pair; source = pair; cover = cover }
+abbrev edge-of : ℕ × ℕ → ℕ × ℕ → ℕ → EdgeRow
+edge-of pair source cover = record { ends = pair; source = source; cover = cover }
 
-pub edge-at : (ends : List (ℕ × ℕ)) (above : List ℕ) (i : ℕ) (d : EdgeRow) → length above ≡ length ends → i < length ends → get_or (edge_rows ends above) i d ≡ edge-of (get_or ends i (0, 0)) (get_or above i 0)
-edge-at [] above i d l lt = absurd (omega (arith, lt))
-edge-at (p ∷ ends) [] i d l lt = absurd (omega (arith, l))
-edge-at (p ∷ ends) (n ∷ above) zero d l lt = refl
-edge-at (p ∷ ends) (n ∷ above) (suc i) d l lt = edge-at ends above i d (omega (arith, l)) (omega (arith, lt))
+pub edge-at : (ends sources : List (ℕ × ℕ)) (above : List ℕ) (i : ℕ) (d : EdgeRow) → length sources ≡ length ends → length above ≡ length ends → i < length ends → get_or (edge_rows ends sources above) i d ≡ edge-of (get_or ends i (0, 0)) (get_or sources i (0, 0)) (get_or above i 0)
+edge-at [] sources above i d s l lt = absurd (omega (arith, lt))
+edge-at (p ∷ ends) [] above i d s l lt = absurd (omega (arith, s))
+edge-at (p ∷ ends) (q ∷ sources) [] i d s l lt = absurd (omega (arith, l))
+edge-at (p ∷ ends) (q ∷ sources) (n ∷ above) zero d s l lt = refl
+edge-at (p ∷ ends) (q ∷ sources) (n ∷ above) (suc i) d s l lt = edge-at ends sources above i d (omega (arith, s)) (omega (arith, l)) (omega (arith, lt))
 
-pub length-edges : (ends : List (ℕ × ℕ)) (above : List ℕ) → length above ≡ length ends → length (edge_rows ends above) ≡ length ends
-length-edges [] above l = refl
-length-edges (p ∷ ends) [] l = absurd (omega (arith, l))
-length-edges (p ∷ ends) (n ∷ above) l = ap (λ k. suc k) (length-edges ends above (omega (arith, l)))
+pub length-edges : (ends sources : List (ℕ × ℕ)) (above : List ℕ) → length sources ≡ length ends → length above ≡ length ends → length (edge_rows ends sources above) ≡ length ends
+length-edges [] sources above s l = refl
+length-edges (p ∷ ends) [] above s l = absurd (omega (arith, s))
+length-edges (p ∷ ends) (q ∷ sources) [] s l = absurd (omega (arith, l))
+length-edges (p ∷ ends) (q ∷ sources) (n ∷ above) s l = ap (λ k. suc k) (length-edges ends sources above (omega (arith, s)) (omega (arith, l)))
 
-pub cut-edge : (ends : List (ℕ × ℕ)) (above : List ℕ) (i : ℕ) (pair : ℕ × ℕ) (cover : ℕ) (a : List ℕ) → length above ≡ length ends → i < length ends → pair.0 ≡ (get_or ends i (0, 0)).0 → pair.1 ≡ (get_or ends i (0, 0)).1
-    → slice_get above i ≡ Some cover → a ≡ edge_bytes (record { ends = pair; source = pair; cover = cover })
-    → flat_map edge_bytes (drop i (edge_rows ends above)) ≡ a ++ flat_map edge_bytes (drop (i + 1) (edge_rows ends above))
-cut-edge ends above i pair cover a l lt lower upper at is =
-    let d = edge-of pair cover in
-    let many = length-edges ends above l in
-    cut-at edge_bytes (edge_rows ends above) i d a (omega (arith, lt, many))
-    (is ∙ (ap (λ p. edge_bytes (edge-of p cover)) (same-pair pair (get_or ends i (0, 0)) lower upper)
-    ∙ (ap (λ n. edge_bytes (edge-of (get_or ends i (0, 0)) n)) (sym (get_or_from_slice_get above i cover 0 at)) ∙ ap edge_bytes (sym (edge-at ends above i d l lt)))))
+pub cut-edge : (ends sources : List (ℕ × ℕ)) (above : List ℕ) (i : ℕ) (pair source : ℕ × ℕ) (cover : ℕ) (a : List ℕ) → length sources ≡ length ends → length above ≡ length ends → i < length ends → pair.0 ≡ (get_or ends i (0, 0)).0 → pair.1 ≡ (get_or ends i (0, 0)).1
+    → source ≡ get_or sources i (0, 0) → slice_get above i ≡ Some cover → a ≡ edge_bytes (record { ends = pair; source = source; cover = cover })
+    → flat_map edge_bytes (drop i (edge_rows ends sources above)) ≡ a ++ flat_map edge_bytes (drop (i + 1) (edge_rows ends sources above))
+cut-edge ends sources above i pair source cover a s l lt lower upper from at is =
+    let d = edge-of pair source cover in
+    let many = length-edges ends sources above s l in
+    cut-at edge_bytes (edge_rows ends sources above) i d a (omega (arith, lt, many))
+    (is ∙ (ap (λ p. edge_bytes (edge-of p source cover)) (same-pair pair (get_or ends i (0, 0)) lower upper)
+    ∙ (ap (λ q. edge_bytes (edge-of (get_or ends i (0, 0)) q cover)) from
+    ∙ (ap (λ n. edge_bytes (edge-of (get_or ends i (0, 0)) (get_or sources i (0, 0)) n)) (sym (get_or_from_slice_get above i cover 0 at)) ∙ ap edge_bytes (sym (edge-at ends sources above i d s l lt))))))
 
 -- ---- marks
 

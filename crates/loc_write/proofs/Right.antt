@@ -77,24 +77,29 @@ pub record IsEdgeWithin (nv nc : ℕ) (e : EdgeRow) : Type 0 where
   pub goes_up : e.ends.0 < e.ends.1
   pub upper : e.ends.1 < nv
   pub source : e.source.0 < e.source.1
+  pub source_upper : e.source.1 < nv
   pub cover : e.cover < nc
 
-pub edge-right : (nv nc : ℕ) (earlier : List EdgeRow) (e : EdgeRow) → IsEdgeWithin nv nc e → follows edge_row_before (last_or None earlier) e ≡ true → are_right (edge_fields 1 nv nc earlier e) ≡ true
+pub edge-right : (nv nc : ℕ) (earlier : List EdgeRow) (e : EdgeRow) → IsEdgeWithin nv nc e → follows edge_row_before (last_or None earlier) e ≡ true → are_right (edge_fields 2 nv nc earlier e) ≡ true
 edge-right nv nc earlier e w h =
     let up = w.goes_up in
     let most = w.upper in
     let rises = and_from (is_rising_pair e.ends) (is_rising_pair e.source) (lt-ltb e.ends.0 e.ends.1 w.goes_up) (lt-ltb e.source.0 e.source.1 w.source) in
-    all-right (edge_fields 1 nv nc earlier e) (omega (arith, up, most), (most, (w.cover, (and_from (is_rising_pair e.ends && is_rising_pair e.source) _ rises h, tt))))
+    let from = w.source in
+    let top = w.source_upper in
+    all-right (edge_fields 2 nv nc earlier e) (omega (arith, up, most), (most, (w.cover, (omega (arith, from, top), (top, (and_from (is_rising_pair e.ends && is_rising_pair e.source) _ rises h, tt))))))
 
-pub chain-edges : (ends : List (ℕ × ℕ)) (above : List ℕ) → is_rising pair_before ends ≡ true → Chain edge_row_before None (edge_rows ends above)
-chain-edges [] above h = tt
-chain-edges (p ∷ ends) [] h = tt
-chain-edges (p ∷ ends) (n ∷ above) h = (refl, behind p n ends above h)
+pub chain-edges : (ends sources : List (ℕ × ℕ)) (above : List ℕ) → is_rising pair_before ends ≡ true → Chain edge_row_before None (edge_rows ends sources above)
+chain-edges [] sources above h = tt
+chain-edges (p ∷ ends) [] above h = tt
+chain-edges (p ∷ ends) (s ∷ sources) [] h = tt
+chain-edges (p ∷ ends) (s ∷ sources) (n ∷ above) h = (refl, behind p s n ends sources above h)
   where
-    behind : (p : ℕ × ℕ) (n : ℕ) (ends : List (ℕ × ℕ)) (above : List ℕ) → is_rising pair_before (p ∷ ends) ≡ true → Chain edge_row_before (Some (record { ends = p; source = p; cover = n })) (edge_rows ends above)
-    behind p n [] above h = tt
-    behind p n (q ∷ ends) [] h = tt
-    behind p n (q ∷ ends) (m ∷ above) h = let r = and_parts (list_all (pair_before p) (q ∷ ends)) (is_rising pair_before (q ∷ ends)) h in ((and_parts (pair_before p q) (list_all (pair_before p) ends) r.0).0, behind q m ends above r.1)
+    behind : (p s : ℕ × ℕ) (n : ℕ) (ends sources : List (ℕ × ℕ)) (above : List ℕ) → is_rising pair_before (p ∷ ends) ≡ true → Chain edge_row_before (Some (record { ends = p; source = s; cover = n })) (edge_rows ends sources above)
+    behind p s n [] sources above h = tt
+    behind p s n (q ∷ ends) [] above h = tt
+    behind p s n (q ∷ ends) (u ∷ sources) [] h = tt
+    behind p s n (q ∷ ends) (u ∷ sources) (m ∷ above) h = let r = and_parts (list_all (pair_before p) (q ∷ ends)) (is_rising pair_before (q ∷ ends)) h in ((and_parts (pair_before p q) (list_all (pair_before p) ends) r.0).0, behind q u m ends sources above r.1)
 
 -- ---- marks
 

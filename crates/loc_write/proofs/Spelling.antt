@@ -13,7 +13,7 @@ use Rattle.loc_spec_index.specs.IndexFile.{Field, number, none_or_next, spelled_
 use Rattle.loc_laws_index.proofs.Progress.{flat-rows, map-rows, spelled_all-append}
 use Rattle.loc_cover.specs.Legends.{LegendRows}
 use Rattle.loc_write.specs.Bytes.{header_bytes, id_bytes, corner_bytes, edge_bytes, mark_bytes, cover_bytes, number_bytes, node_bytes}
-use Rattle.loc_write.specs.Texts.{front_text, back_text}
+use Rattle.loc_write.specs.Texts.{front_text, head_text, list_text, tree_text}
 use Rattle.loc_write.specs.Written.{marks_from, content_of}
 use Rattle.loc_write.proofs.Lists.{length-edges}
 use Rattle.loc_write.proofs.Covers.{members}
@@ -46,29 +46,31 @@ nine : (a a' b b' c c' d d' e e' f f' g g' h h' i i' : List ℕ) → a ≡ a' �
     → a ++ (b ++ (c ++ (d ++ (e ++ (f ++ (g ++ (h ++ (i ++ [])))))))) ≡ a' ++ (b' ++ (c' ++ (d' ++ (e' ++ (f' ++ (g' ++ (h' ++ (i' ++ []))))))))
 nine a a' b b' c c' d d' e e' f f' g g' h h' i i' p q r s t u v w x = cc
 
-in-two : (a b c d e f g h i : List ℕ) → a ++ (b ++ (c ++ (d ++ (e ++ (f ++ (g ++ (h ++ (i ++ [])))))))) ≡ a ++ ((b ++ (c ++ (d ++ e))) ++ (f ++ (g ++ (h ++ i))))
-in-two a b c d e f g h i =
+in-pieces : (a b c d e f g h i : List ℕ) → a ++ (b ++ (c ++ (d ++ (e ++ (f ++ (g ++ (h ++ (i ++ [])))))))) ≡ (a ++ ((b ++ (c ++ (d ++ e))) ++ (f ++ g))) ++ (h ++ i)
+in-pieces a b c d e f g h i =
     ap (λ l. a ++ (b ++ (c ++ (d ++ (e ++ (f ++ (g ++ (h ++ l)))))))) (append-nil i)
-    ∙ ap (λ l. a ++ l) (sym (append_assoc b (c ++ (d ++ e)) (f ++ (g ++ (h ++ i))) ∙ ap (λ l. b ++ l) (append_assoc c (d ++ e) (f ++ (g ++ (h ++ i))) ∙ ap (λ l. c ++ l) (append_assoc d e (f ++ (g ++ (h ++ i)))))))
+    ∙ (ap (λ l. a ++ l) (sym (append_assoc b (c ++ (d ++ e)) (f ++ (g ++ (h ++ i))) ∙ ap (λ l. b ++ l) (append_assoc c (d ++ e) (f ++ (g ++ (h ++ i))) ∙ ap (λ l. c ++ l) (append_assoc d e (f ++ (g ++ (h ++ i)))))))
+    ∙ sym (append_assoc a ((b ++ (c ++ (d ++ e))) ++ (f ++ g)) (h ++ i) ∙ ap (λ l. a ++ l) (append_assoc (b ++ (c ++ (d ++ e))) (f ++ g) (h ++ i) ∙ ap (λ l. (b ++ (c ++ (d ++ e))) ++ l) (append_assoc f g (h ++ i)))))
 
-by-parts : (c : Content) → bytes_of 1 c ≡ header_bytes c.scale (length c.ids) (length c.corners) (length c.edges) (length c.marks) (length c.covers) (length c.nodes)
+by-parts : (c : Content) → bytes_of 2 c ≡ (header_bytes c.scale (length c.ids) (length c.corners) (length c.edges) (length c.marks) (length c.covers) (length c.nodes)
     ++ ((flat_map id_bytes c.ids ++ (flat_map corner_bytes c.corners ++ (flat_map edge_bytes c.edges ++ flat_map mark_bytes c.marks)))
-    ++ (flat_map cover_bytes c.covers ++ (flat_map (λ floor. number_bytes (none_or_next floor)) c.floors ++ (flat_map number_bytes c.roots ++ flat_map node_bytes c.nodes))))
+    ++ (flat_map cover_bytes c.covers ++ flat_map (λ floor. number_bytes (none_or_next floor)) c.floors)))
+    ++ (flat_map number_bytes c.roots ++ flat_map node_bytes c.nodes)
 unfolding fields
 by-parts c =
     let head = header_bytes c.scale (length c.ids) (length c.corners) (length c.edges) (length c.marks) (length c.covers) (length c.nodes) in
-    flat-parts (parts 1 c)
+    flat-parts (parts 2 c)
     ∙ (nine head head _ _ _ _ _ _ _ _ _ _ _ _ _ _ _ _
     refl
     (flat id_fields id_bytes (λ x. refl) c.ids)
     (rows corner_fields corner_bytes (λ earlier x. refl) [] c.corners)
-    (rows (edge_fields 1 (length c.corners) (length c.covers)) edge_bytes (λ earlier x. refl) [] c.edges)
+    (rows (edge_fields 2 (length c.corners) (length c.covers)) edge_bytes (λ earlier x. refl) [] c.edges)
     (rows (mark_fields (length c.edges) (length c.ids)) mark_bytes (λ earlier x. refl) [] c.marks)
     (rows (cover_fields (length c.ids)) cover_bytes (a-cover (length c.ids)) [] c.covers)
     (each (λ floor. number w32 (length c.edges + 1) (none_or_next floor)) (λ floor. number_bytes (none_or_next floor)) (λ floor. refl) c.floors)
     (each (number w32 (length c.nodes + 1)) number_bytes (λ n. refl) c.roots)
     (flat (node_fields (length c.edges) (length c.corners) (length c.nodes)) node_bytes (λ x. refl) c.nodes)
-    ∙ in-two head (flat_map id_bytes c.ids) (flat_map corner_bytes c.corners) (flat_map edge_bytes c.edges) (flat_map mark_bytes c.marks) (flat_map cover_bytes c.covers) (flat_map (λ floor. number_bytes (none_or_next floor)) c.floors) (flat_map number_bytes c.roots) (flat_map node_bytes c.nodes))
+    ∙ in-pieces head (flat_map id_bytes c.ids) (flat_map corner_bytes c.corners) (flat_map edge_bytes c.edges) (flat_map mark_bytes c.marks) (flat_map cover_bytes c.covers) (flat_map (λ floor. number_bytes (none_or_next floor)) c.floors) (flat_map number_bytes c.roots) (flat_map node_bytes c.nodes))
 
 -- ---- the content of a table, a legend and versions
 
@@ -87,9 +89,14 @@ length-marks e (row ∷ marks) =
 counts : (scale nf nf' nv nv' ne ne' nm nm' nc nc' nn nn' : ℕ) (rest : List ℕ) → nf ≡ nf' → nv ≡ nv' → ne ≡ ne' → nm ≡ nm' → nc ≡ nc' → nn ≡ nn' → header_bytes scale nf nv ne nm nc nn ++ rest ≡ header_bytes scale nf' nv' ne' nm' nc' nn' ++ rest
 counts scale nf nf' nv nv' ne ne' nm nm' nc nc' nn nn' rest p q r s t u = cc
 
-pub file-text : (scale : ℕ) (t : Table) (l : LegendRows) (roots : List ℕ) (nodes : List NodeRow) {nf nv ne nm nc nn : ℕ} (c : Content) → c ≡ content_of scale t l roots nodes → length l.above ≡ length t.ends
-    → nf ≡ length l.ids → nv ≡ length t.corners → ne ≡ length t.ends → nm ≡ sum_by length t.marks → nc ≡ length l.lists → nn ≡ length nodes
-    → header_bytes scale nf nv ne nm nc nn ++ (front_text t l ++ back_text l roots nodes) ≡ bytes_of 1 c
-file-text scale t l roots nodes c is many features corners edges marks covers rows =
-    sym (ap (bytes_of 1) is ∙ (by-parts (content_of scale t l roots nodes)
-    ∙ counts scale _ _ _ _ _ _ _ _ _ _ _ _ _ (sym features) (sym corners) (length-edges t.ends l.above many ∙ sym edges) (length-marks 0 t.marks ∙ sym marks) (sym covers) (sym rows)))
+-- a header by other words for its numbers
+pub header-text : (scale : ℕ) (t : Table) (l : LegendRows) {nf nv ne nm nc : ℕ} (nn : ℕ) → nf ≡ length l.ids → nv ≡ length t.corners → ne ≡ length t.ends → nm ≡ sum_by length t.marks → nc ≡ length l.lists
+    → header_bytes scale nf nv ne nm nc nn ++ (front_text t l ++ list_text l) ≡ head_text scale t l nn
+header-text scale t l nn features corners edges marks covers = counts scale _ _ _ _ _ _ _ _ _ _ nn nn (front_text t l ++ list_text l) features corners edges marks covers refl
+
+-- the whole file
+pub file-text : (scale : ℕ) (t : Table) (l : LegendRows) (roots : List ℕ) (nodes : List NodeRow) {nn : ℕ} (c : Content) → c ≡ content_of scale t l roots nodes → length t.sources ≡ length t.ends → length l.above ≡ length t.ends → nn ≡ length nodes
+    → head_text scale t l nn ++ tree_text roots nodes ≡ bytes_of 2 c
+file-text scale t l roots nodes {nn} c is sourced many rows =
+    sym (ap (bytes_of 2) is ∙ (by-parts (content_of scale t l roots nodes)
+    ∙ ap (λ head. head ++ tree_text roots nodes) (counts scale _ _ _ _ _ _ _ _ _ _ _ nn (front_text t l ++ list_text l) refl refl (length-edges t.ends t.sources l.above sourced many) (length-marks 0 t.marks) refl (sym rows))))

@@ -8,10 +8,10 @@ use Rattle.loc_spec_index.specs.declared.NodeRow.{NodeRow}
 use Rattle.loc_spec_index.specs.Content.{EdgeRow}
 use Rattle.loc_spec_index.specs.IndexFile.{magic, version, number, spelled_all, id_fields, corner_fields, edge_fields, mark_fields, cover_fields, node_fields}
 
--- a header of the first version
+-- a header of the second version
 abbrev pub header_bytes : (scale features corners edges marks covers nodes : ℕ) → List ℕ
 header_bytes scale features corners edges marks covers nodes =
-    spelled_all (magic (codes "LOCINDEX") ∷ version 1 ∷ number w32 0 scale ∷ number w32 0 features ∷ number w32 0 corners ∷ number w32 0 edges ∷ number w32 0 marks ∷ number w32 0 covers ∷ number w32 0 nodes ∷ [])
+    spelled_all (magic (codes "LOCINDEX") ∷ version 2 ∷ number w32 0 scale ∷ number w32 0 features ∷ number w32 0 corners ∷ number w32 0 edges ∷ number w32 0 marks ∷ number w32 0 covers ∷ number w32 0 nodes ∷ [])
 
 -- an id
 abbrev pub id_bytes : List ℕ → List ℕ
@@ -21,9 +21,9 @@ id_bytes id = spelled_all (id_fields id)
 abbrev pub corner_bytes : Point → List ℕ
 corner_bytes p = spelled_all (corner_fields [] p)
 
--- an edge of the first version
+-- an edge of the second version
 abbrev pub edge_bytes : EdgeRow → List ℕ
-edge_bytes e = spelled_all (edge_fields 1 0 0 [] e)
+edge_bytes e = spelled_all (edge_fields 2 0 0 [] e)
 
 -- a mark
 abbrev pub mark_bytes : ℕ × Mark → List ℕ

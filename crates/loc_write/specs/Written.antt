@@ -1,9 +1,9 @@
 -- The content that is written of a table, a legend and versions. The words:
---   edge_rows          edges by their ends and the numbers of their cover lists, each its own source
+--   edge_rows          edges by their ends, their sources and the numbers of their cover lists
 --   marks_from         the marks of edges one behind another, each behind the number of its edge
 --   content_of         the content of a table, a legend, roots and nodes
 --   IsContentOf        a content is that of a table, a legend and versions, at a scale
---   HoldsParts         what a content says of its edges is what the table and the legend say
+--   HoldsParts         a content has the table, and says of its edges what the legend says
 --   ContentHoldsParts  as a law: a content of a table, a legend and versions holds them
 use Rattle.std.specs.Prelude.{◌≡◌, ℕ, ◌+◌, List, [], ◌∷◌, ◌++◌, length, map}
 use Rattle.loc_spec_plane.specs.declared.Mark.{Mark}
@@ -14,11 +14,12 @@ use Rattle.loc_cover.specs.Legends.{LegendRows}
 use Rattle.loc_persist.specs.Meaning.{VersionsMeaning}
 use Rattle.loc_persist.specs.ByNumber.{AreRowsByNumber, AreRootsByNumber}
 
--- edges that are their own sources
-abbrev pub edge_rows : List (ℕ × ℕ) → List ℕ → List EdgeRow
-edge_rows [] covers = []
-edge_rows (pair ∷ ends) [] = []
-edge_rows (pair ∷ ends) (cover ∷ covers) = record { ends = pair; source = pair; cover = cover } ∷ edge_rows ends covers
+-- edges by their ends, sources and cover lists
+abbrev pub edge_rows : List (ℕ × ℕ) → List (ℕ × ℕ) → List ℕ → List EdgeRow
+edge_rows [] sources covers = []
+edge_rows (pair ∷ ends) [] covers = []
+edge_rows (pair ∷ ends) (source ∷ sources) [] = []
+edge_rows (pair ∷ ends) (source ∷ sources) (cover ∷ covers) = record { ends = pair; source = source; cover = cover } ∷ edge_rows ends sources covers
 
 -- the marks of the edges from number e on
 abbrev pub marks_from : ℕ → List (List Mark) → List (ℕ × Mark)
@@ -31,7 +32,7 @@ content_of scale table legend roots nodes = record {
   scale = scale;
   ids = legend.ids;
   corners = table.corners;
-  edges = edge_rows table.ends legend.above;
+  edges = edge_rows table.ends table.sources legend.above;
   marks = marks_from 0 table.marks;
   covers = legend.lists;
   floors = legend.floors;
@@ -46,11 +47,10 @@ pub record IsContentOf (scale : ℕ) (t : Table) (rows : LegendRows) (m : Versio
   pub roots : AreRootsByNumber m.rows m.roots c.roots
   pub as_many : length c.roots ≡ length m.roots
 
--- its table is this one, each edge names the list above it, and is its own source
+-- its table is this one, and each edge names the list above it
 pub record HoldsParts (t : Table) (rows : LegendRows) (c : Content) : Type 0 where
   pub table : table_in c ≡ t
   pub above : cover_numbers c ≡ rows.above
-  pub sources : map (λ (e : EdgeRow). e.source) c.edges ≡ t.ends
 
 -- a content of a table, a legend and versions holds them
 abbrev pub ContentHoldsParts : Type 0

@@ -18,6 +18,7 @@ use loc_edges::{EdgeTable, Mark};
 use loc_io::{Shelf, WriteFault};
 use loc_making::FilePage;
 use loc_persist::Versions;
+use loc_spec_index::NodeRow;
 
 // The ids.
 pub(crate) fn put_ids<F: Shelf>(
@@ -63,11 +64,12 @@ pub(crate) fn put_edges<F: Shelf>(
 ) -> Result<(), WriteFault>
     requires making { (F.meaning shelf.old).is_making ≡ true }
     requires as_many { length legend.now.above ≡ length table.now.ends }
-    ensures put { PutsBytes (flat_map edge_bytes (edge_rows table.now.ends legend.now.above)) (F.meaning shelf.old) (F.meaning shelf.new) page.old page.new result }
+    requires sourced { length table.now.sources ≡ length table.now.ends }
+    ensures put { PutsBytes (flat_map edge_bytes (edge_rows table.now.ends table.now.sources legend.now.above)) (F.meaning shelf.old) (F.meaning shelf.new) page.old page.new result }
     ensures making { OnOk result ((F.meaning shelf.new).is_making ≡ true) }
 {
     for edge in 0..table.edge_count() {
-        let row = edge_row(table.ends(edge), legend.cover_of(edge));
+        let row = edge_row(table.ends(edge), legend.cover_of(edge), table.source(edge));
         page.put(shelf, row.as_slice())?;
     }
     Ok(())
@@ -76,7 +78,7 @@ pub(crate) fn put_edges<F: Shelf>(
 // How many marks all edges have.
 pub(crate) fn count_marks(table: &EdgeTable) -> u32
     requires as_many { length table.now.marks ≡ length table.now.ends }
-    requires few { sum_by length table.now.marks ≤ 2 ^ 20 }
+    requires few { sum_by length table.now.marks ≤ 2 ^ 21 }
     ensures { result ≡ sum_by length table.now.marks }
 {
     let mut count = 0;
@@ -121,14 +123,18 @@ pub(crate) fn put_marks<F: Shelf>(
     Ok(())
 }
 
-// The members of a cover list.
-fn put_members<F: Shelf>(page: &mut FilePage, shelf: &mut F, list: &[u32]) -> Result<(), WriteFault>
+// Numbers, as the members of a cover list or roots.
+pub(crate) fn put_numbers<F: Shelf>(
+    page: &mut FilePage,
+    shelf: &mut F,
+    list: &[u32],
+) -> Result<(), WriteFault>
     requires making { (F.meaning shelf.old).is_making ≡ true }
     ensures put { PutsBytes (flat_map number_bytes list.now) (F.meaning shelf.old) (F.meaning shelf.new) page.old page.new result }
     ensures making { OnOk result ((F.meaning shelf.new).is_making ≡ true) }
 {
-    for member in list {
-        let row = number_row(*member);
+    for number in list {
+        let row = number_row(*number);
         page.put(shelf, row.as_slice())?;
     }
     Ok(())
@@ -143,7 +149,7 @@ fn put_cover<F: Shelf>(page: &mut FilePage, shelf: &mut F, list: &[u32]) -> Resu
 {
     let row = number_row(list.len() as u32);
     page.put(shelf, row.as_slice())?;
-    put_members(page, shelf, list)
+    put_numbers(page, shelf, list)
 }
 
 // The cover lists.
@@ -215,6 +221,23 @@ pub(crate) fn put_nodes<F: Shelf>(
 {
     for before in 0..versions.nodes() {
         let row = node_row(versions.row(before + 1));
+        page.put(shelf, row.as_slice())?;
+    }
+    Ok(())
+}
+
+// Nodes.
+pub(crate) fn put_node_rows<F: Shelf>(
+    page: &mut FilePage,
+    shelf: &mut F,
+    nodes: &[NodeRow],
+) -> Result<(), WriteFault>
+    requires making { (F.meaning shelf.old).is_making ≡ true }
+    ensures put { PutsBytes (flat_map node_bytes nodes.now) (F.meaning shelf.old) (F.meaning shelf.new) page.old page.new result }
+    ensures making { OnOk result ((F.meaning shelf.new).is_making ≡ true) }
+{
+    for node in nodes {
+        let row = node_row(*node);
         page.put(shelf, row.as_slice())?;
     }
     Ok(())

@@ -94,14 +94,16 @@ pub(crate) fn corner_row(corner: Point) -> RowBytes
     row
 }
 
-// An edge by its ends and the number of its cover list.
-pub(crate) fn edge_row(ends: (u32, u32), cover: u32) -> RowBytes
-    ensures { result.items ≡ edge_bytes (record { ends = ends; source = ends; cover = cover }) }
+// An edge by its ends, the number of its cover list, and its source.
+pub(crate) fn edge_row(ends: (u32, u32), cover: u32, source: (u32, u32)) -> RowBytes
+    ensures { result.items ≡ edge_bytes (record { ends = ends; source = source; cover = cover }) }
 {
     let mut row = RowBytes::new();
     add_number(&mut row, ends.0);
     add_number(&mut row, ends.1);
     add_number(&mut row, cover);
+    add_number(&mut row, source.0);
+    add_number(&mut row, source.1);
     row
 }
 
@@ -141,13 +143,13 @@ pub(crate) struct Counts {
     pub(crate) nodes: u32,
 }
 
-// The header of a file of the first version.
+// The header of a file of the second version.
 pub(crate) fn header_row(scale: u8, counts: Counts) -> RowBytes
     ensures { result.items ≡ header_bytes scale counts.features counts.corners counts.edges counts.marks counts.covers counts.nodes }
 {
     let mut row = RowBytes::new();
     add(&mut row, b"LOCINDEX");
-    add_number(&mut row, 1);
+    add_number(&mut row, 2);
     add_number(&mut row, scale as u32);
     add_number(&mut row, counts.features);
     add_number(&mut row, counts.corners);

@@ -8,7 +8,7 @@ ghost use Rattle.loc_spec_index.specs.IndexFile.{IsFileOf, bytes_of};
 ghost use Rattle.loc_cover.specs.Legends.{FitsTable, IsSound};
 ghost use Rattle.loc_making.specs.Making.{PutsBytes};
 ghost use Rattle.loc_making.specs.Writing.{WritesFile};
-ghost use Rattle.loc_write.specs.Texts.{front_text, back_text};
+ghost use Rattle.loc_write.specs.Texts.{front_text, head_text, list_text};
 ghost use Rattle.loc_write.specs.Written.{IsContentOf};
 ghost use Rattle.loc_rings.specs.Values.{most_id_bytes};
 
@@ -35,6 +35,7 @@ fn put_front<F: Shelf>(
     requires short { All (λ (id : List ℕ). length id ≤ most_id_bytes) legend.now.ids }
     requires as_many { length legend.now.above ≡ length table.now.ends }
     requires marked { length table.now.marks ≡ length table.now.ends }
+    requires sourced { length table.now.sources ≡ length table.now.ends }
     ensures put { PutsBytes (front_text table.now legend.now) (F.meaning shelf.old) (F.meaning shelf.new) page.old page.new result }
     ensures making { OnOk result ((F.meaning shelf.new).is_making ≡ true) }
 {
@@ -44,28 +45,56 @@ fn put_front<F: Shelf>(
     put_marks(page, shelf, table)
 }
 
-// The cover lists, the floors, the roots and the nodes.
-fn put_back<F: Shelf>(
+// The cover lists and the floors.
+fn put_lists<F: Shelf>(
     page: &mut FilePage,
     shelf: &mut F,
     table: &EdgeTable,
     legend: &Legend,
-    versions: &Versions,
 ) -> Result<(), WriteFault>
     requires making { (F.meaning shelf.old).is_making ≡ true }
     requires fits { FitsTable table.now legend.now }
     requires sound { IsSound legend.now }
-    ensures put { (scale : ℕ) (c : Content) → IsContentOf scale table.now legend.now versions.now c
-        → PutsBytes (back_text legend.now c.roots c.nodes) (F.meaning shelf.old) (F.meaning shelf.new) page.old page.new result }
+    ensures put { PutsBytes (list_text legend.now) (F.meaning shelf.old) (F.meaning shelf.new) page.old page.new result }
     ensures making { OnOk result ((F.meaning shelf.new).is_making ≡ true) }
 {
     put_covers(page, shelf, legend)?;
-    put_floors(page, shelf, legend, table.corner_count())?;
-    put_roots(page, shelf, versions)?;
-    put_nodes(page, shelf, versions)
+    put_floors(page, shelf, legend, table.corner_count())
 }
 
-// All parts behind a header.
+// The header, and all parts but the roots and the nodes, of which there are so many.
+pub(crate) fn put_head<F: Shelf>(
+    page: &mut FilePage,
+    shelf: &mut F,
+    scale: u8,
+    table: &EdgeTable,
+    legend: &Legend,
+    nodes: u32,
+) -> Result<(), WriteFault>
+    requires making { (F.meaning shelf.old).is_making ≡ true }
+    requires in_order { IsTable table.now }
+    requires sound { IsSound legend.now }
+    requires fits { FitsTable table.now legend.now }
+    requires short { All (λ (id : List ℕ). length id ≤ most_id_bytes) legend.now.ids }
+    requires few_marks { sum_by length table.now.marks ≤ 2 ^ 21 }
+    ensures put { PutsBytes (head_text scale table.now legend.now nodes) (F.meaning shelf.old) (F.meaning shelf.new) page.old page.new result }
+    ensures making { OnOk result ((F.meaning shelf.new).is_making ≡ true) }
+{
+    let counts = Counts {
+        features: legend.features(),
+        corners: table.corner_count(),
+        edges: table.edge_count(),
+        marks: count_marks(table),
+        covers: legend.covers(),
+        nodes,
+    };
+    let header = header_row(scale, counts);
+    page.put(shelf, header.as_slice())?;
+    put_front(page, shelf, table, legend)?;
+    put_lists(page, shelf, table, legend)
+}
+
+// All parts, with the roots and the nodes of versions.
 fn put_parts<F: Shelf>(
     page: &mut FilePage,
     shelf: &mut F,
@@ -79,23 +108,14 @@ fn put_parts<F: Shelf>(
     requires sound { IsSound legend.now }
     requires fits { FitsTable table.now legend.now }
     requires short { All (λ (id : List ℕ). length id ≤ most_id_bytes) legend.now.ids }
-    requires few_marks { sum_by length table.now.marks ≤ 2 ^ 20 }
+    requires few_marks { sum_by length table.now.marks ≤ 2 ^ 21 }
     ensures put { (c : Content) → IsContentOf scale table.now legend.now versions.now c
-        → PutsBytes (bytes_of 1 c) (F.meaning shelf.old) (F.meaning shelf.new) page.old page.new result }
+        → PutsBytes (bytes_of 2 c) (F.meaning shelf.old) (F.meaning shelf.new) page.old page.new result }
     ensures making { OnOk result ((F.meaning shelf.new).is_making ≡ true) }
 {
-    let counts = Counts {
-        features: legend.features(),
-        corners: table.corner_count(),
-        edges: table.edge_count(),
-        marks: count_marks(table),
-        covers: legend.covers(),
-        nodes: versions.nodes(),
-    };
-    let header = header_row(scale, counts);
-    page.put(shelf, header.as_slice())?;
-    put_front(page, shelf, table, legend)?;
-    put_back(page, shelf, table, legend, versions)
+    put_head(page, shelf, scale, table, legend, versions.nodes())?;
+    put_roots(page, shelf, versions)?;
+    put_nodes(page, shelf, versions)
 }
 
 // Makes a file of all parts.
@@ -111,9 +131,9 @@ fn make_file<F: Shelf>(
     requires sound { IsSound legend.now }
     requires fits { FitsTable table.now legend.now }
     requires short { All (λ (id : List ℕ). length id ≤ most_id_bytes) legend.now.ids }
-    requires few_marks { sum_by length table.now.marks ≤ 2 ^ 20 }
+    requires few_marks { sum_by length table.now.marks ≤ 2 ^ 21 }
     ensures { (c : Content) → IsContentOf scale table.now legend.now versions.now c
-        → WritesFile name.now (bytes_of 1 c) (F.meaning shelf.old) (F.meaning shelf.new) result }
+        → WritesFile name.now (bytes_of 2 c) (F.meaning shelf.old) (F.meaning shelf.new) result }
 {
     shelf.create(name)?;
     let mut page = FilePage::new();
@@ -123,7 +143,7 @@ fn make_file<F: Shelf>(
     Ok(())
 }
 
-/// Makes the index file of a table, its legend and its versions, of which one is sealed for each corner. A `WriteFault` comes exactly where
+/// Makes the index file, of the second version, of a table, its legend and its versions, of which one is sealed for each corner. A `WriteFault` comes exactly where
 /// a call of the shelf failed; the file then holds a front of the bytes, or is as before. No memory is taken.
 pub fn write_index<F: Shelf>(
     shelf: &mut F,
@@ -137,14 +157,14 @@ pub fn write_index<F: Shelf>(
     requires fits { FitsTable table.now legend.now }
     requires short_ids { All (λ (id : List ℕ). length id ≤ most_id_bytes) legend.now.ids }
     requires features { feature_count table.now ≤ length legend.now.ids }
-    requires few_edges { length table.now.ends ≤ 2 ^ 20 }
-    requires few_marks { sum_by length table.now.marks ≤ 2 ^ 20 }
+    requires few_edges { length table.now.ends ≤ 2 ^ 21 }
+    requires few_marks { sum_by length table.now.marks ≤ 2 ^ 21 }
     requires as_many_versions { length versions.now.roots ≡ length table.now.corners }
     requires settled { versions.now.is_changed ≡ false }
     requires items { versions.now.past_greatest ≤ length table.now.ends }
     requires few_nodes { length versions.now.rows ≤ 24 * length table.now.ends }
-    ensures { (c : Content) × IsContentOf scale table.now legend.now versions.now c × IsFileOf 1 c (bytes_of 1 c)
-        × WritesFile name.now (bytes_of 1 c) (F.meaning shelf.old) (F.meaning shelf.new) result }
+    ensures { (c : Content) × IsContentOf scale table.now legend.now versions.now c × IsFileOf 2 c (bytes_of 2 c)
+        × WritesFile name.now (bytes_of 2 c) (F.meaning shelf.old) (F.meaning shelf.new) result }
 {
     table.law();
     legend.law();

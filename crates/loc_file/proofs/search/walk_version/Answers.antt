@@ -9,30 +9,30 @@ use Rattle.loc_file.proofs.search.walk_version.Goals as goal
 use Rattle.loc_file.proofs.search.walk_version.Goals.{in-Above, in-Below}
 
 pub side-requires : goal.side-requires
-side-requires g c = let e = edges-there c.args.held.now c.args.views.now c.requires.fits in record { in_range = omega (arith, e, c.row-row.ensures.within.item) }
+side-requires g c = let e = edges-there c.args.held.now.content c.args.views.now c.requires.fits in record { in_range = omega (arith, e, c.row-row.ensures.within.item) }
 
 pub returns-in-On-clause-found : goal.returns-in-On-clause-found
 returns-in-On-clause-found g c =
     let l = c.loop-walked in
-    sym (ap answer_of (l.invariant.found ∙ walk-on c.args.views.now c.args.held.now.nodes c.args.p c.args.version (42 - l.walked) l.at l.floor c.row-row.result c.if-at-eq0.false (omega arith) c.row-row.ensures.value c.in-On.ensures.value))
+    sym (ap answer_of (l.invariant.found ∙ walk-on c.args.views.now c.args.held.now.content.nodes c.args.p c.args.version (42 - l.walked) l.at l.floor c.row-row.result c.if-at-eq0.false (omega arith) c.row-row.ensures.value c.in-On.ensures.value))
 
 pub returns-in-On-clause-within : goal.returns-in-On-clause-within
 returns-in-On-clause-within g c =
     let l = c.loop-walked in
-    let d = depth-child c.args.held.now.nodes c.args.version (42 - l.walked) l.at Left c.row-row.result c.if-at-eq0.false (omega arith) c.row-row.ensures.value in
+    let d = depth-child c.args.held.now.content.nodes c.args.version (42 - l.walked) l.at Left c.row-row.result c.if-at-eq0.false (omega arith) c.row-row.ensures.value in
     omega (arith, l.invariant.few, c.side.ensures.counted, d)
 
 pub loop-walked-preserved : goal.loop-walked-preserved
 loop-walked-preserved g c =
     let t = c.args.views.now in
-    let rows = c.args.held.now.nodes in
+    let rows = c.args.held.now.content.nodes in
     let l = c.loop-walked in
     let i = l.invariant in
     elim c.match-side.branch [
       | in-Above w ↦ record {
         found = i.found ∙ (walk-right t rows c.args.p c.args.version (42 - l.walked) l.at l.floor c.row-row.result c.if-at-eq0.false (omega arith) c.row-row.ensures.value w.in-Above.ensures.value
             ∙ same-walk t rows c.args.p c.args.version (42 - l.walked - 1) (42 - (l.walked + 1)) _ _ _ _ (omega arith) (sym (w.at-is ∙ w.right_of-at.ensures)) (sym w.floor-is));
-        within = subst (λ n. n ≤ length rows) (sym (w.at-is ∙ w.right_of-at.ensures)) (child-within (length c.args.held.now.edges) (length rows) c.row-row.result Right c.args.version c.row-row.ensures.within);
+        within = subst (λ n. n ≤ length rows) (sym (w.at-is ∙ w.right_of-at.ensures)) (child-within (length c.args.held.now.content.edges) (length rows) c.row-row.result Right c.args.version c.row-row.ensures.within);
         counted = omega (arith, i.counted, c.side.ensures.counted);
         few =
             let d = depth-child rows c.args.version (42 - l.walked) l.at Right c.row-row.result c.if-at-eq0.false (omega arith) c.row-row.ensures.value in
@@ -42,7 +42,7 @@ loop-walked-preserved g c =
       | in-Below w ↦ record {
         found = i.found ∙ (walk-left t rows c.args.p c.args.version (42 - l.walked) l.at l.floor c.row-row.result c.if-at-eq0.false (omega arith) c.row-row.ensures.value w.in-Below.ensures.value
             ∙ same-walk t rows c.args.p c.args.version (42 - l.walked - 1) (42 - (l.walked + 1)) _ _ _ _ (omega arith) (sym (w.at-is ∙ w.left_of-at.ensures)) (sym w.floor-is));
-        within = subst (λ n. n ≤ length rows) (sym (w.at-is ∙ w.left_of-at.ensures)) (child-within (length c.args.held.now.edges) (length rows) c.row-row.result Left c.args.version c.row-row.ensures.within);
+        within = subst (λ n. n ≤ length rows) (sym (w.at-is ∙ w.left_of-at.ensures)) (child-within (length c.args.held.now.content.edges) (length rows) c.row-row.result Left c.args.version c.row-row.ensures.within);
         counted = omega (arith, i.counted, c.side.ensures.counted);
         few =
             let d = depth-child rows c.args.version (42 - l.walked) l.at Left c.row-row.result c.if-at-eq0.false (omega arith) c.row-row.ensures.value in

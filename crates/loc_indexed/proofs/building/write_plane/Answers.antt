@@ -27,8 +27,8 @@ returns-in-Ok g c layer laid =
     let holds = c.content_holds_parts.ensures c.decimals.result t rows m w.0 c.law.ensures.in_order (c.law-2.ensures.as_many_above ∙ laid.map.fits.as_many_edges) w.1 in
     let versions = subst (λ (x : VersionsMeaning). AreVersions t x.sealed_lists) (sym c.versions-versions.ensures) c.swept_stands.ensures.stands.versions in
     record {
-      text = bytes_of 1 w.0;
-      is = subst (λ s. IsIndexFileOf s layer (bytes_of 1 w.0)) c.decimals.ensures.value (index_written layer t rows laid m c.law-2.ensures c.sealed-sealed.ensures.facts versions c.decimals.result w.0 w.1 holds w.2);
+      text = bytes_of 2 w.0;
+      is = subst (λ s. IsIndexFileOf s layer (bytes_of 2 w.0)) c.decimals.ensures.value (index_written layer t rows laid m c.law-2.ensures c.sealed-sealed.ensures.facts versions c.decimals.result w.0 w.1 holds w.2);
       makes = made_file _ _ _ _ _ w.3;
     }
 
@@ -41,7 +41,7 @@ returns-in-Err g c layer laid =
     let holds = c.content_holds_parts.ensures c.decimals.result t rows m w.0 c.law.ensures.in_order (c.law-2.ensures.as_many_above ∙ laid.map.fits.as_many_edges) w.1 in
     let versions = subst (λ (x : VersionsMeaning). AreVersions t x.sealed_lists) (sym c.versions-versions.ensures) c.swept_stands.ensures.stands.versions in
     record {
-      text = bytes_of 1 w.0;
-      is = subst (λ s. IsIndexFileOf s layer (bytes_of 1 w.0)) c.decimals.ensures.value (index_written layer t rows laid m c.law-2.ensures c.sealed-sealed.ensures.facts versions c.decimals.result w.0 w.1 holds w.2);
+      text = bytes_of 2 w.0;
+      is = subst (λ s. IsIndexFileOf s layer (bytes_of 2 w.0)) c.decimals.ensures.value (index_written layer t rows laid m c.law-2.ensures c.sealed-sealed.ensures.facts versions c.decimals.result w.0 w.1 holds w.2);
       makes = cut_file _ _ _ _ _ w.3;
     }

@@ -19,7 +19,7 @@ pub returns-clause-goes_on : goal.returns-clause-goes_on
 returns-clause-goes_on g c next o k =
     let mid = moment (g.F.Shelf.meaning c.read_source.new.shelf) o k in
     let behind : Text → Course = λ bytes. index_in (reading bytes) next in
-    goes_further _ _ mid mid (λ v. behind v.items) c.in_ok-bytes.bytes next c.read_index_in.result (c.in_ok-bytes.ensures.goes_on behind o k) (rw c.deref.ensures.value at (c.read_index_in.ensures.goes_on next mid))
+    goes_further _ _ mid mid (λ v. behind v.items) c.in_ok-bytes.bytes (λ held. next held.content) c.read_index_in.result (c.in_ok-bytes.ensures.goes_on behind o k) (rw c.deref.ensures.value at (c.read_index_in.ensures.goes_on next mid))
 
 pub returns-clause-told : goal.returns-clause-told
 returns-clause-told g c =

@@ -10,7 +10,7 @@ pub returns-clause-of_true : goal.returns-clause-of_true
 returns-clause-of_true c = λ points bytes content file is_true. true_course content bytes file is_true points
 
 pub returns-clause-of_layer : goal.returns-clause-of_layer
-returns-clause-of_layer c = λ points scale layer content of. layer_course scale layer content of points
+returns-clause-of_layer c = λ points v scale layer content of. layer_course v scale layer content of points
 
 pub returns-clause-refuses_behind : goal.returns-clause-refuses_behind
 returns-clause-refuses_behind c = ask_refuses_behind

@@ -1,5 +1,5 @@
 use Rattle.std.proofs.Common.{refl}
-use Rattle.loc_reach.proofs.Written.{cut, same_course, written}
+use Rattle.loc_reach.proofs.Written.{failed, same_course, written}
 use Rattle.loc_reach.proofs.stabbing.write_spans.Goals as goal
 
 pub returns-in-Ok : goal.returns-in-Ok
@@ -8,4 +8,4 @@ returns-in-Ok g c = λ shelf. same_course c.decimals.ensures.value c.views-views
 
 pub returns-in-Err : goal.returns-in-Err
 returns-in-Err g c = λ shelf. same_course c.decimals.ensures.value c.views-views.ensures refl
-    (cut c.decimals.result c.views-views.result c.args.text.now shelf _ _ _ _ c.write_answers.ensures.counted c.write_answers.ensures.within c.write_answers.result _ c.in-Err.is c.write_answers.ensures.written)
+    (failed c.decimals.result c.views-views.result c.args.text.now shelf _ _ _ _ c.write_answers.ensures.counted c.write_answers.ensures.within c.write_answers.result _ c.in-Err.is c.write_answers.ensures.written)

@@ -42,3 +42,18 @@ returns-in_ok-test_both-in-Ok-2 g c =
       in_range = (inserted_neighbours t c.args.edge old new c.in-Ok.beside c.requires.in_range c.requires.chain come c.in-Ok.ensures.beside).1;
       shown = tt;
     }
+
+pub returns-in-Err-Hits-clause-here : goal.returns-in-Err-Hits-clause-here
+returns-in-Err-Hits-clause-here g c = tt
+
+pub returns-in-Err-Hits-clause-others : goal.returns-in-Err-Hits-clause-others
+returns-in-Err-Hits-clause-others g c = tt
+
+pub returns-in-Err-Hits-clause-chain : goal.returns-in-Err-Hits-clause-chain
+returns-in-Err-Hits-clause-chain g c = tt
+
+pub returns-in-Err-Hits-clause-beside : goal.returns-in-Err-Hits-clause-beside
+returns-in-Err-Hits-clause-beside g c = tt
+
+pub returns-in-Err-Hits-clause-in_range : goal.returns-in-Err-Hits-clause-in_range
+returns-in-Err-Hits-clause-in_range g c = tt

@@ -2,43 +2,48 @@ use Rattle.std.proofs.Common.{arith}
 use Rattle.std.proofs.lemmas.Result.{IfErr-weaker, on_ok_weaker}
 use Rattle.loc_file.proofs.Steps.{handed}
 use Rattle.loc_verify.specs.Judged.{IsFaultOf, IsJudged}
-use Rattle.loc_verify.proofs.Ranked.{judged, none_below, sources_right}
+use Rattle.loc_verify.proofs.Ranked.{judged, none_below}
 use Rattle.loc_verify.proofs.judge.verify.Goals as goal
 
 pub returns-in_err-judge_corners-clause-first : goal.returns-in_err-judge_corners-clause-first
 returns-in_err-judge_corners-clause-first c =
-    handed c.from_residual.result _ (IsJudged c.args.held.now) c.from_residual.ensures.1
-    (judged c.args.held.now _ c.law.ensures 0 (λ other there less. omega (arith, less)) c.in_err-judge_corners.field-0.0 c.in_err-judge_corners.ensures.fault)
+    handed c.from_residual.result _ (IsJudged c.args.held.now.content) c.from_residual.ensures.1
+    (judged c.args.held.now.content 0 (λ other there less. omega (arith, less)) c.in_err-judge_corners.field-0.0 c.in_err-judge_corners.ensures.fault)
 
 pub returns-in_err-judge_edges-clause-first : goal.returns-in_err-judge_edges-clause-first
 returns-in_err-judge_edges-clause-first c =
-    handed c.from_residual-in_err-judge_edges.result _ (IsJudged c.args.held.now) c.from_residual-in_err-judge_edges.ensures.1
-    (judged c.args.held.now _ c.law.ensures 1 (none_below c.args.held.now _ c.law.ensures 1 (omega arith) (λ l. c.in_ok-judge_corners.ensures.ok) (λ l. absurd (omega (arith, l))) (λ l. absurd (omega (arith, l))) (λ l. absurd (omega (arith, l))) (λ l. absurd (omega (arith, l))) (λ l. absurd (omega (arith, l))) (λ l. absurd (omega (arith, l)))) c.in_err-judge_edges.field-0.0 c.in_err-judge_edges.ensures.fault)
+    handed c.from_residual-in_err-judge_edges.result _ (IsJudged c.args.held.now.content) c.from_residual-in_err-judge_edges.ensures.1
+    (judged c.args.held.now.content 1 (none_below c.args.held.now.content 1 (omega arith) (λ l. c.in_ok-judge_corners.ensures.ok) (λ l. absurd (omega (arith, l))) (λ l. absurd (omega (arith, l))) (λ l. absurd (omega (arith, l))) (λ l. absurd (omega (arith, l))) (λ l. absurd (omega (arith, l))) (λ l. absurd (omega (arith, l))) (λ l. absurd (omega (arith, l)))) c.in_err-judge_edges.field-0.0 c.in_err-judge_edges.ensures.fault)
 
 pub returns-in_err-judge_marks-clause-first : goal.returns-in_err-judge_marks-clause-first
 returns-in_err-judge_marks-clause-first c =
-    handed c.from_residual-in_err-judge_marks.result _ (IsJudged c.args.held.now) c.from_residual-in_err-judge_marks.ensures.1
-    (judged c.args.held.now _ c.law.ensures 2 (none_below c.args.held.now _ c.law.ensures 2 (omega arith) (λ l. c.in_ok-judge_corners.ensures.ok) (λ l. c.in_ok-judge_edges.ensures.ok) (λ l. absurd (omega (arith, l))) (λ l. absurd (omega (arith, l))) (λ l. absurd (omega (arith, l))) (λ l. absurd (omega (arith, l))) (λ l. absurd (omega (arith, l)))) c.in_err-judge_marks.field-0.0 c.in_err-judge_marks.ensures.fault)
+    handed c.from_residual-in_err-judge_marks.result _ (IsJudged c.args.held.now.content) c.from_residual-in_err-judge_marks.ensures.1
+    (judged c.args.held.now.content 2 (none_below c.args.held.now.content 2 (omega arith) (λ l. c.in_ok-judge_corners.ensures.ok) (λ l. c.in_ok-judge_edges.ensures.ok) (λ l. absurd (omega (arith, l))) (λ l. absurd (omega (arith, l))) (λ l. absurd (omega (arith, l))) (λ l. absurd (omega (arith, l))) (λ l. absurd (omega (arith, l))) (λ l. absurd (omega (arith, l)))) c.in_err-judge_marks.field-0.0 c.in_err-judge_marks.ensures.fault)
 
 pub returns-in_err-floors-clause-first : goal.returns-in_err-floors-clause-first
 returns-in_err-floors-clause-first c =
-    handed c.from_residual-in_err-floors.result _ (IsJudged c.args.held.now) c.from_residual-in_err-floors.ensures.1
-    (judged c.args.held.now _ c.law.ensures 3 (none_below c.args.held.now _ c.law.ensures 3 (omega arith) (λ l. c.in_ok-judge_corners.ensures.ok) (λ l. c.in_ok-judge_edges.ensures.ok) (λ l. c.in_ok-judge_marks.ensures.ok) (λ l. absurd (omega (arith, l))) (λ l. absurd (omega (arith, l))) (λ l. absurd (omega (arith, l))) (λ l. absurd (omega (arith, l)))) c.in_err-floors.field-0.0 c.in_err-floors.ensures.fault)
+    handed c.from_residual-in_err-floors.result _ (IsJudged c.args.held.now.content) c.from_residual-in_err-floors.ensures.1
+    (judged c.args.held.now.content 3 (none_below c.args.held.now.content 3 (omega arith) (λ l. c.in_ok-judge_corners.ensures.ok) (λ l. c.in_ok-judge_edges.ensures.ok) (λ l. c.in_ok-judge_marks.ensures.ok) (λ l. absurd (omega (arith, l))) (λ l. absurd (omega (arith, l))) (λ l. absurd (omega (arith, l))) (λ l. absurd (omega (arith, l))) (λ l. absurd (omega (arith, l)))) c.in_err-floors.field-0.0 c.in_err-floors.ensures.fault)
 
 pub returns-in_err-judge_floors-clause-first : goal.returns-in_err-judge_floors-clause-first
 returns-in_err-judge_floors-clause-first c =
-    handed c.from_residual-in_err-judge_floors.result _ (IsJudged c.args.held.now) c.from_residual-in_err-judge_floors.ensures.1
-    (judged c.args.held.now _ c.law.ensures 4 (none_below c.args.held.now _ c.law.ensures 4 (omega arith) (λ l. c.in_ok-judge_corners.ensures.ok) (λ l. c.in_ok-judge_edges.ensures.ok) (λ l. c.in_ok-judge_marks.ensures.ok) (λ l. c.in_ok-floors.ensures.ok) (λ l. absurd (omega (arith, l))) (λ l. absurd (omega (arith, l))) (λ l. absurd (omega (arith, l)))) c.in_err-judge_floors.field-0.0 c.in_err-judge_floors.ensures.fault)
+    handed c.from_residual-in_err-judge_floors.result _ (IsJudged c.args.held.now.content) c.from_residual-in_err-judge_floors.ensures.1
+    (judged c.args.held.now.content 4 (none_below c.args.held.now.content 4 (omega arith) (λ l. c.in_ok-judge_corners.ensures.ok) (λ l. c.in_ok-judge_edges.ensures.ok) (λ l. c.in_ok-judge_marks.ensures.ok) (λ l. c.in_ok-floors.ensures.ok) (λ l. absurd (omega (arith, l))) (λ l. absurd (omega (arith, l))) (λ l. absurd (omega (arith, l))) (λ l. absurd (omega (arith, l)))) c.in_err-judge_floors.field-0.0 c.in_err-judge_floors.ensures.fault)
 
 pub returns-in_err-judge_covers-clause-first : goal.returns-in_err-judge_covers-clause-first
 returns-in_err-judge_covers-clause-first c =
-    handed c.from_residual-in_err-judge_covers.result _ (IsJudged c.args.held.now) c.from_residual-in_err-judge_covers.ensures.1
-    (judged c.args.held.now _ c.law.ensures 5 (none_below c.args.held.now _ c.law.ensures 5 (omega arith) (λ l. c.in_ok-judge_corners.ensures.ok) (λ l. c.in_ok-judge_edges.ensures.ok) (λ l. c.in_ok-judge_marks.ensures.ok) (λ l. c.in_ok-floors.ensures.ok) (λ l. c.in_ok-judge_floors.ensures.ok) (λ l. absurd (omega (arith, l))) (λ l. absurd (omega (arith, l)))) c.in_err-judge_covers.field-0.0 c.in_err-judge_covers.ensures.fault)
+    handed c.from_residual-in_err-judge_covers.result _ (IsJudged c.args.held.now.content) c.from_residual-in_err-judge_covers.ensures.1
+    (judged c.args.held.now.content 5 (none_below c.args.held.now.content 5 (omega arith) (λ l. c.in_ok-judge_corners.ensures.ok) (λ l. c.in_ok-judge_edges.ensures.ok) (λ l. c.in_ok-judge_marks.ensures.ok) (λ l. c.in_ok-floors.ensures.ok) (λ l. c.in_ok-judge_floors.ensures.ok) (λ l. absurd (omega (arith, l))) (λ l. absurd (omega (arith, l))) (λ l. absurd (omega (arith, l)))) c.in_err-judge_covers.field-0.0 c.in_err-judge_covers.ensures.fault)
 
 pub returns-in_err-judge_lists-clause-first : goal.returns-in_err-judge_lists-clause-first
 returns-in_err-judge_lists-clause-first c =
-    handed c.from_residual-in_err-judge_lists.result _ (IsJudged c.args.held.now) c.from_residual-in_err-judge_lists.ensures.1
-    (judged c.args.held.now _ c.law.ensures 6 (none_below c.args.held.now _ c.law.ensures 6 (omega arith) (λ l. c.in_ok-judge_corners.ensures.ok) (λ l. c.in_ok-judge_edges.ensures.ok) (λ l. c.in_ok-judge_marks.ensures.ok) (λ l. c.in_ok-floors.ensures.ok) (λ l. c.in_ok-judge_floors.ensures.ok) (λ l. c.in_ok-judge_covers.ensures.ok) (λ l. absurd (omega (arith, l)))) c.in_err-judge_lists.field-0.0 c.in_err-judge_lists.ensures.fault)
+    handed c.from_residual-in_err-judge_lists.result _ (IsJudged c.args.held.now.content) c.from_residual-in_err-judge_lists.ensures.1
+    (judged c.args.held.now.content 6 (none_below c.args.held.now.content 6 (omega arith) (λ l. c.in_ok-judge_corners.ensures.ok) (λ l. c.in_ok-judge_edges.ensures.ok) (λ l. c.in_ok-judge_marks.ensures.ok) (λ l. c.in_ok-floors.ensures.ok) (λ l. c.in_ok-judge_floors.ensures.ok) (λ l. c.in_ok-judge_covers.ensures.ok) (λ l. absurd (omega (arith, l))) (λ l. absurd (omega (arith, l)))) c.in_err-judge_lists.field-0.0 c.in_err-judge_lists.ensures.fault)
+
+pub returns-in_err-judge_sources-clause-first : goal.returns-in_err-judge_sources-clause-first
+returns-in_err-judge_sources-clause-first c =
+    handed c.from_residual-in_err-judge_sources.result _ (IsJudged c.args.held.now.content) c.from_residual-in_err-judge_sources.ensures.1
+    (judged c.args.held.now.content 7 (none_below c.args.held.now.content 7 (omega arith) (λ l. c.in_ok-judge_corners.ensures.ok) (λ l. c.in_ok-judge_edges.ensures.ok) (λ l. c.in_ok-judge_marks.ensures.ok) (λ l. c.in_ok-floors.ensures.ok) (λ l. c.in_ok-judge_floors.ensures.ok) (λ l. c.in_ok-judge_covers.ensures.ok) (λ l. c.in_ok-judge_lists.ensures.ok) (λ l. absurd (omega (arith, l)))) c.in_err-judge_sources.field-0.0 c.in_err-judge_sources.ensures.fault)
 
 pub returns-clause-ok : goal.returns-clause-ok
 returns-clause-ok c = on_ok_weaker c.judge_versions.result (λ versions. record {
@@ -49,12 +54,12 @@ returns-clause-ok c = on_ok_weaker c.judge_versions.result (λ versions. record 
   floors = c.in_ok-judge_floors.ensures.ok;
   covers = c.in_ok-judge_covers.ensures.ok;
   named = c.in_ok-judge_lists.ensures.ok;
-  sources = sources_right c.args.held.now _ c.law.ensures;
+  sources = c.in_ok-judge_sources.ensures.ok;
   versions = versions;
 }) c.judge_versions.ensures.ok
 
 pub returns-clause-first : goal.returns-clause-first
 returns-clause-first c =
-    let h = c.args.held.now in
-    IfErr-weaker c.judge_versions.result (IsFaultOf h 8) (IsJudged h) (judged h _ c.law.ensures 8 (none_below h _ c.law.ensures 8 (omega arith) (λ l. c.in_ok-judge_corners.ensures.ok) (λ l. c.in_ok-judge_edges.ensures.ok) (λ l. c.in_ok-judge_marks.ensures.ok) (λ l. c.in_ok-floors.ensures.ok) (λ l. c.in_ok-judge_floors.ensures.ok) (λ l. c.in_ok-judge_covers.ensures.ok) (λ l. c.in_ok-judge_lists.ensures.ok)))
+    let h = c.args.held.now.content in
+    IfErr-weaker c.judge_versions.result (IsFaultOf h 8) (IsJudged h) (judged h 8 (none_below h 8 (omega arith) (λ l. c.in_ok-judge_corners.ensures.ok) (λ l. c.in_ok-judge_edges.ensures.ok) (λ l. c.in_ok-judge_marks.ensures.ok) (λ l. c.in_ok-floors.ensures.ok) (λ l. c.in_ok-judge_floors.ensures.ok) (λ l. c.in_ok-judge_covers.ensures.ok) (λ l. c.in_ok-judge_lists.ensures.ok) (λ l. c.in_ok-judge_sources.ensures.ok)))
     c.judge_versions.ensures.fault

@@ -7,4 +7,4 @@ use Rattle.loc_verify.proofs.KindLaws.{lone_there}
 use Rattle.loc_verify.proofs.kinds.judge_corners.Goals as goal
 
 pub returns-in-Some-clause-fault : goal.returns-in-Some-clause-fault
-returns-in-Some-clause-fault c = lone_there c.args.held.now c.in-Some.corner (subst (λ (t : Table). IsLeastFailing (length t.corners) (λ n. IsTrue (list_any (ends_at t n) (edge_numbers t))) (Some c.in-Some.corner)) c.table.ensures c.in-Some.ensures)
+returns-in-Some-clause-fault c = lone_there c.args.held.now.content c.in-Some.corner (subst (λ (t : Table). IsLeastFailing (length t.corners) (λ n. IsTrue (list_any (ends_at t n) (edge_numbers t))) (Some c.in-Some.corner)) c.table.ensures c.in-Some.ensures)

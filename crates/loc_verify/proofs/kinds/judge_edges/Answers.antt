@@ -6,7 +6,7 @@ use Rattle.loc_verify.proofs.KindLaws.{bare_there, marks_right}
 use Rattle.loc_verify.proofs.kinds.judge_edges.Goals as goal
 
 pub returns-in-None-clause-ok : goal.returns-in-None-clause-ok
-returns-in-None-clause-ok c = marks_right c.args.held.now _ c.law.ensures (subst (λ (t : Table). IsLeastFailing (length t.ends) (λ e. get_or t.marks e [] ≢ []) None) c.table.ensures c.in-None.ensures)
+returns-in-None-clause-ok c = marks_right c.args.held.now.content _ c.law.ensures (subst (λ (t : Table). IsLeastFailing (length t.ends) (λ e. get_or t.marks e [] ≢ []) None) c.table.ensures c.in-None.ensures)
 
 pub returns-in-Some-clause-fault : goal.returns-in-Some-clause-fault
-returns-in-Some-clause-fault c = bare_there c.args.held.now _ c.law.ensures c.in-Some.edge (subst (λ (t : Table). IsLeastFailing (length t.ends) (λ e. get_or t.marks e [] ≢ []) (Some c.in-Some.edge)) c.table.ensures c.in-Some.ensures)
+returns-in-Some-clause-fault c = bare_there c.args.held.now.content _ c.law.ensures c.in-Some.edge (subst (λ (t : Table). IsLeastFailing (length t.ends) (λ e. get_or t.marks e [] ≢ []) (Some c.in-Some.edge)) c.table.ensures c.in-Some.ensures)

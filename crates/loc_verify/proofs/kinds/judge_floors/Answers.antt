@@ -10,7 +10,7 @@ unfolding table_in
 least_other_floor-requires-clause-as_many c = ap length c.of_corner.ensures ∙ (c.requires.as_many_corners ∙ (sym c.law.ensures.shaped.floors ∙ ap length (sym c.legend.ensures.floors)))
 
 pub returns-in-None-clause-ok : goal.returns-in-None-clause-ok
-returns-in-None-clause-ok c = floors_right c.args.held.now c.args.floors.now c.requires c.legend.result.now.floors c.legend.ensures.floors (subst (λ fs. IsLeastFailing (length fs) (λ n. get_or c.legend.result.now.floors n None ≡ get_or fs n None) None) c.of_corner.ensures c.in-None.ensures)
+returns-in-None-clause-ok c = floors_right c.args.held.now.content c.args.floors.now c.requires c.legend.result.now.floors c.legend.ensures.floors (subst (λ fs. IsLeastFailing (length fs) (λ n. get_or c.legend.result.now.floors n None ≡ get_or fs n None) None) c.of_corner.ensures c.in-None.ensures)
 
 pub returns-in-Some-clause-fault : goal.returns-in-Some-clause-fault
-returns-in-Some-clause-fault c = floor_there c.args.held.now c.args.floors.now c.requires c.legend.result.now.floors c.legend.ensures.floors c.in-Some.corner (subst (λ fs. IsLeastFailing (length fs) (λ n. get_or c.legend.result.now.floors n None ≡ get_or fs n None) (Some c.in-Some.corner)) c.of_corner.ensures c.in-Some.ensures)
+returns-in-Some-clause-fault c = floor_there c.args.held.now.content c.args.floors.now c.requires c.legend.result.now.floors c.legend.ensures.floors c.in-Some.corner (subst (λ fs. IsLeastFailing (length fs) (λ n. get_or c.legend.result.now.floors n None ≡ get_or fs n None) (Some c.in-Some.corner)) c.of_corner.ensures c.in-Some.ensures)

@@ -9,11 +9,11 @@ use Rattle.loc_verify.proofs.Following.{differs_here, followed_none, goes_on, st
 use Rattle.loc_verify.proofs.reading.+follow.Goals as goal
 
 pub returns-then-node-eq0 : goal.returns-then-node-eq0
-returns-then-node-eq0 t c = followed_none c.args.held.now.nodes c.args.version c.args.node c.args.room c.args.list.now c.args.read c.if-node-eq0.true c.requires.within
+returns-then-node-eq0 t c = followed_none c.args.held.now.content.nodes c.args.version c.args.node c.args.room c.args.list.now c.args.read c.if-node-eq0.true c.requires.within
 
 pub returns-then-not-has_at : goal.returns-then-not-has_at
 returns-then-not-has_at t c =
-    let rows = c.args.held.now.nodes in
+    let rows = c.args.held.now.content.nodes in
     let left : c.left_of.result ≡ child_of rows c.args.version c.args.node Left = c.left_of.ensures ∙ ap (λ (row : NodeRow). child row Left c.args.version) c.row-row.ensures.value in
     let followed = subst (λ n. IsFollowed rows c.args.version n (c.args.room - 1) c.args.list.now c.args.read (Past c.in-Past.next)) left (subst (λ r. IsFollowed rows c.args.version c.left_of.result (c.args.room - 1) c.args.list.now c.args.read r) c.in-Past.is c.follow.ensures) in
     differs_here rows c.args.version c.args.node c.args.room c.if-node-eq0.false c.requires.node c.if-room-eq0.false c.args.list.now c.args.read c.in-Past.next followed.0
@@ -21,7 +21,7 @@ returns-then-not-has_at t c =
 
 pub returns-else-not-has_at : goal.returns-else-not-has_at
 returns-else-not-has_at t c =
-    let rows = c.args.held.now.nodes in
+    let rows = c.args.held.now.content.nodes in
     let left : c.left_of.result ≡ child_of rows c.args.version c.args.node Left = c.left_of.ensures ∙ ap (λ (row : NodeRow). child row Left c.args.version) c.row-row.ensures.value in
     let right : c.right_of.result ≡ child_of rows c.args.version c.args.node Right = c.right_of.ensures ∙ ap (λ (row : NodeRow). child row Right c.args.version) c.row-row.ensures.value in
     let followed = subst (λ n. IsFollowed rows c.args.version n (c.args.room - 1) c.args.list.now c.args.read (Past c.in-Past.next)) left (subst (λ r. IsFollowed rows c.args.version c.left_of.result (c.args.room - 1) c.args.list.now c.args.read r) c.in-Past.is c.follow.ensures) in
@@ -31,7 +31,7 @@ returns-else-not-has_at t c =
 
 pub returns-in_default : goal.returns-in_default
 returns-in_default t c =
-    let rows = c.args.held.now.nodes in
+    let rows = c.args.held.now.content.nodes in
     let left : c.left_of.result ≡ child_of rows c.args.version c.args.node Left = c.left_of.ensures ∙ ap (λ (row : NodeRow). child row Left c.args.version) c.row-row.ensures.value in
     stopped rows c.args.version c.args.node c.args.room c.if-node-eq0.false c.requires.node c.if-room-eq0.false c.args.list.now c.args.read c.follow.result c.in_default.not-Past
     (subst (λ n. IsFollowed rows c.args.version n (c.args.room - 1) c.args.list.now c.args.read c.follow.result) left c.follow.ensures)

@@ -5,4 +5,4 @@ use Rattle.loc_sweep.specs.Course.{IsBefore}
 use Rattle.loc_verify.proofs.versions.judge_versions.Given as goal
 
 abbrev pub invariant-loop-version : goal.invariant-loop-version
-invariant-loop-version l = record { before : IsBefore (table_in l.held) l.version l.status; right : (j : ℕ) → j < l.version → IsTrueVersion l.held j }
+invariant-loop-version l = record { before : IsBefore (table_in l.held.content) l.version l.status; right : (j : ℕ) → j < l.version → IsTrueVersion l.held.content j }

@@ -1,7 +1,7 @@
 use Rattle.std.proofs.Common.{◌≡◌, ◌∙◌, None, Some, map, option_and_then, option_map, string_bytes, ap, sym}
 use Rattle.loc_words.specs.Apps.{given_by}
-use Rattle.loc_words.specs.Words.{row_of}
-use Rattle.loc_words.proofs.NamedRows.{by_row, commands, is_read, made_in, no_row, row_in}
+use Rattle.loc_words.specs.Words.{commands, made_in, row_in, row_of}
+use Rattle.loc_words.proofs.NamedRows.{by_row, is_read, no_row}
 use Rattle.loc_words.proofs.command.command_named.Goals as goal
 
 pub returns-in_default-clause-value : goal.returns-in_default-clause-value

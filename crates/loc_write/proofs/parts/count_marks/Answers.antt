@@ -5,7 +5,7 @@ use Rattle.std.proofs.lemmas.Option.{get_or_from_slice_get}
 use Rattle.loc_spec_plane.specs.declared.Mark.{Mark}
 use Rattle.loc_write.proofs.parts.count_marks.Goals as goal
 
-within : (rows : List (List Mark)) (i count : ℕ) (row : List Mark) → i < length rows → slice_get rows i ≡ Some row → count ≡ sum_by length (take i rows) → sum_by length rows ≤ 2 ^ 20 → count + length row ≤ 2 ^ 20
+within : (rows : List (List Mark)) (i count : ℕ) (row : List Mark) → i < length rows → slice_get rows i ≡ Some row → count ≡ sum_by length (take i rows) → sum_by length rows ≤ 2 ^ 21 → count + length row ≤ 2 ^ 21
 within rows i count row lt at is few =
     let one = sum_by_more_le length rows i [] lt in
     let same = ap (λ (r : List Mark). length r) (get_or_from_slice_get rows i row [] at) in

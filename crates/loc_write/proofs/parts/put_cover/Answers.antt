@@ -10,4 +10,4 @@ returns-in_err-put-clause-put g c =
 
 pub returns-clause-put : goal.returns-clause-put
 returns-clause-put g c =
-    put-same (cover-text c.args.list.now) (both c.in_ok-put.was (put-same (c.as_slice.ensures.value ∙ c.number_row-row.ensures) c.put.ensures.put) c.put_members.ensures.put)
+    put-same (cover-text c.args.list.now) (both c.in_ok-put.was (put-same (c.as_slice.ensures.value ∙ c.number_row-row.ensures) c.put.ensures.put) c.put_numbers.ensures.put)

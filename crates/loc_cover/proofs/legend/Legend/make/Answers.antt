@@ -1,6 +1,8 @@
 use Rattle.std.proofs.Common.{◌<◌, length, get_or, sym, ◌∙◌, ap, subst, arith, None}
 use Rattle.std.specs.Prelude.{All, IfSome}
 use Rattle.std.proofs.lemmas.List.{get_or_default, length-map}
+use Rattle.loc_spec_plane.specs.Tables.{corner}
+use Rattle.loc_spec_plane.specs.Places.{IsFloor}
 use Rattle.loc_cover.specs.Legends.{AreLists}
 use Rattle.loc_cover.proofs.Sound.{are_lists, covers_named, floor_in_range}
 use Rattle.loc_cover.proofs.legend.Legend.make.Goals as goal
@@ -24,3 +26,16 @@ assemble-requires-clause-floors_in_range c =
     subst (All (λ floor. IfSome floor (λ e. e < length c.args.table.now.ends))) (sym are) (λ k d fits.
     (let inside : k < length c.args.table.now.corners = omega (arith, c.requires.swept.as_many_corners) in
     subst (λ o. IfSome o (λ e. e < length c.args.table.now.ends)) (get_or_default c.args.floors.now.of_corner k None d fits) (floor_in_range t k (get_or c.args.floors.now.of_corner k None) (c.requires.swept.of_corner k inside))))
+
+pub assemble-requires-clause-as_many_corners : goal.assemble-requires-clause-as_many_corners
+assemble-requires-clause-as_many_corners c = ap length c.in_ok-floors.ensures.items ∙ (ap length c.of_corner.ensures ∙ c.requires.swept.as_many_corners)
+
+pub returns-clause-is_true : goal.returns-clause-is_true
+returns-clause-is_true c =
+    let t = c.args.table.now in
+    let made = c.in_ok-assemble.ensures in
+    record {
+      lists = made.lists ∙ c.in_ok-covers.ensures.lists;
+      above = λ e inside. rw (made.lists, made.above, c.in_ok-covers.ensures.lists) (c.in_ok-covers.ensures.above e inside).at;
+      floors = λ n inside. subst (λ floors. IsFloor t (corner t n) (get_or floors n None)) (sym (made.floors ∙ (c.in_ok-floors.ensures.items ∙ c.of_corner.ensures))) (c.requires.swept.of_corner n inside);
+    }

@@ -1,10 +1,12 @@
-use Rattle.std.proofs.Common.{◌≡◌, ℕ, ◌≤◌, List, [], length, get_or, sym, ◌∙◌, ap, subst, arith}
+use Rattle.std.proofs.Common.{◌≡◌, ℕ, ◌≤◌, List, [], length, map, get_or, sym, ◌∙◌, ap, subst, arith}
 use Rattle.std.specs.Prelude.{All, IfOk}
 use Rattle.std.specs.List.Sorted.{IsSortedBy}
-use Rattle.loc_spec_plane.specs.Points.{Point, Edge, edge_before}
-use Rattle.loc_spec_plane.specs.Lists.{sorted_set}
-use Rattle.loc_spec_plane.specs.Tables.{IsTable, AllEnds, AllEven, table_of, layer_corners, pieces_of, whole, touches_by_marks, covers_by_marks}
+use Rattle.loc_spec_plane.specs.Points.{Point, Edge, before, edge_before}
+use Rattle.loc_spec_plane.specs.Lists.{is_rising, sorted_set}
+use Rattle.loc_spec_plane.specs.Tables.{IsTable, AllEnds, AllEven, table_by, table_of, layer_corners, number_of, pieces_of, whole, touches_by_marks, covers_by_marks}
+use Rattle.loc_laws_noding.proofs.Layers.{corners_rise}
 use Rattle.loc_laws_noding.proofs.Noded.{cutting_whole}
+use Rattle.loc_laws_noding.proofs.Sources.{plain_sources}
 use Rattle.loc_laws_noding.proofs.Tables.{all_ends, all_even}
 use Rattle.loc_edges.specs.Layers.{AreOfLayer, layer_rings}
 use Rattle.loc_edges.specs.Tagged.{features_of, segments_in, tagged_from}
@@ -19,53 +21,67 @@ use Rattle.std.proofs.lemmas.List.{length-map}
 use Rattle.std.proofs.lemmas.Result.{IfOk-weaker}
 use Rattle.loc_rings.specs.Values.{IsRing, rings_of}
 use Rattle.loc_edges.proofs.table.EdgeTable.make.Goals as goal
-use Rattle.loc_edges.proofs.table.EdgeTable.make.Goals.{After-of_tagged}
+use Rattle.loc_edges.proofs.table.EdgeTable.make.Goals.{After-deref-4, After-of_tagged, In_ok-sources}
 
 -- the lists of a layer of which nothing is cut, as they are made one from another
-plain_lists : (layer : List Rings) (tagged ts : List (Edge × ℕ)) (edges es : List Edge) (corners : List Point)
+plain_lists : (layer : List Rings) (tagged ts : List (Edge × ℕ)) (edges es ds : List Edge) (corners cs : List Point) (ends ns sources : List (ℕ × ℕ))
     → IsSortedBy edge_before (segments_in tagged) → sorted_set edge_before (segments_in tagged) ≡ pieces_of whole layer → ((e : Edge) → features_of tagged e ≡ features_of (tagged_from 0 layer) e) → ts ≡ tagged → edges ≡ sorted_set edge_before (segments_in ts)
-    → es ≡ edges → ((l : List Rings) → es ≡ pieces_of whole l → corners ≡ layer_corners l) → AreOfLayer whole layer corners edges tagged
-plain_lists layer tagged ts edges es corners in_order distinct features ts_are edges_are es_are corners_are =
+    → es ≡ edges → ((l : List Rings) → es ≡ pieces_of whole l → corners ≡ layer_corners l) → cs ≡ corners → ds ≡ edges → ends ≡ map (λ (e : Edge). (number_of cs e.lo, number_of cs e.hi)) ds → ns ≡ ends → sources ≡ ns → AreOfLayer whole layer corners edges ends sources tagged
+unfolding table_by
+plain_lists layer tagged ts edges es ds corners cs ends ns sources in_order distinct features ts_are edges_are es_are corners_are cs_are ds_are ends_are ns_are sources_are =
+    let numbers_of : List Point → List Edge → List (ℕ × ℕ) = λ ps bs. map (λ (e : Edge). (number_of ps e.lo, number_of ps e.hi)) bs in
     let pieces : edges ≡ pieces_of whole layer = edges_are ∙ (ap (λ us. sorted_set edge_before (segments_in us)) ts_are ∙ distinct) in
+    let ends_is : ends ≡ (table_of layer).ends = ends_are ∙ (ap (λ ps. numbers_of ps ds) (cs_are ∙ corners_are layer (es_are ∙ pieces)) ∙ ap (numbers_of (layer_corners layer)) (ds_are ∙ pieces)) in
     record {
       is_cutting = cutting_whole layer;
       corners_are = corners_are layer (es_are ∙ pieces);
       edges_are = pieces;
+      ends_are = ends_is;
+      sources_are = sources_are ∙ (ns_are ∙ (ends_is ∙ sym (plain_sources layer)));
       in_order = in_order;
       distinct = distinct;
       features = λ e. features e ∙ ap (λ us. features_of us e) (tagged_pieces-whole 0 layer);
     }
 
-pub of_tagged-requires-clause-of_layer : goal.of_tagged-requires-clause-of_layer
-of_tagged-requires-clause-of_layer c =
-    let layer = layer_rings c.features-features.result.now in
+-- the corners and the edges are those of the layer
+edges_are : (c : After-deref-4) → c.in_ok-edges.edges.items ≡ pieces_of whole (layer_rings c.features-features.result.now)
+edges_are c = c.in_ok-edges.ensures ∙ (ap (λ us. sorted_set edge_before (segments_in us)) c.deref.ensures.value ∙ c.in_ok-tagged.ensures.edges)
+
+corners_are : (c : After-deref-4) → c.in_ok-corners.corners.items ≡ layer_corners (layer_rings c.features-features.result.now)
+corners_are c = c.in_ok-corners.ensures.of_layer (layer_rings c.features-features.result.now) (c.deref-2.ensures.value ∙ edges_are c)
+
+lists : (c : In_ok-sources) → AreOfLayer whole (layer_rings c.features-features.result.now) c.in_ok-corners.corners.items c.in_ok-edges.edges.items c.in_ok-ends.ends.items c.in_ok-sources.sources.items c.in_ok-tagged.tagged.items
+lists c =
     let tagged = c.in_ok-tagged.ensures in
-    (whole, (layer, plain_lists layer c.in_ok-tagged.tagged.items _ _ _ _ tagged.in_order tagged.edges tagged.features c.deref.ensures.value c.in_ok-edges.ensures c.deref-2.ensures.value c.in_ok-corners.ensures.of_layer))
+    plain_lists (layer_rings c.features-features.result.now) c.in_ok-tagged.tagged.items _ _ _ _ _ _ _ _ _ tagged.in_order tagged.edges tagged.features c.deref.ensures.value c.in_ok-edges.ensures c.deref-2.ensures.value c.in_ok-corners.ensures.of_layer c.deref-3.ensures.value c.deref-4.ensures.value c.in_ok-ends.ensures c.deref-5.ensures.value c.in_ok-sources.ensures.items
+
+pub numbered_ends-requires-clause-in_order : goal.numbered_ends-requires-clause-in_order
+numbered_ends-requires-clause-in_order c = ap (is_rising before) (c.deref-3.ensures.value ∙ corners_are c) ∙ corners_rise (layer_rings c.features-features.result.now)
+
+pub numbered_ends-requires-clause-few : goal.numbered_ends-requires-clause-few
+numbered_ends-requires-clause-few c =
+    let features = c.features-features.result.now in
+    omega (arith, ap length (c.deref-3.ensures.value ∙ corners_are c), (few_of_layer (layer_rings features) (few_written_points features c.features-features.ensures.within)).0)
+
+pub of_tagged-requires-clause-of_layer : goal.of_tagged-requires-clause-of_layer
+of_tagged-requires-clause-of_layer c = (whole, (layer_rings c.features-features.result.now, lists c))
 
 pub of_tagged-requires-clause-few_corners : goal.of_tagged-requires-clause-few_corners
 of_tagged-requires-clause-few_corners c =
     let features = c.features-features.result.now in
-    let tagged = c.in_ok-tagged.ensures in
-    let lists = plain_lists (layer_rings features) c.in_ok-tagged.tagged.items _ _ _ _ tagged.in_order tagged.edges tagged.features c.deref.ensures.value c.in_ok-edges.ensures c.deref-2.ensures.value c.in_ok-corners.ensures.of_layer in
-    omega (arith, ap length lists.corners_are, (few_of_layer (layer_rings features) (few_written_points features c.features-features.ensures.within)).0)
+    omega (arith, ap length (lists c).corners_are, (few_of_layer (layer_rings features) (few_written_points features c.features-features.ensures.within)).0)
 
 pub of_tagged-requires-clause-few_edges : goal.of_tagged-requires-clause-few_edges
 of_tagged-requires-clause-few_edges c =
     let features = c.features-features.result.now in
-    let tagged = c.in_ok-tagged.ensures in
-    let lists = plain_lists (layer_rings features) c.in_ok-tagged.tagged.items _ _ _ _ tagged.in_order tagged.edges tagged.features c.deref.ensures.value c.in_ok-edges.ensures c.deref-2.ensures.value c.in_ok-corners.ensures.of_layer in
-    omega (arith, ap length lists.edges_are, (few_of_layer (layer_rings features) (few_written_points features c.features-features.ensures.within)).1)
+    omega (arith, ap length (lists c).edges_are, (few_of_layer (layer_rings features) (few_written_points features c.features-features.ensures.within)).1)
 
 pub of_tagged-requires-clause-few_features : goal.of_tagged-requires-clause-few_features
 of_tagged-requires-clause-few_features c = λ k d lt. omega (arith, c.in_ok-tagged.ensures.few k d lt, c.features-features.ensures.within.few_features)
 
 -- what is made is the plain table
 is_plain : (c : After-of_tagged) → IfOk c.of_tagged.result (λ t. t ≡ table_of (layer_rings c.args.layer.now))
-is_plain c =
-    let layer = layer_rings c.features-features.result.now in
-    let tagged = c.in_ok-tagged.ensures in
-    let lists = plain_lists layer c.in_ok-tagged.tagged.items _ _ _ _ tagged.in_order tagged.edges tagged.features c.deref.ensures.value c.in_ok-edges.ensures c.deref-2.ensures.value c.in_ok-corners.ensures.of_layer in
-    IfOk-weaker c.of_tagged.result _ (λ t. t ≡ table_of (layer_rings c.args.layer.now)) (λ t is. is whole layer lists ∙ ap (λ features. table_of (layer_rings features)) c.features-features.ensures.value) c.of_tagged.ensures
+is_plain c = IfOk-weaker c.of_tagged.result _ (λ t. t ≡ table_of (layer_rings c.args.layer.now)) (λ t is. is whole (layer_rings c.features-features.result.now) (lists c.before) ∙ ap (λ features. table_of (layer_rings features)) c.features-features.ensures.value) c.of_tagged.ensures
 
 pub returns-clause-ok : goal.returns-clause-ok
 returns-clause-ok c = is_plain c

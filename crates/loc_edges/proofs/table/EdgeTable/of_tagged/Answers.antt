@@ -1,10 +1,8 @@
-use Rattle.std.proofs.Common.{◌≡◌, List, sym, ◌∙◌, ap, subst}
+use Rattle.std.proofs.Common.{◌≡◌, List, sym, ◌∙◌, subst}
 use Rattle.std.proofs.lemmas.Result.{IfOk-weaker}
-use Rattle.loc_spec_plane.specs.Points.{Edge, before}
-use Rattle.loc_spec_plane.specs.Lists.{is_rising}
+use Rattle.loc_spec_plane.specs.Points.{Edge}
 use Rattle.loc_spec_plane.specs.Rings.{Rings}
 use Rattle.loc_spec_plane.specs.Tables.{IsTable, pieces_of, table_by}
-use Rattle.loc_laws_noding.proofs.Layers.{corners_rise}
 use Rattle.loc_laws_noding.proofs.Tables.{is_table}
 use Rattle.loc_edges.specs.Kept.{AreEdges}
 use Rattle.loc_edges.specs.Layers.{AreOfLayer}
@@ -14,12 +12,9 @@ use Rattle.loc_edges.proofs.Ordered.{table_is, table_is-edges, table_is-small}
 use Rattle.loc_edges.proofs.table.EdgeTable.of_tagged.Goals as goal
 use Rattle.loc_edges.proofs.table.EdgeTable.of_tagged.Goals.{In_ok-marks}
 
-pub numbered_ends-requires-clause-in_order : goal.numbered_ends-requires-clause-in_order
-numbered_ends-requires-clause-in_order c = ap (is_rising before) (c.deref.ensures.value ∙ c.requires.of_layer.1.1.corners_are) ∙ corners_rise c.requires.of_layer.1.0
-
 -- what is made
-made : (c : In_ok-marks) → table_with c.args.corners.items c.in_ok-ends.ends.items c.in_ok-marks.marks ≡ table_by c.requires.of_layer.0 c.requires.of_layer.1.0
-made c = table_is c.requires.of_layer.0 c.requires.of_layer.1.0 c.args.corners.items _ c.args.edges.items _ c.args.tagged.items _ _ c.requires.of_layer.1.1 c.deref.ensures.value c.deref-2.ensures.value c.in_ok-ends.ensures c.in_ok-marks.ensures
+made : (c : In_ok-marks) → table_with c.args.corners.items c.args.ends.items c.in_ok-marks.marks c.args.sources.items ≡ table_by c.requires.of_layer.0 c.requires.of_layer.1.0
+made c = table_is c.requires.of_layer.0 c.requires.of_layer.1.0 c.args.corners.items c.args.edges.items c.args.ends.items c.args.sources.items c.args.tagged.items _ c.requires.of_layer.1.1 c.in_ok-marks.ensures
 
 pub edge_marks-requires-clause-in_order : goal.edge_marks-requires-clause-in_order
 edge_marks-requires-clause-in_order c = c.requires.of_layer.1.1.in_order
@@ -40,4 +35,4 @@ assemble-requires-clause-edges c =
     subst (AreEdges _) (sym of.1.1.edges_are) (subst (λ t. AreEdges t (pieces_of of.0 of.1.0)) (sym (made c)) (table_is-edges of.0 of.1.0 of.1.1.is_cutting))
 
 pub returns : goal.returns
-returns c = IfOk-weaker c.assemble.result _ (λ t. (cut : Edge → List Edge) (layer : List Rings) → AreOfLayer cut layer c.args.corners.items c.args.edges.items c.args.tagged.items → t ≡ table_by cut layer) (λ t is cut layer h. is ∙ table_is cut layer c.args.corners.items _ c.args.edges.items _ c.args.tagged.items _ _ h c.deref.ensures.value c.deref-2.ensures.value c.in_ok-ends.ensures c.in_ok-marks.ensures) c.assemble.ensures
+returns c = IfOk-weaker c.assemble.result _ (λ t. (cut : Edge → List Edge) (layer : List Rings) → AreOfLayer cut layer c.args.corners.items c.args.edges.items c.args.ends.items c.args.sources.items c.args.tagged.items → t ≡ table_by cut layer) (λ t is cut layer h. is ∙ table_is cut layer c.args.corners.items c.args.edges.items c.args.ends.items c.args.sources.items c.args.tagged.items _ h c.in_ok-marks.ensures) c.assemble.ensures

@@ -67,3 +67,13 @@ returns-in-None-clause-within c =
     let starts = c.self.inside.starts.items in
     let rings = map (λ ring. ring.items) c.self.inside.rings.items in
     omega (arith, c.len.ensures, length-map c.self.inside.rings.items (λ ring. ring.items), ap length (seen-rings starts rings c.args.self.now c.self.view_is c.self.invariant.begin))
+
+pub returns-in-Some-clause-few : goal.returns-in-Some-clause-few
+returns-in-Some-clause-few c =
+    let starts = c.self.inside.starts.items in
+    let rings = map (λ ring. ring.items) c.self.inside.rings.items in
+    let past = c.in-Some.past.now in
+    let found = c.in-Some.ensures.lookup.3 in
+    let here : past ≡ get_or starts (c.args.n + 1) past = found.1 past ∙ ap (λ ns. get_or ns (c.args.n + 1) past) c.deref.ensures.value in
+    let within = within-at starts (length rings) (c.args.n + 1) past (subst (λ ns. c.args.n + 1 < length ns) c.deref.ensures.value found.0) c.self.invariant.begin in
+    omega (arith, here, within, c.self.invariant.few_rings)

@@ -1,4 +1,4 @@
-use Rattle.std.proofs.Common.{◌≡◌, ℕ, ◌-◌, ◌≤◌, ◌++◌, Bool, List, length, take, replicate, sym, ◌∙◌, ap, subst, arith}
+use Rattle.std.proofs.Common.{◌≡◌, ℕ, ◌-◌, ◌≤◌, ◌++◌, Bool, List, length, take, replicate, sym, ◌∙◌, ap, subst, arith, rules}
 use Rattle.std.specs.Prelude.{Option, None, if◌then◌else◌, is_ok, vec_len}
 use Rattle.loc_spec_plane.specs.declared.Trap.{Trap}
 use Rattle.loc_laws_traps.specs.Sets.{is_lowest_at, is_highest_at}
@@ -37,3 +37,6 @@ returns-clause-highest c =
     (same_names m.highest c.reserve-4.new.self.items lent c.resize-3.new.self.items (is_ok c.resize-3.result) c.max-highest.result (vec_len c.reserve-4.new.self) c.deref_mut-3.ensures.value c.resize-3.ensures.items (omega arith) (omega arith) (c.reserve-4.ensures.items ∙ ap (λ (v : MapMeaning). v.highest) c.self.view_is))
     (subst (λ n. Renames n (length rows) (row_of rows) (is_highest_at c.args.ranks.now) (named_of lent) (named_of names)) first
     (subst (λ (rs : List Trap). Renames c.len-from.result (length rs) (row_of rs) (is_highest_at c.args.ranks.now) (named_of lent) (named_of names)) c.deref-2.ensures.value c.rename-2.ensures)))
+
+pub returns-clause-rows : goal.returns-clause-rows
+returns-clause-rows c = search rules steps 1000000

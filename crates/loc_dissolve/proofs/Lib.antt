@@ -1,0 +1,10 @@
+pub mod Counted
+pub mod Covered
+pub mod Crossed
+pub mod Grouped
+pub mod Keepers
+pub mod Layered
+pub mod Names
+pub mod Rings
+pub mod Tabled
+pub mod Written

@@ -1,0 +1,74 @@
+-- The written text by the parts in which it is put: a ring closed by its first corner.
+use Rattle.std.proofs.Common.{◌≡◌, ℕ, ℤ, of_z, to_z, List, [], ◌∷◌, ◌++◌, map, refl, sym, ◌∙◌, ap, append_assoc, append-nil, codes, Result, subst, ◌+◌, ◌<◌, length, get_or, drop}
+use Rattle.std.specs.Int.{w64}
+use Rattle.std.specs.List.{flat_map}
+use Rattle.loc_io.specs.Streams.{Stream}
+use Rattle.loc_io.specs.declared.sink.WriteFault.{WriteFault}
+use Rattle.loc_page.specs.Puts.{PutsText}
+use Rattle.loc_page.proofs.Pages.{Goes, goes_next, put_same}
+use Rattle.loc_spec_plane.specs.Points.{OnGrid, Point}
+use Rattle.loc_geom.proofs.Grid.{grid_back}
+use Rattle.loc_spec_plane.specs.Rings.{Ring}
+use Rattle.loc_spec_text.specs.Bytes.{Text}
+use Rattle.loc_spec_text.specs.Points.{grid_text, position_text}
+use Rattle.loc_spec_text.specs.Points.{quoted_byte}
+use Rattle.loc_spec_groups.specs.Groups.{Group}
+use Rattle.loc_spec_groups.specs.GroupTexts.{enclosed, group_row, listed, polygons_text, ring_text}
+use Rattle.loc_dissolve.specs.Writing.{closed_text}
+
+module _ (f : Point → Text) (last : Text) where
+  -- a comma before each text, or behind each but the last
+  commas : (ps : List Point) → flat_map (λ l. codes ", " ++ l) (map f ps ++ last ∷ []) ≡ codes ", " ++ (flat_map (λ q. f q ++ codes ", ") ps ++ last)
+  commas [] = ap (λ l. codes ", " ++ l) (append-nil last)
+  commas (q ∷ qs) =
+      let rest = flat_map (λ q. f q ++ codes ", ") qs in
+      ap (λ l. codes ", " ++ (f q ++ l)) (commas qs)
+      ∙ ap (λ l. codes ", " ++ l) (sym (append_assoc (f q ++ codes ", ") rest last ∙ append_assoc (f q) (codes ", ") (rest ++ last)))
+
+  -- texts with a comma between them, by a comma behind each
+  closes : (p : Point) (ps : List Point) → listed (map f (p ∷ ps) ++ last ∷ []) ≡ flat_map (λ q. f q ++ codes ", ") (p ∷ ps) ++ last
+  closes p ps =
+      let rest = flat_map (λ q. f q ++ codes ", ") ps in
+      ap (λ l. f p ++ l) (commas ps) ∙ sym (append_assoc (f p ++ codes ", ") rest last ∙ append_assoc (f p) (codes ", ") (rest ++ last))
+
+-- a ring by its parts
+pub ring_is : (scale : ℕ) (ring : Ring) → codes "(" ++ (closed_text scale ring ++ codes ")") ≡ ring_text scale ring
+ring_is scale [] = refl
+ring_is scale (p ∷ ps) = ap (λ l. codes "(" ++ (l ++ codes ")")) (sym (closes (position_text scale) (position_text scale p) p ps))
+
+-- a coordinate that was put as 64 bits
+pub same_value : (scale : ℕ) (v w : ℤ) {o m : Stream} {h k : List ℕ} {r : Result (Unit {0}) WriteFault} → OnGrid v → v ≡ w → PutsText (grid_text scale (to_z w64 (of_z w64 v))) o m h k r → PutsText (grid_text scale w) o m h k r
+same_value scale v w on is put = put_same (ap (grid_text scale) (grid_back v on ∙ is)) put
+
+-- the corners of a ring and the first once more, where there are some
+pub closed_is : (scale : ℕ) (all : Ring) (p : Point) (ps : Ring) → all ≡ p ∷ ps → flat_map (λ (q : Point). position_text scale q ++ codes ", ") all ++ position_text scale p ≡ closed_text scale all
+closed_is scale all p ps is = ap (λ (l : Ring). flat_map (λ (q : Point). position_text scale q ++ codes ", ") l ++ position_text scale p) is ∙ ap (closed_text scale) (sym is)
+
+-- texts with a comma before each
+laters : {X : Type 0} (f : X → Text) (xs : List X) → flat_map (λ (x : X). codes ", " ++ f x) xs ≡ flat_map (λ (l : Text). codes ", " ++ l) (map f xs)
+laters f [] = refl
+laters f (x ∷ xs) = ap (λ l. (codes ", " ++ f x) ++ l) (laters f xs)
+
+-- texts with a comma between them, by the first and those behind it
+pub listed_is : {X : Type 0} (f : X → Text) (all : List X) (x : X) (xs : List X) → all ≡ x ∷ xs → f x ++ flat_map (λ (x : X). codes ", " ++ f x) xs ≡ listed (map f all)
+listed_is f all x xs is = ap (λ l. f x ++ l) (laters f xs) ∙ ap (λ l. listed (map f l)) (sym is)
+
+-- the same in parentheses
+pub enclosed_is : {X : Type 0} (f : X → Text) (x : X) (xs : List X) → codes "(" ++ (f x ++ (flat_map (λ (x : X). codes ", " ++ f x) xs ++ codes ")")) ≡ enclosed (map f (x ∷ xs))
+enclosed_is {X} f x xs =
+    let more = flat_map (λ (x : X). codes ", " ++ f x) xs in
+    ap (λ l. codes "(" ++ l) (sym (append_assoc (f x) more (codes ")")) ∙ ap (λ l. (f x ++ l) ++ codes ")") (laters f xs))
+
+-- the row of a group by its parts
+pub row_is : (scale : ℕ) (group : Group) → codes "\"MULTIPOLYGON " ++ (polygons_text scale group.polygons ++ (codes "\",\"" ++ (flat_map quoted_byte group.id ++ codes "\"\n"))) ≡ group_row scale group
+row_is scale group =
+    let polygons = polygons_text scale group.polygons in
+    let id = flat_map quoted_byte group.id in
+    ap (λ l. codes "\"MULTIPOLYGON " ++ l) (sym (append_assoc polygons (codes "\",\"") (id ++ codes "\"\n"))
+    ∙ (sym (append_assoc (polygons ++ codes "\",\"") id (codes "\"\n"))
+    ∙ sym (append_assoc ((polygons ++ codes "\",\"") ++ id) (codes "\"") (codes "\n"))))
+
+-- one element more of what a loop puts
+pub goes_item : {X : Type 0} (f : X → List ℕ) (xs : List X) (i : ℕ) (x : X) (whole : List ℕ) (o m : Stream) (h k : List ℕ) → i < length xs → x ≡ get_or xs i x
+    → Goes whole (flat_map f (drop i xs)) o m h k → Goes whole (f x ++ flat_map f (drop (i + 1) xs)) o m h k
+goes_item f xs i x whole o m h k less is goes = goes_next (flat_map f) xs i x (f x) whole o m h k less (ap (λ y. f y ++ flat_map f (drop (i + 1) xs)) (sym is)) goes

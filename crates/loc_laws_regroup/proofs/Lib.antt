@@ -1,0 +1,14 @@
+mod Accepted
+mod Cuts
+mod Cycles
+mod Dissolved
+mod Examples
+mod Grids
+mod Layers
+mod Lists
+mod Readings
+mod Rings
+mod Symbols
+mod TableCorners
+mod Trees
+mod Values

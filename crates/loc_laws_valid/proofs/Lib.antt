@@ -1,0 +1,13 @@
+pub mod ByLists
+pub mod Calm
+pub mod Crossing
+pub mod Fewer
+pub mod Inside
+pub mod Least
+pub mod Lower
+pub mod Once
+pub mod OneRing
+pub mod Placed
+pub mod Repeats
+pub mod Split
+pub mod Twice

@@ -1,0 +1,2 @@
+//! The definitions of the breaches of a feature, and their texts. The crate holds no program.
+#![tactic(auto)]

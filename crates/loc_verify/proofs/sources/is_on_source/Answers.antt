@@ -1,0 +1,15 @@
+use Rattle.std.proofs.Common.{◌≡◌, true, sym, ◌∙◌, ap₂}
+use Rattle.std.proofs.lemmas.Bool.{both_ways}
+use Rattle.loc_spec_plane.specs.Points.{before, same_point}
+use Rattle.loc_spec_plane.specs.Tables.{corner}
+use Rattle.loc_laws_order.proofs.Sides.{before-differ}
+use Rattle.loc_laws_order.proofs.TableOrder.{corner_before}
+use Rattle.loc_verify.proofs.sources.is_on_source.Goals as goal
+
+pub returns-in-None : goal.returns-in-None
+returns-in-None c =
+    let t = c.args.table.now in
+    let lower = corner t c.source-lower.result.0 in
+    let upper = corner t c.source-lower.result.1 in
+    let up : before lower upper ≡ true = corner_before t c.law.ensures.in_order c.source-lower.result.0 c.source-lower.result.1 c.source-lower.ensures.goes_up c.source-lower.ensures.in_range in
+    absurd (both_ways (same_point lower upper) (before-differ lower upper up) (sym (ap₂ same_point c.corner.ensures c.corner-2.ensures) ∙ c.in-None.ensures.one_point))
