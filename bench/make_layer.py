@@ -9,15 +9,16 @@ quads   a jittered grid of N by N quadrilaterals that share their corners; SHIFT
 cells   the same in degrees of 7 decimals, at which the midpoint of each edge can be written
 near    cells, with other points
 joints  quads, of which each fourth has a corner more, in the middle of the side that it shares with the quadrilateral below
+seams   the same in degrees of 7 decimals
 long    strips, and a triangle with a corner on the long side of the first
-Point t, for t from 0 to N-1, is (s + (t*40503) mod 4N, (t*25173) mod 2N); those of quads, cells, near and joints are drawn, 1000 of them.
+Point t, for t from 0 to N-1, is (s + (t*40503) mod 4N, (t*25173) mod 2N); those of quads, cells, near, joints and seams are drawn, 1000 of them.
 With COUNT so many points are drawn, from the box of the layer. Of each four points of near the first is drawn from the box, and the others
 are a corner, the midpoint of an edge, and a point one unit above or below a midpoint.
 """
 import random
 import sys
 
-DEGREES = {"cells": 7, "near": 7}
+DEGREES = {"cells": 7, "near": 7, "seams": 7}
 
 
 def box(a, c, b, d):
@@ -55,17 +56,16 @@ def quads(n, s):
     return quadrilaterals(net(n, s, 0, 0, 100, 1))
 
 
-def joints(n, s):
+def jointed(at):
     # all coordinates are even, so that each side has a middle
-    at = net(n, s, 0, 0, 100, 2)
+    n = len(at) - 1
     for k, (a, b, c, d) in enumerate(quadrilaterals(at)):
         middle = ((a[0] + b[0]) // 2, (a[1] + b[1]) // 2)
         yield [a, middle, b, c, d] if (k // n + k) % 4 == 0 else [a, b, c, d]
 
 
-def long(n, s):
-    yield from strips(n, s)
-    yield [(100_000, 0), (100_001, -5), (100_002, -5)]
+def joints(n, s):
+    return jointed(net(n, s, 0, 0, 100, 2))
 
 
 def degrees(n, s):
@@ -74,6 +74,15 @@ def degrees(n, s):
 
 def cells(n, s):
     return quadrilaterals(degrees(n, s))
+
+
+def seams(n, s):
+    return jointed(degrees(n, s))
+
+
+def long(n, s):
+    yield from strips(n, s)
+    yield [(100_000, 0), (100_001, -5), (100_002, -5)]
 
 
 def size(kind, n, s):
@@ -100,7 +109,7 @@ def near(n, s, count):
 def points(kind, n, s, count):
     if kind == "near":
         return near(n, s, count or 1000)
-    if count or kind in ("quads", "cells", "joints"):
+    if count or kind in ("quads", "cells", "joints", "seams"):
         return anywhere(kind, n, s, count or 1000)
     return ((s + t * 40503 % (4 * n), t * 25173 % (2 * n)) for t in range(n))
 
@@ -112,7 +121,8 @@ def number(value, decimals):
 def main():
     kind, n, s, layer, lines = sys.argv[1], int(sys.argv[2]), int(sys.argv[3]) % 65536, sys.argv[4], sys.argv[5]
     count = int(sys.argv[6]) if len(sys.argv) > 6 else None
-    make = {"grid": grid, "nest": nest, "strips": strips, "quads": quads, "cells": cells, "near": cells, "joints": joints, "long": long}[kind]
+    make = {"grid": grid, "nest": nest, "strips": strips, "quads": quads, "cells": cells, "near": cells, "joints": joints, "seams": seams,
+            "long": long}[kind]
     decimals = DEGREES.get(kind, 0)
 
     def text(point):

@@ -33,7 +33,7 @@ int main(int argc, char** argv) {
     }
     geos::io::WKTWriter writer;
     writer.setTrim(true);
-    writer.setRoundingPrecision(9);
+    writer.setRoundingPrecision(17);
     for (auto& group : groups) {
         auto united = geos::operation::geounion::CascadedPolygonUnion::Union(&group.second);
         std::cout << group.first << '\t' << writer.write(united.get()) << '\n';

@@ -8,11 +8,11 @@
 
 declare -A places=(
     [query]="LAYER POINTS" [check]="LAYER" [build]="LAYER INDEX" [ask]="INDEX POINTS" [verify]="INDEX" [face]="LAYER POINT" [gen]="KIND N SHIFT"
-    [trial]="KIND N SHIFT" [stab]="LAYER SPANS" [dissolve]="LAYER"
+    [trial]="KIND N SHIFT" [upgrade]="OLD NEW" [edges]="INDEX" [stab]="LAYER SPANS" [valid]="LAYER" [dissolve]="LAYER"
 )
 declare -A options=(
     [query]="--scale --form --index --order --shuffle --faces" [check]="--scale --form" [build]="--scale --form" [ask]="" [verify]="" [face]="--scale --form"
-    [gen]="" [trial]="--index" [stab]="--scale --form" [dissolve]="--scale --form"
+    [gen]="" [trial]="--index" [upgrade]="" [edges]="" [stab]="--scale --form" [valid]="--scale --form" [dissolve]="--scale --form"
 )
 declare -A usages=(
     [query]="query LAYER POINTS --scale K [--form lines|csv] [--index scan|tree|trap] [--order FILE | --shuffle N] [--faces]"
@@ -23,7 +23,10 @@ declare -A usages=(
     [face]="face LAYER POINT --scale K [--form lines|csv]"
     [gen]="gen KIND N SHIFT"
     [trial]="trial KIND N SHIFT [--index scan|tree|trap]"
+    [upgrade]="upgrade OLD NEW"
+    [edges]="edges INDEX"
     [stab]="stab LAYER SPANS --scale K [--form lines|csv]"
+    [valid]="valid LAYER --scale K [--form lines|csv]"
     [dissolve]="dissolve LAYER --scale K [--form lines|csv]"
 )
 declare -A summaries=(
@@ -35,10 +38,13 @@ declare -A summaries=(
     [face]="print the boundaries of the open face in which a point lies"
     [gen]="write a test layer: a grid, a nest of squares or long strips"
     [trial]="make a test layer, ask it for points of its own, and count the answers"
+    [upgrade]="write an index file of either version anew as one of the second"
+    [edges]="list the edges of an index file, each with the side that it was cut from"
     [stab]="name the edges that each vertical span of a list meets, from the bottom up"
+    [valid]="say of each feature of a layer whether it keeps the rules of the standard, and which it breaks first"
     [dissolve]="write the polygons that features of one id cover together, without their inner borders"
 )
-commands="query check build ask verify face gen trial stab dissolve"
+commands="query check build ask verify face gen trial upgrade edges stab valid dissolve"
 
 about_layer="LAYER is a file of polygons: a POLYGON or MULTIPOLYGON text on each line, or with --form csv
 a CSV with a column 'wkt' and, if the polygons have names, a column 'id'. In a file of lines the
@@ -76,6 +82,11 @@ scan looks at one edge after another, trap goes down a map of trapezoids. --orde
         check) printf '%s\n\n%s\n' "$about_layer" "It prints: features F corners V edges E" ;;
         build) printf '%s\n\n%s\n' "$about_layer" "INDEX is the file to be made. Ask it by: $name ask INDEX POINTS" ;;
         ask) printf '%s\n\n%s\n' "INDEX is a file that '$name build' made, this program or an earlier one. It has its own scale." "$about_points" ;;
+        upgrade)
+            echo "OLD is an index file that '$name build' made, this program or an earlier one. NEW is the file to be made.
+Both answer the same. A file of the second version is made as it was."
+            ;;
+        edges) echo "It prints for each edge: edge N X Y, X Y of X Y, X Y. Behind 'of' stands the side that it was cut from." ;;
         verify) echo "It prints: index of F features, V corners, E edges, N nodes" ;;
         face)
             printf '%s\n\n' "$about_layer"
@@ -83,6 +94,11 @@ scan looks at one edge after another, trap goes down a map of trapezoids. --orde
 its outer boundary, and those of each hole."
             ;;
         stab) printf '%s\n\n%s\n' "$about_layer" "$about_spans" ;;
+        valid)
+            printf '%s\n\n' "$about_layer"
+            echo "It prints for each feature its id and 'valid', or the first rule of OGC 06-103r4 that it breaks. Features are
+not compared with each other, and the layer need not be one that is accepted."
+            ;;
         dissolve)
             printf '%s\n\n' "$about_layer"
             echo "It writes a layer in form csv: the header wkt,id, and for each id a row with the polygons that its
@@ -288,7 +304,7 @@ files_read() {
     case $command in
         query) printf '%s\n' "$1" ${order:+"$order"} "$2" ;;
         ask | stab) printf '%s\n' "$1" "$2" ;;
-        check | build | verify | face | dissolve) printf '%s\n' "$1" ;;
+        check | build | verify | face | upgrade | edges | valid | dissolve) printf '%s\n' "$1" ;;
     esac
 }
 
@@ -305,10 +321,10 @@ explain_read() {
     echo "$name: each file is there; one changed while it was read, or its disk failed"
 }
 
-# Behind a failed write: of the index file why, if that can be seen.
+# Behind a failed write: of the index file that is made why, if that can be seen.
 explain_write() {
     local folder
-    if [[ $1 == build ]]; then
+    if [[ $1 == build || $1 == upgrade ]]; then
         folder=$(dirname -- "$3")
         if [[ -d $3 ]]; then
             echo "$name: $3: it is a directory"
@@ -418,6 +434,10 @@ front_door() {
     local -a words
     answers_help "$@" && exit 0
     take_words "$@"
+    if [[ ${words[0]-} == upgrade && ${#words[@]} -eq 3 && ${words[1]} -ef ${words[2]} ]]; then
+        echo "$name: ${words[1]} and ${words[2]} are one file: NEW has to be another" >&2
+        exit 2
+    fi
     # with standard output closed there is nothing to hand on: the program itself says how that ends
     { true 3>&1; } 2>/dev/null || exec "$program" "${words[@]}"
     run_program "${words[@]}"
@@ -426,7 +446,7 @@ front_door() {
         3) printf '%s\n%s\n' "$said" "$(explain_read "${words[@]}")" >&2 ;;
         4)
             # if the reader of a pipe went away there is nothing to tell
-            if [[ ${1-} == build ]]; then
+            if [[ ${1-} == build || ${1-} == upgrade ]]; then
                 printf '%s\n' "$said" >&2
                 explain_write "${words[@]}" >&2
             elif [[ ! -p /dev/stdout ]]; then

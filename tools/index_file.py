@@ -1,7 +1,8 @@
 """Index files of both versions, read, made, searched and judged by whole numbers, written apart from the program and after docs/FORMATS.md alone.
 
 `read` raises `IndexFault`, whose words are the note that `locate ask` writes; `made` gives the bytes of a content in either version; `answer`
-gives the answer line of a point, or raises `IndexFault` where the search is given up; `judge` gives the notes that may refuse a file that reads.
+gives the answer line of a point, or raises `IndexFault` where the search is given up; `edge_lines` gives the lines of the edges with their sources;
+`judge` gives the notes that may refuse a file that reads.
 """
 from fractions import Fraction
 from typing import NamedTuple
@@ -181,6 +182,21 @@ def turn(a, b, p):
 def lies_on(segment, p):
     low, high = segment
     return turn(low, high, p) == 0 and low <= p <= high
+
+
+def printed(content, value):
+    """A coordinate as it is printed at the file's scale."""
+    digits = str(abs(value)).rjust(content.scale + 1, "0")
+    whole = len(digits) - content.scale
+    return "-" * (value < 0) + digits[:whole] + ("." + digits[whole:] if content.scale else "")
+
+
+def edge_lines(content):
+    """A line for each edge, in order: its ends, and those of its source."""
+    def ends_text(pair):
+        return ", ".join(f"{printed(content, x)} {printed(content, y)}" for x, y in points(content, pair))
+
+    return "".join(f"edge {n} {ends_text(edge)} of {ends_text(source)}\n" for n, (edge, source) in enumerate(zip(content.edges, content.sources)))
 
 
 def is_above(content, edge, p):

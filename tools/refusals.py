@@ -11,9 +11,10 @@ import shlex
 from collections import Counter
 from typing import NamedTuple
 
+import breaches
 import conflicts
 import layer_text
-from endings import REFUSED
+from endings import REFUSED, Ending
 from layer_text import LONGEST_ID, MOST_FEATURES, MOST_POINTS, NUMBER, WHITE, grid_value, printed, quoted
 
 LARGEST_SCALE = 15
@@ -326,9 +327,21 @@ def of_conflicts(case):
             f"cause: {KINDS[kinds[at]]}",
             f"conflicts: {len(found)}, on {len(features)} of {len(layer.features)} features",
             *[f"  {count} of them: {KINDS[kind]}" for kind, count in Counter(kinds).most_common() if len(set(kinds)) > 1],
+            f"rules: {rules_told(case, layer)}",
             f"sizes: {sizes_told(sizes, case.scale)}",
             f"scales: {at_scales(edges, case.scale, len(found))}",
             *mends(case, edges, sizes, kinds)]
+
+
+def rules_told(case, layer):
+    """Which features break a rule of the standard by themselves."""
+    try:
+        found = breaches.of_layer(case.path, case.scale, case.form, layer)
+    except Ending as ending:
+        return f"the features are not judged by themselves: {ending}"
+    if not found:
+        return "each feature by itself keeps those of the standard"
+    return f"{len(found)} of {len(layer.features)} features by themselves break one of the standard; the first: {found[0].line}"
 
 
 KINDS = {

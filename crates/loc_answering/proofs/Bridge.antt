@@ -4,16 +4,15 @@ use Rattle.std.specs.Prelude.{option_map}
 use Rattle.std.specs.Io.KnownBytes.{Appends, Keeps}
 use Rattle.loc_io.specs.Causes.{Rose}
 use Rattle.loc_io.specs.Entries.{taken}
-use Rattle.loc_io.specs.Meaning.{Meaning, TakesUp, Told, untold, absent, holds, bytes_of}
+use Rattle.loc_io.specs.Meaning.{Meaning, TakesUp, Told as FileTold, untold, absent, holds, bytes_of}
 use Rattle.loc_io.specs.Reading.{WroteFront}
 use Rattle.loc_io.specs.Streams.{Stream}
 use Rattle.loc_io.proofs.Reading.{files_then, in_time_by, making_then, taken_last}
 use Rattle.loc_spec_text.specs.Answered.{Answered, answered, with_answer}
 use Rattle.loc_spec_text.specs.Bytes.{Text, ended_lines, lines}
-use Rattle.loc_spec_text.specs.Points.{Answer}
 use Rattle.loc_place.specs.declared.locator.Deep.{Deep}
-use Rattle.loc_batch.specs.Batches.{Answering, Answers, AnswersCut, AnswersRest, AnswersTo, AreSeen, IsFrontOf, IsLonger, IsWholeOf, ReadsAreCounted}
-use Rattle.loc_batch.specs.Streams.{line_of, text_of}
+use Rattle.loc_batch.specs.Batches.{Answers, AnswersCut, AnswersRest, AnswersTo, AreSeen, IsFrontOf, IsLonger, IsWholeOf, ReadsAreCounted}
+use Rattle.loc_batch.specs.Told.{Telling, Told, told_text}
 use Rattle.loc_batch.specs.declared.tally.Tally.{Tally}
 use Rattle.loc_batch.specs.declared.faults.BatchFault.{BatchFault}
 use Rattle.loc_batch.specs.declared.faults.BatchFault.TheVariants as b
@@ -21,36 +20,36 @@ use Rattle.loc_course.specs.Courses.{Stopped}
 use Rattle.loc_course.specs.Moments.{moment, IsToldLong, IsToldText}
 use Rattle.loc_course.specs.Stops.{source}
 use Rattle.loc_course.specs.Streams.{AnswersAreCounted, AnswersSource, IsToldFront, out_of, AreSeen as AreTold, AnswersTo as TellsTo}
-use Rattle.loc_answering.specs.ByLine.{as_bytes, by_line, deep_text, stopped_by}
+use Rattle.loc_answering.specs.ByLine.{deep_text, stopped_by, told_by_line, told_bytes}
 
 abbrev note_of : Deep → Text
 note_of deep = deep_text deep.version
 
 -- answers as bytes are those answers, and end where those end
-record Same (a : Answered Text Text) (b : Answered Answer Deep) : Type 0 where
-  pub out : out_of a ≡ text_of b.answers
+record Same (a : Answered Text Text) (b : Answered Told Deep) : Type 0 where
+  pub out : out_of a ≡ told_text b.answers
   pub refusal : a.refusal ≡ option_map note_of b.refusal
 
-one_same : (r : Result Answer Deep) (a : Answered Text Text) (b : Answered Answer Deep) → Same a b → Same (with_answer (as_bytes r) a) (with_answer r b)
-one_same (Ok answer) a b rest = record { out = ap (λ (t : Text). line_of answer ++ t) rest.out; refusal = rest.refusal }
+one_same : (r : Result Told Deep) (a : Answered Text Text) (b : Answered Told Deep) → Same a b → Same (with_answer (told_bytes r) a) (with_answer r b)
+one_same (Ok answer) a b rest = record { out = ap (λ (t : Text). answer.line ++ t) rest.out; refusal = rest.refusal }
 one_same (Err deep) a b rest = record { out = refl; refusal = refl }
 
-same : (answer : Answering) (ls : List Text) → Same (answered (by_line answer) ls) (answered answer ls)
+same : (answer : Telling) (ls : List Text) → Same (answered (told_by_line answer) ls) (answered answer ls)
 same answer [] = record { out = refl; refusal = refl }
-same answer (l ∷ ls) = one_same (answer l) (answered (by_line answer) ls) (answered answer ls) (same answer ls)
+same answer (l ∷ ls) = one_same (answer l) (answered (told_by_line answer) ls) (answered answer ls) (same answer ls)
 
-module _ (answer : Answering) (ls : List Text) where
-  refusal_is : (r : Option Deep) → (answered answer ls).refusal ≡ r → (answered (by_line answer) ls).refusal ≡ option_map note_of r
+module _ (answer : Telling) (ls : List Text) where
+  refusal_is : (r : Option Deep) → (answered answer ls).refusal ≡ r → (answered (told_by_line answer) ls).refusal ≡ option_map note_of r
   refusal_is r is = (same answer ls).refusal ∙ ap (option_map note_of) is
 
-  out_is : (t t' : Tally) (o o' : Stream) → Answers ls answer t t' o o' → Appends o.written o'.written (out_of (answered (by_line answer) ls))
+  out_is : (t t' : Tally) (o o' : Stream) → Answers ls answer t t' o o' → Appends o.written o'.written (out_of (answered (told_by_line answer) ls))
   out_is t t' o o' a = subst (λ (x : Text). Appends o.written o'.written x) (sym (same answer ls).out) a.wrote
 
-  cut_is : (o o' : Stream) → AnswersCut ls answer o o' → WroteFront o.written o'.written (out_of (answered (by_line answer) ls))
+  cut_is : (o o' : Stream) → AnswersCut ls answer o o' → WroteFront o.written o'.written (out_of (answered (told_by_line answer) ls))
   cut_is o o' a = subst (λ (x : Text). WroteFront o.written o'.written x) (sym (same answer ls).out) a.wrote
 
 -- what holds of the rest of a file that was taken up holds of what is told of the file
-by_told : (P : Told → Type 0) (Q : Option Text → Type 0) → P untold → ((bytes : Text) → Q (Some bytes) → P (holds bytes)) → (told : Told) (rest : Option Text) → told ≢ absent → Keeps (bytes_of told) rest → Q rest → P told
+by_told : (P : FileTold → Type 0) (Q : Option Text → Type 0) → P untold → ((bytes : Text) → Q (Some bytes) → P (holds bytes)) → (told : FileTold) (rest : Option Text) → told ≢ absent → Keeps (bytes_of told) rest → Q rest → P told
 by_told P Q none some untold rest there keeps q = none
 by_told P Q none some absent rest there keeps q = absurd (there refl)
 by_told P Q none some (holds bytes) None there keeps q = absurd keeps
@@ -61,7 +60,7 @@ abbrev pub came_of : Text → Result (Unit {0}) BatchFault → Option Stopped
 came_of too_long (Ok u) = None
 came_of too_long (Err fault) = Some (stopped_by too_long fault)
 
-module _ (told : Told) (rest : Option Text) (there : told ≢ absent) (keeps : Keeps (bytes_of told) rest) where
+module _ (told : FileTold) (rest : Option Text) (there : told ≢ absent) (keeps : Keeps (bytes_of told) rest) where
   front_told : (text : Text) → IsFrontOf rest text → IsToldFront told text
   front_told text = by_told (λ t. IsToldFront t text) (λ r. IsFrontOf r text) tt (λ bytes p. p) told rest there keeps
 
@@ -75,15 +74,15 @@ module _ (told : Told) (rest : Option Text) (there : told ≢ absent) (keeps : K
   seen_told n text seen (inl is) = inl is
   seen_told n text seen (inr is) = inr (is.0, text_told text is.1, is.2)
 
-  comes : (answer : Answering) (name too_long : Text) (limit n : ℕ) (text : Text) (t t' : Tally) (o o' : Stream) (r : Result (Unit {0}) BatchFault) → AnswersTo answer limit rest n text t t' o o' r
-      → TellsTo (source name limit too_long) (by_line answer) told n text o.written o'.written (came_of too_long r)
+  comes : (answer : Telling) (name too_long : Text) (limit n : ℕ) (text : Text) (t t' : Tally) (o o' : Stream) (r : Result (Unit {0}) BatchFault) → AnswersTo answer limit rest n text t t' o o' r
+      → TellsTo (source name limit too_long) (told_by_line answer) told n text o.written o'.written (came_of too_long r)
   comes answer name too_long limit n text t t' o o' (Ok u) p = (p.0, text_told text p.1, refusal_is answer (lines text) None p.2, out_is answer (lines text) t t' o o' p.3)
   comes answer name too_long limit n text t t' o o' (Err (b.Deep version)) p = inl (p.0, seen_told n text p.0 p.1, refusal_is answer p.0 (Some (record { version = version })) p.2, out_is answer p.0 t t' o o' p.3)
   comes answer name too_long limit n text t t' o o' (Err b.PointsLong) p = inr (refl, p.0, p.1, long_told limit p.2, refusal_is answer (ended_lines text) None p.3, out_is answer (ended_lines text) t t' o o' p.4)
-  comes answer name too_long limit n text t t' o o' (Err b.ReadFault) p = let out = out_of (answered (by_line answer) (ended_lines text)) in (out, [], sym (append-nil out), out_is answer (ended_lines text) t t' o o' p.1)
+  comes answer name too_long limit n text t t' o o' (Err b.ReadFault) p = let out = out_of (answered (told_by_line answer) (ended_lines text)) in (out, [], sym (append-nil out), out_is answer (ended_lines text) t t' o o' p.1)
   comes answer name too_long limit n text t t' o o' (Err b.WriteFault) p = (p.0, seen_told n text p.0 p.1, cut_is answer p.0 o o' p.2)
 
-counts : (answer : Answering) (too_long : Text) (limit : ℕ) (rest : Option Text) (n : ℕ) (text : Text) (t t' : Tally) (o o' : Stream) (k r r' : ℕ) (result : Result (Unit {0}) BatchFault) → r ≡ k → AnswersTo answer limit rest n text t t' o o' result → ReadsAreCounted r r' result
+counts : (answer : Telling) (too_long : Text) (limit : ℕ) (rest : Option Text) (n : ℕ) (text : Text) (t t' : Tally) (o o' : Stream) (k r r' : ℕ) (result : Result (Unit {0}) BatchFault) → r ≡ k → AnswersTo answer limit rest n text t t' o o' result → ReadsAreCounted r r' result
     → AnswersAreCounted k r' o.faults o'.faults (came_of too_long result)
 counts answer too_long limit rest n text t t' o o' k r r' (Ok u) same p c = (c ∙ same, p.3.steady)
 counts answer too_long limit rest n text t t' o o' k r r' (Err (b.Deep version)) same p c = (c ∙ same, p.3.steady)
@@ -92,9 +91,9 @@ counts answer too_long limit rest n text t t' o o' k r r' (Err b.ReadFault) same
 counts answer too_long limit rest n text t t' o o' k r r' (Err b.WriteFault) same p c = (c ∙ same, p.2.rose)
 
 -- a file that was taken up and answered
-pub answered_source : {E : Type 0} {answer : Answering} {name too_long : Text} {each limit : ℕ} {old mid new : Meaning} {t t' : Tally} {o o' : Stream} {k k' : ℕ} {x : Unit {0}}
+pub answered_source : {E : Type 0} {answer : Telling} {name too_long : Text} {each limit : ℕ} {old mid new : Meaning} {t t' : Tally} {o o' : Stream} {k k' : ℕ} {x : Unit {0}}
     → TakesUp {T = Unit {0}} {E = E} name old mid (Ok x) → (r : Result (Unit {0}) BatchFault) → AnswersRest answer each limit mid new t t' o o' k k' r
-    → AnswersSource (source name limit too_long) each (by_line answer) (moment old o k) (moment new o' k') (came_of too_long r)
+    → AnswersSource (source name limit too_long) each (told_by_line answer) (moment old o k) (moment new o' k') (came_of too_long r)
 answered_source {answer = answer} {name = name} {too_long = too_long} {limit = limit} {old = old} {mid = mid} {new = new} {t = t} {t' = t'} {o = o} {o' = o'} up r p = record {
   files = files_then old mid new up.files p.files;
   making = making_then old mid new up.making p.making;

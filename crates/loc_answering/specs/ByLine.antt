@@ -1,10 +1,12 @@
--- What is answered to a line, as bytes; or the line on notes by which it is refused. The words: `deep_text`, `as_bytes`, `by_line`, `stopped_by`.
+-- What is answered to a line, as bytes; or the line on notes by which it is refused. The words: `deep_text`, `as_bytes`, `by_line`, `told_bytes`,
+-- `told_by_line`, `stopped_by`.
 use Rattle.std.specs.Prelude.{ℕ, List, ◌++◌, codes, Result, Ok, Err}
 use Rattle.std.specs.Fmt.{decimal}
 use Rattle.loc_spec_text.specs.Points.{Answer, ended}
 use Rattle.loc_place.specs.declared.locator.Deep.{Deep}
 use Rattle.loc_batch.specs.Batches.{Answering}
 use Rattle.loc_batch.specs.Streams.{line_of}
+use Rattle.loc_batch.specs.Told.{Telling, Told}
 use Rattle.loc_batch.specs.declared.faults.BatchFault.{BatchFault}
 use Rattle.loc_batch.specs.declared.faults.BatchFault.TheVariants as b
 use Rattle.loc_course.specs.Courses.{Stopped, refused, unread, unwritten}
@@ -21,6 +23,15 @@ as_bytes (Err d) = Err (deep_text d.version)
 -- the same of the answer to a line
 abbrev pub by_line : Answering → List ℕ → Result (List ℕ) (List ℕ)
 by_line answer line = as_bytes (answer line)
+
+-- what is told to a line as bytes, or the line on notes of a search that was given up
+abbrev pub told_bytes : Result Told Deep → Result (List ℕ) (List ℕ)
+told_bytes (Ok told) = Ok told.line
+told_bytes (Err d) = Err (deep_text d.version)
+
+-- the same of what is told to each line
+abbrev pub told_by_line : Telling → List ℕ → Result (List ℕ) (List ℕ)
+told_by_line telling line = told_bytes (telling line)
 
 -- why the command stops, with the line on notes where the file is too long
 abbrev pub stopped_by : List ℕ → BatchFault → Stopped

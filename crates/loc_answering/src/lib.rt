@@ -1,7 +1,7 @@
 //! The lines of a file that are answered while it is read, as a part of a command.
 #![tactic(auto)]
 
-ghost use Rattle.std.specs.Prelude.{◌≡◌, ◌≤◌, length};
+ghost use Rattle.std.specs.Prelude.{◌≡◌, ◌+◌, ◌≤◌, length};
 ghost use Rattle.loc_spec_text.specs.Points.{ended};
 ghost use Rattle.loc_course.specs.Following.{moment};
 ghost use Rattle.loc_course.specs.Streams.{AnswersSource};
@@ -9,16 +9,17 @@ ghost use Rattle.loc_course.specs.Stops.{end_of, source, stopped};
 ghost use Rattle.loc_cover.specs.Legends.{FitsTable};
 ghost use Rattle.loc_batch.specs.Answering.{answer_by};
 ghost use Rattle.loc_batch.specs.Batches.{IsFresh};
-ghost use Rattle.loc_answering.specs.ByLine.{by_line, deep_text, stopped_by};
+ghost use Rattle.loc_batch.specs.Told.{told_by};
+ghost use Rattle.loc_answering.specs.ByLine.{by_line, deep_text, stopped_by, told_by_line};
 ghost use Rattle.loc_course.specs.Lines.{line_text};
 
-use loc_batch::{Batch, BatchFault, FaceNumbers, answer_all};
+use loc_batch::{Answerer, Batch, BatchFault, ByPlace, FaceNumbers, answer_all};
 use loc_course::{Line, Part, Stop};
 use loc_cover::Legend;
-use loc_edges::Views;
+use loc_edges::EdgeTable;
 use loc_geom::Steps;
 use loc_io::{Shelf, Sink};
-use loc_place::Locator;
+use loc_place::{Deep, Locator, Place};
 use std::sync::ledger::Ledger;
 
 // The line on notes of a search that was given up.
@@ -51,10 +52,35 @@ fn stop_of(fault: BatchFault, too_long: &[u8]) -> Stop
 }
 
 /// Takes up a file, and answers its lines while it reads it in pieces. Where it has more bytes than the batch's limit, the line says so.
+pub fn answer_lines<F: Copy + Drop, D: Answerer<F>, S: Shelf, O: Sink, L: Ledger>(
+    batch: &mut Batch<F>,
+    by: &D,
+    shelf: &mut S,
+    name: &str,
+    too_long: &[u8],
+    out: &mut O,
+    steps: &mut Steps<L>,
+) -> Result<(), Stop>
+    requires line { length too_long.now ≤ 24 }
+    requires fresh { IsFresh batch.old }
+    requires fits { D.fits by.now }
+    ensures { AnswersSource (source name.now batch.old.limit (ended too_long.now)) (D.most_found by.now + D.most_put by.now) (told_by_line (told_by batch.old.scale (D.finds by.now) (D.tells by.now))) (moment (S.meaning shelf.old) (O.meaning out.old) steps.old) (moment (S.meaning shelf.new) (O.meaning out.new) steps.new) (end_of result) }
+{
+    match shelf.take_up(name) {
+        Ok(()) => {}
+        Err(_) => return Err(Stop::ReadFault),
+    }
+    match answer_all(batch, by, shelf, out, steps) {
+        Ok(()) => Ok(()),
+        Err(fault) => Err(stop_of(fault, too_long)),
+    }
+}
+
+/// The same by places: what a locator finds in a table, the rows of a legend and the numbers of faces.
 pub fn answer_source<F: Shelf, I: Locator, N: FaceNumbers, O: Sink, L: Ledger>(
-    batch: &mut Batch,
+    batch: &mut Batch<Result<Place, Deep>>,
     index: &I,
-    views: &Views<'_, L>,
+    table: &EdgeTable,
     legend: &Legend,
     faces: &N,
     shelf: &mut F,
@@ -65,17 +91,16 @@ pub fn answer_source<F: Shelf, I: Locator, N: FaceNumbers, O: Sink, L: Ledger>(
 ) -> Result<(), Stop>
     requires line { length too_long.now ≤ 24 }
     requires fresh { IsFresh batch.old }
-    requires fits { I.fits index.now views.now }
-    requires legend { FitsTable views.now legend.now }
-    requires faces { N.fits faces.now views.now }
-    ensures { AnswersSource (source name.now batch.old.limit (ended too_long.now)) (I.most index.now views.now) (by_line (answer_by batch.old.scale (I.finds index.now views.now) (N.shown faces.now) legend.now)) (moment (F.meaning shelf.old) (O.meaning out.old) steps.old) (moment (F.meaning shelf.new) (O.meaning out.new) steps.new) (end_of result) }
+    requires fits { I.fits index.now table.now }
+    requires legend { FitsTable table.now legend.now }
+    requires faces { N.fits faces.now table.now }
+    ensures { AnswersSource (source name.now batch.old.limit (ended too_long.now)) (I.most index.now table.now) (by_line (answer_by batch.old.scale (I.finds index.now table.now) (N.shown faces.now) legend.now)) (moment (F.meaning shelf.old) (O.meaning out.old) steps.old) (moment (F.meaning shelf.new) (O.meaning out.new) steps.new) (end_of result) }
 {
-    match shelf.take_up(name) {
-        Ok(()) => {}
-        Err(_) => return Err(Stop::ReadFault),
-    }
-    match answer_all(batch, index, views, legend, faces, shelf, out, steps) {
-        Ok(()) => Ok(()),
-        Err(fault) => Err(stop_of(fault, too_long)),
-    }
+    let by = ByPlace {
+        index,
+        table,
+        legend,
+        faces,
+    };
+    answer_lines(batch, &by, shelf, name, too_long, out, steps)
 }

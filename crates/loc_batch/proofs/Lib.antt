@@ -7,3 +7,4 @@ pub mod Points
 pub mod Streamed
 pub mod Taking
 pub mod Quoting
+pub mod Telling

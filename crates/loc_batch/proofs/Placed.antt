@@ -1,5 +1,5 @@
 -- What is found for the queries of a block, in any order, is what is found for each of its points.
-use Rattle.std.proofs.Common.{◌≡◌, ◌≢◌, ℕ, zero, suc, ◌<◌, ◌≤◌, ◌⊎◌, inl, inr, List, [], ◌∷◌, ◌++◌, length, get_or, map, Option, Some, None, Result, refl, sym, ◌∙◌, ap, subst, arith}
+use Rattle.std.proofs.Common.{◌≡◌, ◌≢◌, ℕ, zero, suc, ◌<◌, ◌≤◌, ◌⊎◌, inl, inr, List, [], ◌∷◌, ◌++◌, length, get_or, map, Option, Some, None, refl, sym, ◌∙◌, ap, subst, arith}
 use Rattle.std.specs.Prelude.{set, option_map, slice_index_or, ◌==◌}
 use Rattle.std.proofs.Common.{take, true, false, ap₂, append_assoc, length-append}
 use Rattle.std.proofs.lemmas.List.Elements.{All-append, All-cons, All-nil, Contains-push}
@@ -15,13 +15,11 @@ use Rattle.std.specs.List.{All, Contains}
 use Rattle.std.specs.List.Sorted.{IsPermutation}
 use Rattle.std.proofs.lemmas.List.Sorted.{All-permutation, Contains-permutation, length_permutation}
 use Rattle.loc_spec_plane.specs.Points.{Point}
-use Rattle.loc_spec_plane.specs.declared.Place.{Place}
-use Rattle.loc_place.specs.declared.locator.Deep.{Deep}
 use Rattle.loc_batch.specs.declared.block.Query.{Query}
 use Rattle.loc_batch.specs.Blocks.{BlockState, Holds, ReadsLines, no_lines, placed, with_line}
 
 -- another order of the queries holds the same lines
-pub held_again : (points : List (Option Point)) (b : BlockState) (queries : List Query) → IsPermutation b.queries queries → Holds points b → Holds points (record b { queries = queries })
+pub held_again : {F : Type 0} (points : List (Option Point)) (b : BlockState F) (queries : List Query) → IsPermutation b.queries queries → Holds points b → Holds points (record b { queries = queries })
 held_again points b queries order h = record {
   as_many = h.as_many;
   empty = h.empty;
@@ -48,14 +46,14 @@ within_list (first ∷ xs) zero x is = omega arith
 within_list (first ∷ xs) (suc i) x is = let less = within_list xs i x is in omega (arith, less)
 
 -- what is found for one of the points, or for none
-found_at : (finds : Point → Result Place Deep) (points : List (Option Point)) (i : ℕ) (p : Option Point) → i < length points → get_or points i None ≡ p → get_or (map (option_map finds) points) i None ≡ option_map finds p
+found_at : {F : Type 0} (finds : Point → F) (points : List (Option Point)) (i : ℕ) (p : Option Point) → i < length points → get_or points i None ≡ p → get_or (map (option_map finds) points) i None ≡ option_map finds p
 found_at finds points i p less is = get_or-map (option_map finds) points i None None less ∙ ap (option_map finds) is
 
 -- a slot is right, or a query of its line is still to come
-abbrev IsRightOrNamed : List (Option (Result Place Deep)) → List (Option (Result Place Deep)) → List Query → ℕ → Type 0
+abbrev IsRightOrNamed : {F : Type 0} → List (Option F) → List (Option F) → List Query → ℕ → Type 0
 IsRightOrNamed target found queries i = (get_or found i None ≡ get_or target i None) ⊎ Names i queries
 
-placed_step : (finds : Point → Result Place Deep) (target found : List (Option (Result Place Deep))) (q : Query) (queries : List Query) (i : ℕ) → q.line < length found → get_or target q.line None ≡ Some (finds q.point)
+placed_step : {F : Type 0} (finds : Point → F) (target found : List (Option F)) (q : Query) (queries : List Query) (i : ℕ) → q.line < length found → get_or target q.line None ≡ Some (finds q.point)
     → IsRightOrNamed target found (q ∷ queries) i → IsRightOrNamed target (set found q.line (Some (finds q.point))) queries i
 unfolding Names
 placed_step finds target found q queries i within is left = by (eqb_tells i q.line) left
@@ -66,7 +64,7 @@ placed_step finds target found q queries i within is left = by (eqb_tells i q.li
     by (inr other) (inr (inl here)) = absurd (other.1 (sym here))
     by (inr other) (inr (inr more)) = inr more
 
-placed_target : (finds : Point → Result Place Deep) (target : List (Option (Result Place Deep))) (queries : List Query) (found : List (Option (Result Place Deep))) → length found ≡ length target
+placed_target : {F : Type 0} (finds : Point → F) (target : List (Option F)) (queries : List Query) (found : List (Option F)) → length found ≡ length target
     → All (λ (q : Query). get_or target q.line None ≡ Some (finds q.point)) queries → ((i : ℕ) → i < length target → IsRightOrNamed target found queries i) → placed finds queries found ≡ target
 unfolding Names
 placed_target finds target [] found many right left = ext_get_or None found target many (λ i less. elim (left i (omega (arith, less, many))) [ inl same ↦ same | inr none ↦ absurd none ])
@@ -78,7 +76,7 @@ placed_target finds target (q ∷ queries) found many right left =
     (λ i less. placed_step finds target found q queries i (omega (arith, within, many)) is (left i less))
 
 -- what is found for the queries that hold some points
-pub placed_is : (finds : Point → Result Place Deep) (points : List (Option Point)) (b : BlockState) → Holds points b → placed finds b.queries b.found ≡ map (option_map finds) points
+pub placed_is : {F : Type 0} (finds : Point → F) (points : List (Option Point)) (b : BlockState F) → Holds points b → placed finds b.queries b.found ≡ map (option_map finds) points
 placed_is finds points b h = placed_target finds (map (option_map finds) points) b.queries b.found (h.as_many ∙ sym (length-map points (option_map finds)))
     (λ k q less. let r = slice_index_or b.queries k q in found_at finds points r.line (Some r.point) (within_list points r.line r.point (h.right k q less)) (h.right k q less))
     (λ i less. by i (omega (arith, less, length-map points (option_map finds), h.as_many)) (get_or points i None) refl)
@@ -92,7 +90,7 @@ pub written_back : {X : Type 0} (n : ℕ) (xs ys : List X) → n ≡ length xs �
 written_back n xs ys is = take-append-le n xs ys (omega (arith, is)) ∙ take_all n xs (omega (arith, is))
 
 -- a block without lines holds none
-pub holds_none : Holds [] no_lines
+pub holds_none : {F : Type 0} → Holds {F = F} [] no_lines
 holds_none = record { as_many = refl; empty = λ k d less. absurd (omega arith); right = λ k d less. absurd (omega arith); asked = λ i p is. absurd (cc is); few = omega arith }
 
 at_front : {X : Type 0} (xs : List X) (x : X) (i : ℕ) (d r : X) → i < length xs → get_or xs i d ≡ r → get_or (xs ++ x ∷ []) i d ≡ r
@@ -117,7 +115,7 @@ right_more points last queries all = λ k d less. let q = slice_index_or queries
     at_front points last q.line None (Some q.point) (within_list points q.line q.point (all k d less)) (all k d less)
 
 -- one line more
-pub holds_more : (points : List (Option Point)) (last : Option Point) (b : BlockState) → Holds points b → Holds (points ++ last ∷ []) (with_line b last)
+pub holds_more : {F : Type 0} (points : List (Option Point)) (last : Option Point) (b : BlockState F) → Holds points b → Holds (points ++ last ∷ []) (with_line b last)
 holds_more points None b h = record {
   as_many = omega (arith, h.as_many, length-append b.found (None ∷ []), length-append points (None ∷ []));
   empty = none_more b.found h.empty;
@@ -146,7 +144,7 @@ holds_more points (Some last) b h = record {
     contains_before queries q last (k, less, is) = (k, omega (arith, less, length-append queries (last ∷ [])), at_front queries last k q q less is)
 
 -- the lines of a block, one more line read behind them
-pub reads_more : (scale : ℕ) (line text line' rest front more : List ℕ) (b : BlockState) → ReadsLines scale line text line' rest b → rest ≡ front ++ 10 ∷ more → IsUnbroken front → length more < length rest
+pub reads_more : {F : Type 0} (scale : ℕ) (line text line' rest front more : List ℕ) (b : BlockState F) → ReadsLines scale line text line' rest b → rest ≡ front ++ 10 ∷ more → IsUnbroken front → length more < length rest
     → ReadsLines scale line text [] more (with_line b (point_of scale (line' ++ front)))
 reads_more scale line text line' rest front more b r cuts whole less =
     let split = lines_cut line' front more rest cuts r.unbroken whole in
@@ -164,5 +162,5 @@ reads_more scale line text line' rest front more b r cuts whole less =
     no_end (x ∷ ls) l is = cc is
 
 -- at the start none is read
-pub reads_none : (scale : ℕ) (line text : List ℕ) (b : BlockState) → b ≡ no_lines → IsUnbroken line → ReadsLines scale line text line text b
+pub reads_none : {F : Type 0} (scale : ℕ) (line text : List ℕ) (b : BlockState F) → b ≡ no_lines → IsUnbroken line → ReadsLines scale line text line text b
 reads_none scale line text b is whole = record { lines = []; holds = subst (λ c. Holds [] c) (sym is) holds_none; split = refl; unbroken = whole; shorter = omega arith; none = λ e. (refl, refl) }

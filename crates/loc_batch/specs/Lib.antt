@@ -5,4 +5,6 @@ pub mod Desks
 pub mod Faces
 pub mod Faults
 pub mod Kept
+pub mod Lists
 pub mod Streams
+pub mod Told

@@ -2,18 +2,15 @@
 
 ghost use Rattle.std.specs.Prelude.{◌≡◌, ◌+◌, ◌*◌, ◌<◌, ◌≤◌, ◌^◌, Err, None, false, true, length, IfErr, IfOk, OnErr, OnOk};
 ghost use Rattle.loc_io.specs.Streams.{InTime};
-ghost use Rattle.loc_cover.specs.Legends.{FitsTable};
-ghost use Rattle.loc_batch.specs.Answering.{answer_by};
 ghost use Rattle.loc_batch.specs.Batches.{Ends, Feeds, IsFresh, StaysSo, fault_or, lines_ended, within_limit};
 ghost use Rattle.loc_batch.specs.Streams.{last_line};
+ghost use Rattle.loc_batch.specs.Told.{told_by};
 
+use crate::answerer::Answerer;
 use crate::desk::Desk;
-use crate::{FaceNumbers, FeedFault, Tally};
-use loc_cover::Legend;
-use loc_edges::Views;
+use crate::{FeedFault, Tally};
 use loc_geom::Steps;
 use loc_io::Sink;
-use loc_place::Locator;
 use std::alloc::{AllocError, Global};
 use std::marker::Model;
 use std::sync::ledger::Ledger;
@@ -23,16 +20,16 @@ const PIECE: usize = 4_194_304;
 
 // The lines of a stream, as far as they are answered.
 #[derive(Drop)]
-pub(crate) struct Stream {
+pub(crate) struct Stream<F: Copy + Drop> {
     scale: u8,
     limit: u64,
     fed: u64,
-    desk: Desk,
+    desk: Desk<F>,
     fault: Option<FeedFault>,
     closed: bool,
 }
 
-impl Model for Stream {
+impl<F: Copy + Drop> Model for Stream<F> {
     ghost use Rattle.std.specs.Prelude.{◌≤◌};
     ghost use Rattle.loc_batch.specs.Batches.{BatchState};
     ghost use Rattle.loc_batch.specs.Kept.{IsUnbroken};
@@ -52,9 +49,9 @@ impl Model for Stream {
     ghost invariant = { λ s. (s.scale ≤ 15) × (s.fed ≤ s.limit) × IsUnbroken s.desk.line.items };
 }
 
-impl Stream {
+impl<F: Copy + Drop> Stream<F> {
     // A stream of which nothing has come.
-    fn make(alloc: Global, scale: u8, limit: u64) -> Result<Stream, AllocError>
+    fn make(alloc: Global, scale: u8, limit: u64) -> Result<Stream<F>, AllocError>
         requires { scale ≤ 15 }
         ensures fresh { IfOk result IsFresh }
         ensures scale { IfOk result (λ s. s.scale ≡ scale) }
@@ -128,33 +125,26 @@ impl Stream {
     }
 
     // The lines that a piece ends.
-    pub(crate) fn feed<I: Locator, N: FaceNumbers, O: Sink, L: Ledger>(
+    pub(crate) fn feed<D: Answerer<F>, O: Sink, L: Ledger>(
         &mut self,
-        index: &I,
-        views: &Views<'_, L>,
-        legend: &Legend,
-        faces: &N,
+        by: &D,
         piece: &[u8],
         sink: &mut O,
         steps: &mut Steps<L>,
     ) -> Result<(), FeedFault>
-        requires fits { I.fits index.now views.now }
-        requires legend { FitsTable views.now legend.now }
-        requires faces { N.fits faces.now views.now }
-        ensures feeds { Feeds (answer_by self.old.scale (I.finds index.now views.now) (N.shown faces.now) legend.now) self.old self.new piece.now (O.meaning sink.old) (O.meaning sink.new) result }
+        requires fits { D.fits by.now }
+        ensures feeds { Feeds (told_by self.old.scale (D.finds by.now) (D.tells by.now)) self.old self.new piece.now (O.meaning sink.old) (O.meaning sink.new) result }
         ensures in_time { InTime (O.meaning sink.old) (O.meaning sink.new) }
         ensures stays { StaysSo self.old self.new }
         ensures closed { self.new.closed ≡ self.old.closed }
         ensures counted { steps.old ≤ steps.new }
-        ensures within { steps.new ≤ steps.old + length (lines_ended self.old piece.now) * I.most index.now views.now }
+        ensures within { steps.new ≤ steps.old + length (lines_ended self.old piece.now) * (D.most_found by.now + D.most_put by.now) }
     {
         if let Some(fault) = self.fault {
             return Err(fault);
         }
         let front = self.front(piece);
-        let given = self.desk.write_lines(
-            self.scale, index, views, legend, faces, front, sink, steps,
-        );
+        let given = self.desk.write_lines(self.scale, by, front, sink, steps);
         let result = self.count_fed(given, piece.len());
         self.noted(result)
     }
@@ -167,44 +157,38 @@ impl Stream {
     }
 
     // The last line.
-    pub(crate) fn end<I: Locator, N: FaceNumbers, O: Sink, L: Ledger>(
+    pub(crate) fn end<D: Answerer<F>, O: Sink, L: Ledger>(
         &mut self,
-        index: &I,
-        views: &Views<'_, L>,
-        legend: &Legend,
-        faces: &N,
+        by: &D,
         sink: &mut O,
         steps: &mut Steps<L>,
     ) -> Result<(), FeedFault>
-        requires fits { I.fits index.now views.now }
-        requires legend { FitsTable views.now legend.now }
-        requires faces { N.fits faces.now views.now }
-        ensures ends { Ends (answer_by self.old.scale (I.finds index.now views.now) (N.shown faces.now) legend.now) self.old self.new (O.meaning sink.old) (O.meaning sink.new) result }
+        requires fits { D.fits by.now }
+        ensures ends { Ends (told_by self.old.scale (D.finds by.now) (D.tells by.now)) self.old self.new (O.meaning sink.old) (O.meaning sink.new) result }
         ensures in_time { InTime (O.meaning sink.old) (O.meaning sink.new) }
         ensures stays { StaysSo self.old self.new }
         ensures closed { self.old.closed ≡ true → self.new.closed ≡ true }
         ensures counted { steps.old ≤ steps.new }
-        ensures within { steps.new ≤ steps.old + length (last_line self.old.line) * I.most index.now views.now }
+        ensures within { steps.new ≤ steps.old + length (last_line self.old.line) * (D.most_found by.now + D.most_put by.now) }
     {
         if let Some(fault) = self.fault {
             return Err(fault);
         }
-        let given = self
-            .desk
-            .write_last(self.scale, index, views, legend, faces, sink, steps);
+        let given = self.desk.write_last(self.scale, by, sink, steps);
         let result = self.closed_by(given);
         self.noted(result)
     }
 }
 
-/// A stream of points text that comes in pieces. Each line is answered once it has ended. It has all its memory from `make` on.
+/// A stream of points text that comes in pieces. Each line is answered once it has ended, by what is found for its point. It has all its
+/// memory from `make` on.
 #[derive(Drop)]
-pub struct Batch {
-    pub(crate) stream: Stream,
+pub struct Batch<F: Copy + Drop> {
+    pub(crate) stream: Stream<F>,
     pub(crate) room: Vec<u8>,
 }
 
-impl Model for Batch {
+impl<F: Copy + Drop> Model for Batch<F> {
     ghost use Rattle.std.specs.Prelude.{◌<◌, vec_len};
     ghost use Rattle.loc_batch.specs.Batches.{BatchState};
 
@@ -215,9 +199,9 @@ impl Model for Batch {
     ghost invariant = { λ b. 0 < vec_len b.room };
 }
 
-impl Batch {
+impl<F: Copy + Drop> Batch<F> {
     /// A fresh batch of points at a scale, for a stream of at most `limit` bytes.
-    pub fn make(alloc: Global, scale: u8, limit: u64) -> Result<Batch, AllocError>
+    pub fn make(alloc: Global, scale: u8, limit: u64) -> Result<Batch<F>, AllocError>
         requires scale { scale ≤ 15 }
         requires limit { limit ≤ 2 ^ 40 }
         ensures fresh { IfOk result IsFresh }
@@ -232,52 +216,41 @@ impl Batch {
     }
 
     /// Answers the lines that the piece ends.
-    pub fn feed<I: Locator, N: FaceNumbers, O: Sink, L: Ledger>(
+    pub fn feed<D: Answerer<F>, O: Sink, L: Ledger>(
         &mut self,
-        index: &I,
-        views: &Views<'_, L>,
-        legend: &Legend,
-        faces: &N,
+        by: &D,
         piece: &[u8],
         sink: &mut O,
         steps: &mut Steps<L>,
     ) -> Result<(), FeedFault>
-        requires fits { I.fits index.now views.now }
-        requires legend { FitsTable views.now legend.now }
-        requires faces { N.fits faces.now views.now }
+        requires fits { D.fits by.now }
         requires open { self.old.closed ≡ false }
-        ensures feeds { Feeds (answer_by self.old.scale (I.finds index.now views.now) (N.shown faces.now) legend.now) self.old self.new piece.now (O.meaning sink.old) (O.meaning sink.new) result }
+        ensures feeds { Feeds (told_by self.old.scale (D.finds by.now) (D.tells by.now)) self.old self.new piece.now (O.meaning sink.old) (O.meaning sink.new) result }
         ensures in_time { InTime (O.meaning sink.old) (O.meaning sink.new) }
         ensures stays { StaysSo self.old self.new }
         ensures open { self.new.closed ≡ false }
         ensures counted { steps.old ≤ steps.new }
-        ensures within { steps.new ≤ steps.old + length (lines_ended self.old piece.now) * I.most index.now views.now }
+        ensures within { steps.new ≤ steps.old + length (lines_ended self.old piece.now) * (D.most_found by.now + D.most_put by.now) }
     {
-        self.stream
-            .feed(index, views, legend, faces, piece, sink, steps)
+        self.stream.feed(by, piece, sink, steps)
     }
 
     /// Answers a last line that has no end.
-    pub fn end<I: Locator, N: FaceNumbers, O: Sink, L: Ledger>(
+    pub fn end<D: Answerer<F>, O: Sink, L: Ledger>(
         &mut self,
-        index: &I,
-        views: &Views<'_, L>,
-        legend: &Legend,
-        faces: &N,
+        by: &D,
         sink: &mut O,
         steps: &mut Steps<L>,
     ) -> Result<(), FeedFault>
-        requires fits { I.fits index.now views.now }
-        requires legend { FitsTable views.now legend.now }
-        requires faces { N.fits faces.now views.now }
+        requires fits { D.fits by.now }
         requires open { self.old.closed ≡ false }
-        ensures ends { Ends (answer_by self.old.scale (I.finds index.now views.now) (N.shown faces.now) legend.now) self.old self.new (O.meaning sink.old) (O.meaning sink.new) result }
+        ensures ends { Ends (told_by self.old.scale (D.finds by.now) (D.tells by.now)) self.old self.new (O.meaning sink.old) (O.meaning sink.new) result }
         ensures in_time { InTime (O.meaning sink.old) (O.meaning sink.new) }
         ensures stays { StaysSo self.old self.new }
         ensures counted { steps.old ≤ steps.new }
-        ensures within { steps.new ≤ steps.old + length (last_line self.old.line) * I.most index.now views.now }
+        ensures within { steps.new ≤ steps.old + length (last_line self.old.line) * (D.most_found by.now + D.most_put by.now) }
     {
-        self.stream.end(index, views, legend, faces, sink, steps)
+        self.stream.end(by, sink, steps)
     }
 
     /// What was answered, in numbers.

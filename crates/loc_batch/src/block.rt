@@ -4,11 +4,10 @@
 ghost use Rattle.std.specs.Prelude.{◌≡◌, ◌+◌, ◌*◌, ◌<◌, ◌≤◌, List, None, Option, false, true, get_or, length, map, option_map, IfOk};
 ghost use Rattle.std.specs.List.{All};
 ghost use Rattle.loc_spec_plane.specs.Points.{Point as PointValue};
-ghost use Rattle.loc_batch.specs.Blocks.{Holds, IsFoundIn, no_lines, placed, with_line};
+ghost use Rattle.loc_batch.specs.Blocks.{AreKnown, Holds, no_lines, placed, with_line};
 
-use loc_edges::Views;
+use crate::answerer::Answerer;
 use loc_geom::{Point, Steps};
-use loc_place::{Deep, Locator, Place};
 use std::alloc::{AllocError, Global};
 use std::marker::Model;
 use std::sync::ledger::Ledger;
@@ -23,21 +22,18 @@ pub(crate) struct Query {
     line: usize,
 }
 
-/// What is found for a line, where it reads as a point.
-pub(crate) type Found = Option<Result<Place, Deep>>;
-
 /// The lines of a block. It has all its memory from `make` on.
 #[derive(Drop)]
-pub(crate) struct Block {
+pub(crate) struct Block<F: Copy + Drop> {
     queries: Vec<Query>,
-    found: Vec<Found>,
+    found: Vec<Option<F>>,
 }
 
-impl Model for Block {
+impl<F: Copy + Drop> Model for Block<F> {
     ghost use Rattle.std.specs.Prelude.{◌≤◌, vec_len, vec_capacity};
     ghost use Rattle.loc_batch.specs.Blocks.{BlockState};
 
-    ghost Value = { BlockState };
+    ghost Value = { BlockState F };
 
     ghost view = { λ b. record { queries = b.queries.items; found = b.found.items } };
 
@@ -45,29 +41,28 @@ impl Model for Block {
 }
 
 // What is found for each query stands in its line.
-fn seek<I: Locator, L: Ledger>(
+fn seek<F: Copy + Drop, D: Answerer<F>, L: Ledger>(
     queries: &[Query],
-    found: &mut [Found],
-    index: &I,
-    views: &Views<'_, L>,
+    found: &mut [Option<F>],
+    by: &D,
     steps: &mut Steps<L>,
 )
-    requires fits { I.fits index.now views.now }
+    requires fits { D.fits by.now }
     requires lines { All (λ q. q.line < length found.old) queries.now }
-    requires in_range { All (IsFoundIn views.now) found.old }
-    ensures placed { found.new ≡ placed (I.finds index.now views.now) queries.now found.old }
-    ensures in_range { All (IsFoundIn views.now) found.new }
+    requires known { AreKnown (D.knows by.now) found.old }
+    ensures placed { found.new ≡ placed (D.finds by.now) queries.now found.old }
+    ensures known { AreKnown (D.knows by.now) found.new }
     ensures counted { steps.old ≤ steps.new }
-    ensures within { steps.new ≤ steps.old + length queries.now * I.most index.now views.now }
+    ensures within { steps.new ≤ steps.old + length queries.now * D.most_found by.now }
 {
     for query in queries {
-        found[query.line] = Some(index.locate(views, query.point, steps));
+        found[query.line] = Some(by.find(query.point, steps));
     }
 }
 
-impl Block {
+impl<F: Copy + Drop> Block<F> {
     // A block without lines.
-    pub(crate) fn make(alloc: Global) -> Result<Block, AllocError>
+    pub(crate) fn make(alloc: Global) -> Result<Block<F>, AllocError>
         ensures { IfOk result (λ b. b ≡ no_lines) }
     {
         Ok(Block {
@@ -113,25 +108,20 @@ impl Block {
     }
 
     // Seeks the points of all lines, in the order of the plane.
-    pub(crate) fn search<I: Locator, L: Ledger>(
-        &mut self,
-        index: &I,
-        views: &Views<'_, L>,
-        steps: &mut Steps<L>,
-    )
-        requires fits { I.fits index.now views.now }
+    pub(crate) fn search<D: Answerer<F>, L: Ledger>(&mut self, by: &D, steps: &mut Steps<L>)
+        requires fits { D.fits by.now }
         requires held { (points : List (Option PointValue)) × Holds points self.old }
-        ensures found { (points : List (Option PointValue)) → Holds points self.old → self.new.found ≡ map (option_map (I.finds index.now views.now)) points }
-        ensures in_range { All (IsFoundIn views.now) self.new.found }
+        ensures found { (points : List (Option PointValue)) → Holds points self.old → self.new.found ≡ map (option_map (D.finds by.now)) points }
+        ensures known { AreKnown (D.knows by.now) self.new.found }
         ensures counted { steps.old ≤ steps.new }
-        ensures within { steps.new ≤ steps.old + length self.old.found * I.most index.now views.now }
+        ensures within { steps.new ≤ steps.old + length self.old.found * D.most_found by.now }
     {
         self.queries.sort_unstable();
-        seek(&self.queries, &mut self.found, index, views, steps);
+        seek(&self.queries, &mut self.found, by, steps);
     }
 
     // What was found for a line.
-    pub(crate) fn found(&self, line: usize) -> Found
+    pub(crate) fn found(&self, line: usize) -> Option<F>
         requires { line < length self.now.found }
         ensures { result ≡ get_or self.now.found line None }
     {

@@ -52,18 +52,6 @@ impl Model for Legend {
     }) };
 }
 
-// A copy of the id of each feature.
-fn ids_of(alloc: Global, layer: &Layer) -> Result<Vec<Vec<u8>>, AllocError>
-    ensures few { IfOk result (λ ids. length ids.items ≤ 2 ^ 18) }
-    ensures value { IfOk result (λ ids. map (λ id. id.items) ids.items ≡ map (λ (f : FeatureOf). f.id) layer.now) }
-{
-    let mut ids = Vec::with_capacity(alloc, layer.len())?;
-    for feature in layer.features() {
-        ids.push(Vec::from_slice(alloc, feature.id())?)?;
-    }
-    Ok(ids)
-}
-
 // Lists one behind another.
 fn flat(alloc: Global, lists: &[Vec<u32>]) -> Result<Rows<u32>, AllocError>
     ensures { IfOk result (λ rows. rows ≡ map (λ list. list.items) lists.now) }
@@ -95,7 +83,29 @@ impl Legend {
         ensures few { IfOk result (λ _. IsFew table.now) }
         ensures refused { IfErr result (IsRefused table.now) }
     {
-        let ids = ids_of(alloc, layer)?;
+        let ids = layer.ids(alloc)?;
+        Legend::with_ids(alloc, ids, table, floors)
+    }
+
+    /// The same for features with these ids, which it takes.
+    pub fn with_ids(
+        alloc: Global,
+        ids: Vec<Vec<u8>>,
+        table: &EdgeTable,
+        floors: &Floors,
+    ) -> Result<Legend, LegendFault>
+        requires few_features { length ids.items ≤ 2 ^ 18 }
+        requires all_ends { AllEnds table.now }
+        requires all_even { AllEven table.now }
+        requires apart { NoConflict table.now }
+        requires features { feature_count table.now ≤ length ids.items }
+        requires swept { AreFloors table.now floors.now }
+        ensures ids { IfOk result (λ rows. rows.ids ≡ map (λ id. id.items) ids.items) }
+        ensures fits { IfOk result (FitsTable table.now) }
+        ensures is_true { IfOk result (IsTrueLegend table.now) }
+        ensures few { IfOk result (λ _. IsFew table.now) }
+        ensures refused { IfErr result (IsRefused table.now) }
+    {
         let (covers, cover_of) = cover_rows(alloc, table, floors.of_edge())?;
         let floors = Vec::from_slice(alloc, floors.of_corner())?;
         Ok(Legend::assemble(alloc, table, ids, covers, cover_of, floors)?)

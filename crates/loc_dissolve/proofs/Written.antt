@@ -36,10 +36,6 @@ pub ring_is : (scale : ℕ) (ring : Ring) → codes "(" ++ (closed_text scale ri
 ring_is scale [] = refl
 ring_is scale (p ∷ ps) = ap (λ l. codes "(" ++ (l ++ codes ")")) (sym (closes (position_text scale) (position_text scale p) p ps))
 
--- a coordinate that was put as 64 bits
-pub same_value : (scale : ℕ) (v w : ℤ) {o m : Stream} {h k : List ℕ} {r : Result (Unit {0}) WriteFault} → OnGrid v → v ≡ w → PutsText (grid_text scale (to_z w64 (of_z w64 v))) o m h k r → PutsText (grid_text scale w) o m h k r
-same_value scale v w on is put = put_same (ap (grid_text scale) (grid_back v on ∙ is)) put
-
 -- the corners of a ring and the first once more, where there are some
 pub closed_is : (scale : ℕ) (all : Ring) (p : Point) (ps : Ring) → all ≡ p ∷ ps → flat_map (λ (q : Point). position_text scale q ++ codes ", ") all ++ position_text scale p ≡ closed_text scale all
 closed_is scale all p ps is = ap (λ (l : Ring). flat_map (λ (q : Point). position_text scale q ++ codes ", ") l ++ position_text scale p) is ∙ ap (closed_text scale) (sym is)
@@ -67,8 +63,3 @@ row_is scale group =
     ap (λ l. codes "\"MULTIPOLYGON " ++ l) (sym (append_assoc polygons (codes "\",\"") (id ++ codes "\"\n"))
     ∙ (sym (append_assoc (polygons ++ codes "\",\"") id (codes "\"\n"))
     ∙ sym (append_assoc ((polygons ++ codes "\",\"") ++ id) (codes "\"") (codes "\n"))))
-
--- one element more of what a loop puts
-pub goes_item : {X : Type 0} (f : X → List ℕ) (xs : List X) (i : ℕ) (x : X) (whole : List ℕ) (o m : Stream) (h k : List ℕ) → i < length xs → x ≡ get_or xs i x
-    → Goes whole (flat_map f (drop i xs)) o m h k → Goes whole (f x ++ flat_map f (drop (i + 1) xs)) o m h k
-goes_item f xs i x whole o m h k less is goes = goes_next (flat_map f) xs i x (f x) whole o m h k less (ap (λ y. f y ++ flat_map f (drop (i + 1) xs)) (sym is)) goes

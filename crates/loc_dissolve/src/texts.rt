@@ -4,49 +4,16 @@ ghost use Rattle.std.specs.Prelude.{◌≤◌, ◌∷◌, ◌++◌, codes, map};
 ghost use Rattle.std.specs.List.{flat_map};
 ghost use Rattle.loc_io.specs.Streams.{TakesAll};
 ghost use Rattle.loc_page.specs.Puts.{PutsText};
-ghost use Rattle.loc_spec_text.specs.Points.{grid_text, position_text};
+ghost use Rattle.loc_spec_text.specs.Points.{position_text};
 ghost use Rattle.loc_dissolve.specs.Writing.{closed_text};
 ghost use Rattle.loc_spec_groups.specs.GroupTexts.{dissolved_text, group_row, listed, polygon_text, polygons_text, ring_text};
 
 use crate::groups::{Dissolved, Group, Polygon, Ring};
 use loc_batch::put_doubled;
+use loc_faces::put_position;
 use loc_geom::Point;
 use loc_io::{Sink, WriteFault};
 use loc_page::Page;
-use loc_wkt::put_grid;
-
-// Room for a grid value.
-const ROOM: usize = 40;
-
-// A coordinate at a scale.
-fn put_value<O: Sink>(
-    page: &mut Page,
-    sink: &mut O,
-    value: i64,
-    scale: u8,
-) -> Result<(), WriteFault>
-    requires scale { scale ≤ 15 }
-    ensures { PutsText (grid_text scale value) (O.meaning sink.old) (O.meaning sink.new) page.old page.new result }
-{
-    let mut room = [b'0'; ROOM];
-    let start = put_grid(&mut room, value, scale);
-    page.put(sink, &room[start..])
-}
-
-// x, a space, y.
-fn put_position<O: Sink>(
-    page: &mut Page,
-    sink: &mut O,
-    point: Point,
-    scale: u8,
-) -> Result<(), WriteFault>
-    requires scale { scale ≤ 15 }
-    ensures { PutsText (position_text scale point) (O.meaning sink.old) (O.meaning sink.new) page.old page.new result }
-{
-    put_value(page, sink, point.x(), scale)?;
-    page.put(sink, b" ")?;
-    put_value(page, sink, point.y(), scale)
-}
 
 // A corner, and a comma behind it.
 fn put_corner<O: Sink>(

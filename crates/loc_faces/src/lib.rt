@@ -11,4 +11,4 @@ mod texts;
 pub use faces::Faces;
 pub use faults::FaceFault;
 pub use laws::{lines_law, subdivision_law};
-pub use texts::write_face;
+pub use texts::{put_position, write_face};

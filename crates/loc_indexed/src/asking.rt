@@ -32,7 +32,7 @@ fn answer_points<F: Shelf, O: Sink, L: Ledger>(
     answer_source(
         &mut batch,
         held,
-        &held.table().views(),
+        held.table(),
         held.legend(),
         &Unnumbered,
         shelf,

@@ -13,8 +13,10 @@ use Rattle.loc_spec_index.specs.declared.NodeRow.{NodeRow}
 use Rattle.loc_spec_index.specs.Content.{Content, cover_numbers, floor_of_corner, root_of, table_in}
 use Rattle.loc_spec_index.specs.Nodes.{IsShallow, is_deep}
 use Rattle.loc_spec_index.specs.TrueIndex.{IsIndexOf, IsTrueIndex, IsTrueVersion, alive_count}
-use Rattle.loc_persist.specs.Meaning.{VersionsMeaning}
+use Rattle.loc_persist.specs.ByNumber.{AreRootsByNumber, AreRowsByNumber}
+use Rattle.loc_persist.specs.Meaning.{IsMeaning, VersionsMeaning}
 use Rattle.loc_persist.proofs.ByNumber.{rows_by_number_read}
+use Rattle.loc_status.specs.Versions.{AreVersions}
 use Rattle.loc_treeidx.proofs.Standing.{listed_count, square_rises}
 use Rattle.loc_cover.specs.Legends.{LegendRows}
 use Rattle.loc_write.specs.Written.{HoldsParts, IsContentOf}
@@ -33,6 +35,25 @@ fewer_shallow rows i n k l le shallow = λ sides leads.
     (let more = ltb-true ((l + 1) * (l + 1)) (2 ^ d) deep in
     let square = square_rises k l le in
     both_ways (is_deep k d) not_deep (lt-ltb ((k + 1) * (k + 1)) (2 ^ d) (omega (arith, more, square))))))
+
+module _ (t : Table) (m : VersionsMeaning) (c : Content) (table : table_in c ≡ t) (meaning : IsMeaning m) (versions : AreVersions t m.sealed_lists) (nodes : AreRowsByNumber m.rows c.nodes) (roots : AreRootsByNumber m.rows m.roots c.roots) where
+  -- where nodes and roots are those of the versions of the table, each version is true
+  pub versions_true : (i : ℕ) → i < length c.corners → IsTrueVersion c i
+  versions_true i lt =
+      let fits : i < length t.corners = (let a = as_many_corners c in let b = ap (λ (u : Table). length u.corners) table in omega (arith, lt, a, b)) in
+      let sealed : i < length m.roots = (let a = versions.as_many in let b = meaning.as_many in omega (arith, fits, a, b)) in
+      let root = get_or m.roots i None in
+      let is_root = slice_get-get_or m.roots i None sealed in
+      let read = rows_by_number_read m c.nodes c.roots meaning nodes roots i root is_root in
+      let list : read.0 ≡ get_or m.sealed_lists i [] = sym (get_or_from_slice_get m.sealed_lists i read.0 [] read.1) in
+      let version : IsVersion t i read.0 = subst (λ (es : List ℕ). IsVersion t i es) (sym list) (versions.are i fits) in
+      let alive : length read.0 ≤ alive_count t i = (let few = listed_count t (corner t i) read.0 version in let same = length-filter (alive_at t (corner t i)) (edge_numbers t) in omega (arith, few, same)) in
+      record {
+        list = read.0;
+        is_version = subst (λ (u : Table). IsVersion u i read.0) (sym table) version;
+        shallow = subst (λ (u : Table). IsShallow c.nodes i (root_of c i) (alive_count u i)) (sym table) (fewer_shallow c.nodes i (root_of c i) (length read.0) (alive_count t i) alive read.3);
+        reads = read.2;
+      }
 
 module _ (scale : ℕ) (layer : List Rings) (rows : LegendRows) (m : VersionsMeaning) (c : Content) (p : IsPlaneOf layer rows m) (of : IsContentOf scale (noded_table_of layer) rows m c) (holds : HoldsParts (noded_table_of layer) rows c) where
   abbrev t : Table
@@ -56,24 +77,6 @@ module _ (scale : ℕ) (layer : List Rings) (rows : LegendRows) (m : VersionsMea
   sources_on : (e : ℕ) → e < length c.edges → is_on_source (table_in c) e ≡ true
   sources_on e lt = ap (λ (u : Table). is_on_source u e) holds.table ∙ noded_sources layer e (within e lt)
 
-  -- version i
-  version_true : (i : ℕ) → i < length c.corners → IsTrueVersion c i
-  version_true i lt =
-      let fits = there i lt in
-      let sealed : i < length m.roots = (let a = p.versions.as_many in let b = p.meaning.as_many in omega (arith, fits, a, b)) in
-      let root = get_or m.roots i None in
-      let is_root = slice_get-get_or m.roots i None sealed in
-      let read = rows_by_number_read m c.nodes c.roots p.meaning of.nodes of.roots i root is_root in
-      let list : read.0 ≡ get_or m.sealed_lists i [] = sym (get_or_from_slice_get m.sealed_lists i read.0 [] read.1) in
-      let version : IsVersion t i read.0 = subst (λ (es : List ℕ). IsVersion t i es) (sym list) (p.versions.are i fits) in
-      let alive : length read.0 ≤ alive_count t i = (let few = listed_count t (corner t i) read.0 version in let same = length-filter (alive_at t (corner t i)) (edge_numbers t) in omega (arith, few, same)) in
-      record {
-        list = read.0;
-        is_version = subst (λ (u : Table). IsVersion u i read.0) (sym holds.table) version;
-        shallow = subst (λ (u : Table). IsShallow c.nodes i (root_of c i) (alive_count u i)) (sym holds.table) (fewer_shallow c.nodes i (root_of c i) (length read.0) (alive_count t i) alive read.3);
-        reads = read.2;
-      }
-
   is_true : IsTrueIndex c
   is_true = record {
     ended = subst AllEnds (sym holds.table) p.ended;
@@ -87,7 +90,7 @@ module _ (scale : ℕ) (layer : List Rings) (rows : LegendRows) (m : VersionsMea
     named = λ n lt. subst (λ (ns : List ℕ). IsTrue (is_in n ns)) (sym holds.above)
         (every_named t rows p.sound p.legend as_many_above n (let same = ap (λ (ls : List (List ℕ)). length ls) covers_are in omega (arith, lt, same)));
     sources = sources_on;
-    versions = version_true;
+    versions = versions_true t m c holds.table p.meaning p.versions of.nodes of.roots;
   }
 
   of_layer : IsIndexOf 2 scale rows.ids layer c

@@ -1,5 +1,5 @@
 -- The groups of a layer, with the nexts and the faces that are computed from the table of each.
-use Rattle.std.proofs.Common.{ℕ, Bool, map, List, [], ◌∷◌, sym, subst}
+use Rattle.std.proofs.Common.{◌≡◌, ℕ, ◌^◌, ◌≤◌, Bool, map, length, List, [], ◌∷◌, Ok, sym, subst}
 use Rattle.std.specs.Prelude.{All, not}
 use Rattle.std.specs.List.{AllByRecursion}
 use Rattle.std.specs.Str.{bytes_eq}
@@ -7,6 +7,7 @@ use Rattle.loc_spec_plane.specs.Points.{IsGridPoint}
 use Rattle.loc_spec_plane.specs.Tables.{Table, IsTable, AllEnds, AllEven, NoConflict, cut_at, layer_corners, noded_table_of}
 use Rattle.loc_spec_plane.specs.Faces.{IsFaces}
 use Rattle.loc_spec_text.specs.Bytes.{Text}
+use Rattle.loc_spec_text.specs.declared.Form.{Form}
 use Rattle.loc_place.specs.Planar.{IsPlanar}
 use Rattle.loc_faces.specs.Subdivision.{face_at, next_at}
 use Rattle.loc_faces.proofs.Computed.{next_same}
@@ -14,6 +15,7 @@ use Rattle.loc_faces.proofs.Known.{are_halves, faces_are, halves}
 use Rattle.loc_spec_groups.specs.Groups.{dissolved, dissolved_group, Group, group_names, group_polygons, group_table, is_member}
 use Rattle.loc_laws_dissolve.proofs.Grouped.{table_law}
 use Rattle.loc_rings.specs.Values.{Feature, IsRing, rings_of}
+use Rattle.loc_csvform.specs.Layer.{layer_of}
 use Rattle.loc_edges.specs.Layers.{layer_rings}
 use Rattle.loc_edges.proofs.Even.{closed_even}
 use Rattle.loc_laws_noding.proofs.Noded.{cutting_noded}
@@ -57,13 +59,18 @@ rings_closed f good = all_by_number IsRing (rings_of f) (all_flat (AllByRecursio
 rings_on : (f : Feature) → IsReadFeature f → AllByRecursion (AllByRecursion IsGridPoint) (rings_of f)
 rings_on f good = all_flat (AllByRecursion IsReadRing) (AllByRecursion IsGridPoint) (λ rings. rings) (λ rings each. all_to IsReadRing (AllByRecursion IsGridPoint) (λ r one. one.on_grid) rings each) f.polygons good.rings
 
+-- the rings of a layer that was read are closed, so marks are even
+pub read_even : (form : Form) (scale : ℕ) (text : Text) (layer : List Feature) → length text ≤ 2 ^ 28 → layer_of form scale text ≡ Ok layer → AllEven (noded_table_of (layer_rings layer))
+read_even form scale text layer few read =
+    all_even (cut_at (layer_corners (layer_rings layer))) (layer_rings layer) (cutting_noded (layer_rings layer))
+    (closed_even (layer_rings layer) (all_by_number (All IsRing) (layer_rings layer) (all_map IsReadFeature (All IsRing) rings_of rings_closed layer (layer_good form scale text layer few read))))
+
 pub accepted_reads : AcceptedReads
 accepted_reads form scale text layer few read apart limits =
     let good = layer_good form scale text layer few read in
-    let even = closed_even (layer_rings layer) (all_by_number (All IsRing) (layer_rings layer) (all_map IsReadFeature (All IsRing) rings_of rings_closed layer good)) in
     let grid = corners_on (layer_rings layer) (all_map IsReadFeature (AllByRecursion (AllByRecursion IsGridPoint)) rings_of rings_on layer good) in
     let ids = all_map IsReadFeature IsId (λ (f : Feature). f.id) (λ f own. own.id) layer good in
     let cut = cutting_noded (layer_rings layer) in
     layer_reads scale (groups_of layer)
     (groups_are (noded_table_of (layer_rings layer)) (is_table (cut_at (layer_corners (layer_rings layer))) (layer_rings layer) cut) (all_ends (cut_at (layer_corners (layer_rings layer))) (layer_rings layer) cut)
-    (all_even (cut_at (layer_corners (layer_rings layer))) (layer_rings layer) cut even) apart grid (map (λ (f : Feature). f.id) layer) ids) limits
+    (read_even form scale text layer few read) apart grid (map (λ (f : Feature). f.id) layer) ids) limits

@@ -1,7 +1,7 @@
 mod Accepted
 mod Cuts
 mod Cycles
-mod Dissolved
+pub mod Dissolved
 mod Examples
 mod Grids
 mod Layers

@@ -8,6 +8,5 @@ pub mod Lower
 pub mod Once
 pub mod OneRing
 pub mod Placed
-pub mod Repeats
 pub mod Split
 pub mod Twice

@@ -24,12 +24,12 @@ pub as_many_places : (n : ℕ) (polygons : List Rings) → length (ring_places n
 as_many_places n [] = refl
 as_many_places n (rings ∷ polygons) = omega (arith, length-append (own_places n rings) (ring_places (n + 1) polygons), length-append rings (feature_rings polygons), own_many n rings, as_many_places (n + 1) polygons)
 
-front_place : (n : ℕ) (rings : Rings) (polygons : List Rings) (r : ℕ) → r < length rings → get_or (ring_places n (rings ∷ polygons)) r (0, false) ≡ (n, not (r == 0))
+pub front_place : (n : ℕ) (rings : Rings) (polygons : List Rings) (r : ℕ) → r < length rings → get_or (ring_places n (rings ∷ polygons)) r (0, false) ≡ (n, not (r == 0))
 front_place n rings polygons r lt =
     get_or_append_left (own_places n rings) (ring_places (n + 1) polygons) (0, false) r (omega (arith, own_many n rings))
     ∙ get_or-map-range_with_len (λ k. (n, not (k == 0))) 0 (length rings) r r (0, false) lt (omega arith)
 
-back_place : (n : ℕ) (rings : Rings) (polygons : List Rings) (r : ℕ) → length rings ≤ r → get_or (ring_places n (rings ∷ polygons)) r (0, false) ≡ get_or (ring_places (n + 1) polygons) (r - length rings) (0, false)
+pub back_place : (n : ℕ) (rings : Rings) (polygons : List Rings) (r : ℕ) → length rings ≤ r → get_or (ring_places n (rings ∷ polygons)) r (0, false) ≡ get_or (ring_places (n + 1) polygons) (r - length rings) (0, false)
 back_place n rings polygons r le =
     get_or-append_right (own_places n rings) (ring_places (n + 1) polygons) r (0, false) (omega (arith, own_many n rings))
     ∙ ap (λ k. get_or (ring_places (n + 1) polygons) (r - k) (0, false)) (own_many n rings)

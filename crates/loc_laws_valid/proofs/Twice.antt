@@ -18,7 +18,8 @@ use Rattle.loc_laws_noding.proofs.Noded.{cutting_noded}
 use Rattle.loc_laws_noding.proofs.Orders.{edges_by_before}
 use Rattle.loc_laws_noding.proofs.SortedSet.{irrefl}
 use Rattle.loc_laws_noding.proofs.Tables.{any_of_pieces, as_many_ends, edge_is_piece, pieces, pieces_rise}
-use Rattle.loc_laws_valid.specs.Laws.{IsFirstTwice, TwiceByPieces}
+use Rattle.loc_laws_repeats.specs.Repeats.{IsFirstTwice}
+use Rattle.loc_laws_valid.specs.Laws.{TwiceByPieces}
 use Rattle.loc_laws_valid.proofs.Calm.{edge_place}
 use Rattle.loc_laws_valid.proofs.Least.{first_at, first_none}
 use Rattle.loc_laws_valid.proofs.Once.{one_if}

@@ -1,14 +1,15 @@
 -- Laws of validity, as statements that the contracts of public functions cite. The words: `HasOneRing`, `ring_of`, `NoneTwice`, `OneRing`, `InsideByList`, `GoesThrough`, `CrossingParts`, `LowerAtEnds`,
 -- `CrossingSides`, `RingsCalm`, `NonePinched`, `NoneOutside`, `NoneNested`, `PolygonsCalm`,
--- `ring_pieces`, `IsFirstTwice`, `TwiceByPieces`, `ConflictsCross`, `FewerPieces`, `ByLists`, `BreachesByLists`.
+-- `ring_pieces`, `TwiceByPieces`, `ConflictsCross`, `FewerPieces`, `ByLists`, `BreachesByLists`.
 use Rattle.std.specs.Prelude.{◌≡◌, ◌⊎◌, ℕ, ◌<◌, ◌≤◌, Bool, true, false, not, ◌&&◌, List, [], ◌∷◌, length, get_or, map, count_by, find, Option, Some, None, option_map, unwrap_or, ◌==◌}
 use Rattle.std.specs.List.{flat_map, list_any}
 use Rattle.loc_spec_plane.specs.Lists.{is_in, exactly_one, odd_many}
-use Rattle.loc_spec_plane.specs.Points.{Edge, before, conflict, edge_before, is_above, same_edge}
+use Rattle.loc_spec_plane.specs.Points.{Edge, before, conflict, is_above, same_edge}
 use Rattle.loc_spec_plane.specs.Rings.{Rings, segments}
 use Rattle.loc_spec_plane.specs.Tables.{Table, IsTable, AllEnds, AllEven, NoConflict, cut_at, edge, edge_numbers, piece_count, lo_of, hi_of, ends_at, has, has_odd}
 use Rattle.loc_spec_plane.specs.Places.{lower, lower_of}
 use Rattle.loc_spec_plane.specs.Covers.{cover_above, is_over}
+use Rattle.loc_laws_repeats.specs.Repeats.{IsFirstTwice}
 use Rattle.loc_spec_valid.specs.Breaches.{HasNoCrossing, feature_rings, is_crossing, is_twice, is_hole, is_pinch, is_outside, is_nested, is_overlap, lies_inside, polygon_of, polygon_table, ring_numbers, ring_table}
 
 -- no edge is twice: each edge has one ring, by its number, with an odd mark
@@ -84,11 +85,6 @@ PolygonsCalm = (polygons : List Rings) → AllEven (ring_table polygons) → Has
 -- the pieces of all segments of a feature, each as often as it stands there
 abbrev pub ring_pieces : List Rings → List Edge
 ring_pieces polygons = flat_map (cut_at (ring_table polygons).corners) (segments (feature_rings polygons))
-
--- the edge stands there more than once, and no edge before it does; or none does
-abbrev pub IsFirstTwice : List Edge → Option Edge → Type 0
-IsFirstTwice pieces None = (x : Edge) → count_by (same_edge x) pieces ≤ 1
-IsFirstTwice pieces (Some x) = (1 < count_by (same_edge x) pieces) × ((y : Edge) → edge_before y x ≡ true → count_by (same_edge y) pieces ≤ 1)
 
 -- the least edge that is twice, by all pieces
 abbrev pub TwiceByPieces : Type 0

@@ -1,6 +1,6 @@
 -- The map of a layer: its table, and the legend of the answers. The words: `has_many_pieces`, `HasFewPieces`,
--- `has_many_covers`, `IsTableOf`, `IsMapOf`.
-use Rattle.std.specs.Prelude.{◌≡◌, ◌≤◌, Bool, List, length, map, nat_lt}
+-- `has_many_covers`, `AreIdsOf`, `IsTableOf`, `IsMapOf`.
+use Rattle.std.specs.Prelude.{◌≡◌, ◌≤◌, ℕ, Bool, List, length, map, nat_lt}
 use Rattle.loc_spec_plane.specs.Covers.{cover_sum, feature_count}
 use Rattle.loc_spec_plane.specs.Tables.{Table, AllEnds, AllEven, NoConflict, piece_count}
 use Rattle.loc_rings.specs.Values.{Feature}
@@ -20,6 +20,10 @@ HasFewPieces layer = piece_count (layer_rings layer) ≤ most_pieces
 -- the distinct cover lists have more members together than a legend holds
 abbrev pub has_many_covers : Table → Bool
 has_many_covers t = nat_lt most_members (cover_sum t)
+
+-- the ids are those of the layer's features, in order
+abbrev pub AreIdsOf : List Feature → List (List ℕ) → Type 0
+AreIdsOf layer ids = ids ≡ map (λ (f : Feature). f.id) layer
 
 -- the table is that of the layer, whose pieces are few, every corner is an end, marks are even, and they name features of the layer
 pub record IsTableOf (layer : List Feature) (t : Table) : Type 0 where

@@ -6,3 +6,4 @@ pub mod PieceOrder
 pub mod Placed
 pub mod Refusals
 pub mod Skipping
+pub mod Twice

@@ -37,7 +37,7 @@ placed_lists layer corners cs tagged us placed corners_are from rise are cs_are 
 }
 
 -- features change no edge
-edges_kept : (tagged ps : List (Edge × ℕ)) → segments_in (map (with_feature tagged) ps) ≡ segments_in ps
+pub edges_kept : (tagged ps : List (Edge × ℕ)) → segments_in (map (with_feature tagged) ps) ≡ segments_in ps
 edges_kept tagged [] = refl
 edges_kept tagged (p ∷ ps) = ap (λ es. p.0 ∷ es) (edges_kept tagged ps)
 

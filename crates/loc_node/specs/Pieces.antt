@@ -1,7 +1,9 @@
--- The pieces of tagged segments, and how many a layer may have. The words: `cut_tagged`, `placed_from`, `piece_before`, `with_feature`, `first_with`, `most_pieces`, `IsRefused`.
+-- The pieces of tagged segments, and how many a layer may have. The words: `cut_tagged`, `placed_from`, `piece_before`, `with_feature`, `first_with`, `layer_pieces`, `most_pieces`, `IsRefused`.
 use Rattle.std.specs.Prelude.{ℕ, ◌<◌, nat_lt, Bool, ◌&&◌, ◌||◌, List, map, find, unwrap_or, slice_index_or}
 use Rattle.std.specs.List.{flat_map, list_any, enumerate_from}
 use Rattle.loc_spec_plane.specs.Points.{Edge, edge_before, same_edge}
+use Rattle.loc_spec_plane.specs.Rings.{Rings}
+use Rattle.loc_spec_plane.specs.Tables.{cut_at, layer_corners, layer_segments}
 use Rattle.loc_edges.specs.Tagged.{tagged_by}
 use Rattle.loc_node.specs.declared.fault.NodeFault.{NodeFault}
 use Rattle.loc_node.specs.declared.fault.NodeFault.TheVariants.{ManyPieces, NoMemory}
@@ -25,6 +27,10 @@ with_feature tagged p = (p.0, (slice_index_or tagged p.1 p).1)
 -- the first of the segments that has the edge as a piece
 abbrev pub first_with : (Edge → List Edge) → List Edge → Edge → Edge
 first_with cut ss e = unwrap_or (find (λ s. list_any (same_edge e) (cut s)) ss) e
+
+-- the pieces of all segments of a layer, each as often as it stands there
+abbrev pub layer_pieces : List Rings → List Edge
+layer_pieces layer = flat_map (cut_at (layer_corners layer)) (layer_segments layer)
 
 -- how many pieces the segments of a layer may have together
 abbrev pub most_pieces : ℕ

@@ -14,4 +14,4 @@ mod search;
 mod ways;
 
 pub use fault::NodeFault;
-pub use noding::node;
+pub use noding::{node, node_and_repeat};

@@ -6,6 +6,7 @@ ghost use Rattle.loc_spec_plane.specs.Points.{Edge as EdgeOf, before, edge_befor
 ghost use Rattle.loc_spec_plane.specs.Lists.{is_rising, sorted_set};
 ghost use Rattle.loc_spec_plane.specs.Tables.{cut_at};
 ghost use Rattle.loc_edges.specs.Tagged.{segments_in, tagged_by};
+ghost use Rattle.loc_laws_repeats.specs.Repeats.{IsFirstTwice};
 ghost use Rattle.loc_node.specs.Pieces.{IsRefused, cut_tagged, first_with, most_pieces, piece_before, placed_from, with_feature};
 
 use crate::fault::NodeFault;
@@ -113,6 +114,19 @@ pub(crate) fn placed_pieces(
     let mut pieces = cut_all(alloc, &finder, tagged)?;
     pieces.sort_unstable();
     Ok(pieces)
+}
+
+/// The first of pieces in order that stands there more than once.
+pub(crate) fn first_twice(pieces: &[(Edge, usize)]) -> Option<Edge>
+    requires in_order { IsSortedBy edge_before (segments_in pieces.now) }
+    ensures { IsFirstTwice (segments_in pieces.now) result }
+{
+    for n in 1..pieces.len() {
+        if is_again(pieces, n) {
+            return Some(pieces[n].0);
+        }
+    }
+    None
 }
 
 /// The source of each edge of the pieces, in order: the first of the segments that have it as a piece.

@@ -43,7 +43,7 @@ pair true s ss = refl
 pair false s ss = refl
 
 -- the segments of a ring from its point a on: that to the next point b, and those from b on
-from_point : (ring : Ring) (i : ℕ) (a b : Point) → i + 1 < length ring → a ≡ get_or ring i a → b ≡ get_or ring (i + 1) b → ring_segments (drop i ring) ≡ ring_segments (a ∷ b ∷ []) ++ ring_segments (drop (i + 1) ring)
+pub from_point : (ring : Ring) (i : ℕ) (a b : Point) → i + 1 < length ring → a ≡ get_or ring i a → b ≡ get_or ring (i + 1) b → ring_segments (drop i ring) ≡ ring_segments (a ∷ b ∷ []) ++ ring_segments (drop (i + 1) ring)
 from_point ring i a b below is_a is_b =
     let next : drop (i + 1) ring ≡ b ∷ drop (i + 1 + 1) ring = drop_more ring (i + 1) b below ∙ ap (λ q. q ∷ drop (i + 1 + 1) ring) (sym is_b) in
     let here : drop i ring ≡ a ∷ b ∷ drop (i + 1 + 1) ring = drop_more ring i a (omega arith) ∙ (ap (λ q. q ∷ drop (i + 1) ring) (sym is_a) ∙ ap (λ ps. a ∷ ps) next) in
@@ -72,7 +72,7 @@ ring_met ring i a b p odd answer result above below is_a is_b passed part none s
     (met (ring_segments ring) (ring_segments (drop (i - 1) ring)) (ring_segments (a ∷ b ∷ [])) (ring_segments (drop (i - 1 + 1) ring)) p odd (from_point ring (i - 1) a b (omega arith) is_a (subst (λ n. b ≡ get_or ring n b) back is_b)) passed (subst (IsParity (ring_segments (a ∷ b ∷ [])) p) none part))
 
 -- a ring of at most one point has no segment
-short : (ring : Ring) → length ring ≤ 1 → ring_segments ring ≡ []
+pub short : (ring : Ring) → length ring ≤ 1 → ring_segments ring ≡ []
 short [] h = refl
 short (p ∷ []) h = refl
 short (p ∷ q ∷ ps) h = absurd (omega arith)

@@ -48,4 +48,12 @@ impl Feature {
     {
         &self.rings
     }
+
+    /// The id alone. The rings are let go.
+    pub fn into_id(self) -> Vec<u8>
+        ensures { result.items ≡ self.id }
+    {
+        let Feature { id, rings: _ } = self;
+        id
+    }
 }

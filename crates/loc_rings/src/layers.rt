@@ -1,8 +1,9 @@
 // A layer: its features, within the limits.
 
-ghost use Rattle.std.specs.Prelude.{◌≡◌, ◌^◌, ◌+◌, ◌<◌, ◌≤◌, [], ◌∷◌, ◌++◌, length, slice_get, sum_by, nat_le, Some, IfSome, MatchOption, OnOk, OnErr};
+ghost use Rattle.std.specs.Prelude.{◌≡◌, ◌^◌, ◌+◌, ◌<◌, ◌≤◌, [], ◌∷◌, ◌++◌, length, slice_get, map, sum_by, nat_le, Some, IfSome, MatchOption, IfOk, OnOk, OnErr};
 ghost use Rattle.loc_spec_text.specs.Reading.{all_rings};
 ghost use Rattle.loc_rings.specs.Layers.{IsLayer, point_count, layer_points};
+ghost use Rattle.loc_rings.specs.Values.{Feature as FeatureOf};
 
 use crate::features::Feature;
 use crate::rings::Rings;
@@ -116,5 +117,29 @@ impl Layer {
         ensures within { IsLayer result.now }
     {
         self.features.as_slice()
+    }
+
+    /// A copy of the id of each feature, in order.
+    pub fn ids(&self, alloc: Global) -> Result<Vec<Vec<u8>>, AllocError>
+        ensures value { IfOk result (λ ids. map (λ id. id.items) ids.items ≡ map (λ (f : FeatureOf). f.id) self.now) }
+        ensures few { IfOk result (λ ids. length ids.items ≤ 2 ^ 18) }
+    {
+        let mut ids = Vec::with_capacity(alloc, self.features.len())?;
+        for feature in self.features() {
+            ids.push(Vec::from_slice(alloc, feature.id())?)?;
+        }
+        Ok(ids)
+    }
+
+    /// The id of each feature, in order. The rings are let go.
+    pub fn into_ids(self, alloc: Global) -> Result<Vec<Vec<u8>>, AllocError>
+        ensures value { IfOk result (λ ids. map (λ id. id.items) ids.items ≡ map (λ (f : FeatureOf). f.id) self) }
+        ensures few { IfOk result (λ ids. length ids.items ≤ 2 ^ 18) }
+    {
+        let mut ids = Vec::with_capacity(alloc, self.features.len())?;
+        for feature in self.features {
+            ids.push(feature.into_id())?;
+        }
+        Ok(ids)
     }
 }

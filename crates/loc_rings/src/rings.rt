@@ -8,8 +8,8 @@ use loc_geom::Point;
 use std::alloc::{AllocError, Global};
 use std::marker::Model;
 
-/// Closed rings in the order in which they were added, seen as polygons, each of which is the list of its rings. A ring keeps the memory
-/// that it came with: nothing is copied.
+/// Closed rings in the order in which they were added, seen as polygons, each of which is the list of its rings. A ring takes the memory
+/// that its points need.
 #[derive(Drop)]
 pub struct Rings {
     rings: Vec<Vec<Point>>,
@@ -65,13 +65,14 @@ impl Rings {
     }
 
     /// Appends a ring to the last polygon. A refusal drops it, and leaves the rings as they were.
-    pub fn add(&mut self, ring: Vec<Point>) -> Result<(), AllocError>
+    pub fn add(&mut self, mut ring: Vec<Point>) -> Result<(), AllocError>
         requires closed { IsRing ring.items }
         requires room { length (all_rings self.old) < 2 ^ 28 }
         requires started { 0 < length self.old }
         ensures ok { OnOk result (self.new ≡ with_ring self.old ring.items) }
         ensures err { OnErr result (self.new ≡ self.old) }
     {
+        ring.shrink_to_fit();
         append(&mut self.rings, ring)?;
         Ok(())
     }

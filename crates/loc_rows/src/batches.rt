@@ -5,7 +5,7 @@ ghost use Rattle.loc_place.specs.Planar.{IsPlanar};
 ghost use Rattle.loc_spec_plane.specs.Tables.{Table};
 ghost use Rattle.loc_cover.specs.Legends.{FitsTable};
 
-use loc_batch::{Batch, BatchFault, FeedFault, Tally, Unnumbered, answer_all};
+use loc_batch::{Batch, BatchFault, ByPlace, FeedFault, Tally, Unnumbered, answer_all};
 use loc_cover::Legend;
 use loc_csvform::{Form, read_layer};
 use loc_edges::{EdgeTable, Views};
@@ -99,16 +99,21 @@ fn fed_by<L: Ledger>(
     requires some_parts { 0 < L.parts }
 {
     let (table, legend) = map;
-    let views = table.views();
+    let by = ByPlace {
+        index: &Scan,
+        table,
+        legend,
+        faces: &Unnumbered,
+    };
     let mut steps = Steps::<L>::new(blank);
     let mut batch = Batch::make(alloc, 0, limit)?;
     for piece in points.chunks(length) {
-        let fed = batch.feed(&Scan, &views, legend, &Unnumbered, piece, sink, &mut steps);
+        let fed = batch.feed(&by, piece, sink, &mut steps);
         if fed.is_err() {
             return Ok((fed, batch.tally()));
         }
     }
-    let ended = batch.end(&Scan, &views, legend, &Unnumbered, sink, &mut steps);
+    let ended = batch.end(&by, sink, &mut steps);
     Ok((ended, batch.tally()))
 }
 
@@ -129,20 +134,16 @@ fn read_by<L: Ledger>(
     requires some_parts { 0 < L.parts }
 {
     let (table, legend) = map;
-    let views = table.views();
+    let by = ByPlace {
+        index: &Scan,
+        table,
+        legend,
+        faces: &Unnumbered,
+    };
     let mut steps = Steps::<L>::new(blank);
     let mut batch = Batch::make(alloc, 0, limit)?;
     shelf.take_up("points")?;
-    Ok(answer_all(
-        &mut batch,
-        &Scan,
-        &views,
-        legend,
-        &Unnumbered,
-        shelf,
-        sink,
-        &mut steps,
-    ))
+    Ok(answer_all(&mut batch, &by, shelf, sink, &mut steps))
 }
 
 // What comes of points in pieces of this length, and what stands on the sink.
@@ -373,15 +374,20 @@ fn answered_by<I: Locator, L: Ledger>(
     requires some_parts { 0 < L.parts }
 {
     let (table, legend) = map;
-    let views = table.views();
+    let by = ByPlace {
+        index,
+        table,
+        legend,
+        faces: &Unnumbered,
+    };
     let mut steps = Steps::<L>::new(blank);
     let mut batch = Batch::make(alloc, 0, limit)?;
     let [first, second] = pieces;
-    let fed = batch.feed(index, &views, legend, &Unnumbered, first, sink, &mut steps);
+    let fed = batch.feed(&by, first, sink, &mut steps);
     let after_first = sink.bytes().len();
-    let fed_again = batch.feed(index, &views, legend, &Unnumbered, second, sink, &mut steps);
+    let fed_again = batch.feed(&by, second, sink, &mut steps);
     let after_second = sink.bytes().len();
-    let ended = batch.end(index, &views, legend, &Unnumbered, sink, &mut steps);
+    let ended = batch.end(&by, sink, &mut steps);
     let after_end = sink.bytes().len();
     Ok([
         (fed, after_first),

@@ -10,10 +10,12 @@ use loc_io::MemShelf;
 // What a run leaves, and its files.
 type Outcome = (Left, MemShelf);
 
-// The file that a run has made, or nothing where there is none: `build` makes the third of its words.
+// The file that a run has made, or nothing where there is none: `build` and `upgrade` make the third of their words.
 fn made<'a>(words: &[String], outcome: &'a Outcome) -> Option<&'a [u8]> {
     match words {
-        [command, _, name, ..] if command.as_str() == "build" => outcome.1.bytes(name.as_str()),
+        [command, _, name, ..] if matches!(command.as_str(), "build" | "upgrade") => {
+            outcome.1.bytes(name.as_str())
+        }
         _ => None,
     }
 }

@@ -20,7 +20,7 @@ mod watched;
 use crate::failing::failing;
 use crate::hostile::hostile;
 use crate::making::{cut, make};
-use crate::playing::{brief, copies, run, same};
+use crate::playing::{brief, copies, equal, run, same};
 use crate::stage::Stage;
 use crate::stop::Stop;
 use crate::trips::{orders, refused, shuffles, trip};
@@ -28,12 +28,13 @@ use std::alloc::Global;
 use std::{fs, io};
 
 // The files of rows, in the order in which they are played.
-const FILES: [&str; 12] = [
+const FILES: [&str; 13] = [
     "layers.rows",
     "words.rows",
     "faces.rows",
     "spans.rows",
     "groups.rows",
+    "breaches.rows",
     "texts.rows",
     "plane.rows",
     "orders.rows",
@@ -51,6 +52,7 @@ fn play(page: &mut String, stage: &mut Stage, verb: &str, rest: &str) -> Result<
         "same" => same(page, stage, rest),
         "brief" => brief(page, stage, rest),
         "copies" => copies(page, stage, rest),
+        "equal" => equal(page, stage, rest),
         "trip" => trip(page, stage, rest),
         "refused" => refused(page, stage, rest),
         "orders" => {

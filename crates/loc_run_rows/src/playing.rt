@@ -67,6 +67,16 @@ pub(crate) fn same(page: &mut String, stage: &mut Stage, line: &str) -> Result<(
     show_made(page, stage, &words)
 }
 
+/// `equal NAME OTHER`: whether two files have the same bytes, and how many the first has.
+pub(crate) fn equal(page: &mut String, stage: &Stage, line: &str) -> Result<(), Stop> {
+    let (name, other) = cut(line);
+    let bytes = stage.bytes(name)?;
+    let are_equal = bytes == stage.bytes(other)?;
+    let length = bytes.len();
+    writeln!(page, "{length} bytes: {are_equal}")?;
+    Ok(())
+}
+
 // How many lines begin with a word.
 fn count_lines(text: &[u8], word: &[u8]) -> usize {
     text.split(|byte| *byte == b'\n')

@@ -28,6 +28,22 @@ fn put_nested(text: &mut String, count: u64) -> Result<(), AllocError>
     Ok(())
 }
 
+// The same squares as the polygons of one feature.
+fn put_within(text: &mut String, count: u64) -> Result<(), AllocError>
+    requires { count < 2 ^ 32 }
+{
+    let mut before = "MULTIPOLYGON (";
+    for i in 0..count {
+        let far = 4 * count - i;
+        write!(
+            text,
+            "{before}(({i} {i}, {far} {i}, {far} {far}, {i} {far}, {i} {i}))"
+        )?;
+        before = ", ";
+    }
+    text.push_str(")\n")
+}
+
 // So many squares apart from each other, four in a column.
 fn put_squares(text: &mut String, count: u64) -> Result<(), AllocError> {
     for n in 0..count {
@@ -87,7 +103,7 @@ fn put_grid(text: &mut String) -> Result<(), AllocError> {
     Ok(())
 }
 
-/// Makes a file by a step: `nested NAME COUNT`, `squares NAME COUNT` and `turns NAME COUNT` a layer, `points NAME COUNT SHIFT` and `grid NAME`
+/// Makes a file by a step: `nested NAME COUNT`, `within NAME COUNT`, `squares NAME COUNT` and `turns NAME COUNT` a layer, `points NAME COUNT SHIFT` and `grid NAME`
 /// points.
 pub(crate) fn shape(stage: &mut Stage, verb: &str, rest: &str) -> Result<(), Stop> {
     let (name, rest) = cut(rest);
@@ -95,6 +111,7 @@ pub(crate) fn shape(stage: &mut Stage, verb: &str, rest: &str) -> Result<(), Sto
     let mut text = String::new(stage.alloc);
     match verb {
         "nested" => put_nested(&mut text, number(count)?)?,
+        "within" => put_within(&mut text, number(count)?)?,
         "squares" => put_squares(&mut text, number(count)?)?,
         "turns" => put_cut(&mut text, number(count)?)?,
         "points" => put_points(&mut text, number(count)?, number(shift)?)?,

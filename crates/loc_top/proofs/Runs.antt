@@ -4,7 +4,7 @@ use Rattle.std.specs.Prelude.{IfSome, option_and_then, option_map}
 use Rattle.loc_spec_text.specs.Bytes.{Text}
 use Rattle.loc_io.specs.Meaning.{KeepsFiles}
 use Rattle.loc_io.specs.Streams.{InTime, Stream}
-use Rattle.loc_words.specs.Words.{Asked, query, check, build, ask, verify, face, gen, trial, stab, dissolve}
+use Rattle.loc_words.specs.Words.{Asked, query, check, build, ask, verify, face, gen, trial, upgrade, edges, stab, valid, dissolve}
 use Rattle.loc_course.specs.Courses.{Course, no_memory}
 use Rattle.loc_course.specs.Following.{lacks}
 use Rattle.loc_course.specs.Moments.{Moment}
@@ -19,9 +19,12 @@ use Rattle.loc_maps.specs.MapCourses.{layer_file}
 use Rattle.loc_maps.proofs.Checked.{check_plain}
 use Rattle.loc_query.proofs.Headlines.{query_makes_none, query_refuses_behind}
 use Rattle.loc_face.proofs.Plainly.{face_plain}
+use Rattle.loc_breaches.proofs.Plainly.{valid_plain}
 use Rattle.loc_groups.proofs.Plainly.{dissolve_plain}
 use Rattle.loc_reach.proofs.Plainly.{stab_plain}
 use Rattle.loc_trial.proofs.Plain.{gen_plain, trial_plain}
+use Rattle.loc_upgrade.specs.UpgradeCourses.{upgrade_course}
+use Rattle.loc_upgrade.proofs.Along.{edges_plain, upgrade_at_once, upgrade_makes_one}
 use Rattle.loc_top.specs.Run.{FilesOf, OutOf, Ran, RefusesPoints, RefusesWords, RunSentences, WritesFail, course_by, made_by}
 
 -- a command makes no file but this, and by these lines alone it refuses a file whose lines it answers
@@ -47,7 +50,13 @@ answering (verify asked) = plain_answering None (course_by (verify asked)) (veri
 answering (face asked) = plain_answering None (course_by (face asked)) (face_plain (layer_file asked.layer asked.form asked.scale) asked.point)
 answering (gen asked) = plain_answering None (course_by (gen asked)) (gen_plain asked.kind asked.n asked.shift)
 answering (trial asked) = plain_answering None (course_by (trial asked)) (trial_plain asked.index asked.kind asked.n asked.shift)
+answering (upgrade asked) = record {
+  makes = λ name differ. upgrade_makes_one asked.old asked.new name (λ same. differ (ap Some (sym same)));
+  line = λ line by. absurd (none_behind (upgrade_course asked.old asked.new) line (upgrade_at_once asked.old asked.new) by);
+}
+answering (edges asked) = plain_answering None (course_by (edges asked)) (edges_plain asked.index)
 answering (stab asked) = plain_answering None (course_by (stab asked)) (stab_plain (layer_file asked.layer asked.form asked.scale) asked.spans)
+answering (valid asked) = plain_answering None (course_by (valid asked)) (valid_plain (layer_file asked.layer asked.form asked.scale))
 answering (dissolve asked) = plain_answering None (course_by (dissolve asked)) (dissolve_plain (layer_file asked.layer asked.form asked.scale))
 
 answering_of : (o : Option Asked) (c : Course) → option_map course_by o ≡ Some c → IsAnswering (option_and_then made_by o) c

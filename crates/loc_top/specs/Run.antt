@@ -13,7 +13,7 @@ use Rattle.loc_io.specs.Meaning.{KeepsFiles}
 use Rattle.loc_io.specs.Streams.{InTime, Stream}
 use Rattle.loc_spec_text.specs.Points.{ended}
 use Rattle.loc_words.specs.Usage.{usage_text}
-use Rattle.loc_words.specs.Words.{Asked, query, check, build, ask, verify, face, gen, trial, stab, dissolve, command_of}
+use Rattle.loc_words.specs.Words.{Asked, query, check, build, ask, verify, face, gen, trial, upgrade, edges, stab, valid, dissolve, command_of}
 use Rattle.loc_course.specs.Courses.{Course, no_memory}
 use Rattle.loc_course.specs.Following.{IsToldAtMost}
 use Rattle.loc_course.specs.Moments.{Moment}
@@ -26,9 +26,11 @@ use Rattle.loc_indexed.specs.Verifying.{verify_course}
 use Rattle.loc_maps.specs.MapCourses.{check_course, layer_file}
 use Rattle.loc_query.specs.QueryCourses.{query_course}
 use Rattle.loc_face.specs.FaceCourses.{face_course}
+use Rattle.loc_breaches.specs.BreachCourses.{valid_course}
 use Rattle.loc_groups.specs.GroupCourses.{dissolve_course}
 use Rattle.loc_reach.specs.SpanCourses.{stab_course}
 use Rattle.loc_trial.specs.TrialCourses.{gen_course, trial_course}
+use Rattle.loc_upgrade.specs.UpgradeCourses.{edges_course, upgrade_course}
 
 -- the course of a command
 abbrev pub course_by : Asked → Course
@@ -40,12 +42,16 @@ course_by (verify asked) = verify_course asked.index
 course_by (face asked) = face_course (layer_file asked.layer asked.form asked.scale) asked.point
 course_by (gen asked) = gen_course asked.kind asked.n asked.shift
 course_by (trial asked) = trial_course asked.index asked.kind asked.n asked.shift
+course_by (upgrade asked) = upgrade_course asked.old asked.new
+course_by (edges asked) = edges_course asked.index
 course_by (stab asked) = stab_course (layer_file asked.layer asked.form asked.scale) asked.spans
+course_by (valid asked) = valid_course (layer_file asked.layer asked.form asked.scale)
 course_by (dissolve asked) = dissolve_course (layer_file asked.layer asked.form asked.scale)
 
 -- the file that a command makes, if it makes one
 abbrev pub made_by : Asked → Option Text
 made_by (build asked) = Some asked.index
+made_by (upgrade asked) = Some asked.new
 made_by other = None
 
 -- the course of the words, if they are a command

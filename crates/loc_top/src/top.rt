@@ -2,16 +2,21 @@
 
 ghost use Rattle.std.specs.Prelude.{◌≡◌, ◌≤◌, Some, map, string_bytes};
 ghost use Rattle.loc_io.specs.Streams.{InTime};
-ghost use Rattle.loc_words.specs.Words.{AskedAsk, AskedBuild, AskedQuery, AskedStab, AskedVerify, ask, build, command_of, query, stab, verify};
+ghost use Rattle.loc_words.specs.Words.{AskedAsk, AskedBuild, AskedDissolve, AskedEdges, AskedQuery, AskedStab, AskedUpgrade, AskedValid, AskedVerify, ask, build, command_of, dissolve, edges, query, stab, upgrade, valid, verify};
+ghost use Rattle.loc_breaches.specs.Judges.{Judges};
 ghost use Rattle.loc_course.specs.Moments.{moment};
+ghost use Rattle.loc_groups.specs.Dissolves.{Dissolves};
 ghost use Rattle.loc_indexed.specs.Asks.{Asks};
 ghost use Rattle.loc_indexed.specs.Builds.{Builds, Built};
 ghost use Rattle.loc_indexed.specs.Verifies.{Judged, Verifies};
 ghost use Rattle.loc_maps.specs.MapCourses.{layer_file};
 ghost use Rattle.loc_query.specs.Headline.{Headline};
 ghost use Rattle.loc_reach.specs.Stabs.{Stabs};
+ghost use Rattle.loc_upgrade.specs.TellsEdges.{Listed, TellsEdges};
+ghost use Rattle.loc_upgrade.specs.Upgrades.{Upgraded, Upgrades};
 ghost use Rattle.loc_top.specs.Run.{FilesOf, Ran, RefusesWords, RunSentences, course_of};
 
+use loc_breaches::valid;
 use loc_course::{Scale, Stop, report, write_text};
 use loc_face::face;
 use loc_geom::Steps;
@@ -22,6 +27,7 @@ use loc_maps::check;
 use loc_query::query;
 use loc_reach::stab;
 use loc_trial::{generate, trial};
+use loc_upgrade::{edges, upgrade};
 use loc_words::{Command, WordsFault, command_of, usage_text};
 use std::alloc::Global;
 use std::sync::ledger::Ledger;
@@ -40,6 +46,8 @@ fn run_course<F: Shelf, O: Sink, N: Sink, L: Ledger>(
         (moment (F.meaning shelf.new) (O.meaning out.new) steps.new) (N.meaning notes.old) (N.meaning notes.new) result }
     ensures built { (asked : AskedBuild) → command_of (map string_bytes words.now) ≡ Some (build asked) → Built (layer_file asked.layer asked.form asked.scale) asked.index (F.meaning shelf.old) (F.meaning shelf.new) result }
     ensures judged { (asked : AskedVerify) → command_of (map string_bytes words.now) ≡ Some (verify asked) → Judged ((F.meaning shelf.old).told asked.index) result }
+    ensures upgraded { (asked : AskedUpgrade) → command_of (map string_bytes words.now) ≡ Some (upgrade asked) → Upgraded asked.old asked.new (F.meaning shelf.old) (F.meaning shelf.new) result }
+    ensures listed { (asked : AskedEdges) → command_of (map string_bytes words.now) ≡ Some (edges asked) → Listed ((F.meaning shelf.old).told asked.index) result }
     ensures notes_in_time { InTime (N.meaning notes.old) (N.meaning notes.new) }
 {
     match command_of(alloc, words) {
@@ -118,6 +126,14 @@ fn run_course<F: Shelf, O: Sink, N: Sink, L: Ledger>(
             );
             report(outcome, notes)
         }
+        Ok(Command::Upgrade(asked)) => {
+            let outcome = upgrade(alloc, asked.old, asked.new, shelf);
+            report(outcome, notes)
+        }
+        Ok(Command::Edges(asked)) => {
+            let outcome = edges(alloc, asked.index, shelf, out);
+            report(outcome, notes)
+        }
         Ok(Command::Stab(asked)) => {
             let outcome = stab(
                 alloc,
@@ -129,6 +145,11 @@ fn run_course<F: Shelf, O: Sink, N: Sink, L: Ledger>(
                 out,
                 steps,
             );
+            report(outcome, notes)
+        }
+        Ok(Command::Valid(asked)) => {
+            let scale = Scale::new(asked.scale);
+            let outcome = valid(alloc, asked.layer, asked.form, scale, shelf, out);
             report(outcome, notes)
         }
         Ok(Command::Dissolve(asked)) => {
@@ -169,8 +190,24 @@ pub fn run<F: Shelf, O: Sink, N: Sink, L: Ledger>(
         → Verifies asked.index
         (moment (F.meaning shelf.old) (O.meaning out.old) steps.old)
         (moment (F.meaning shelf.new) (O.meaning out.new) steps.new) (N.meaning notes.old) (N.meaning notes.new) result }
+    ensures upgrades { (asked : AskedUpgrade) → command_of (map string_bytes words.now) ≡ Some (upgrade asked)
+        → Upgrades asked.old asked.new
+        (moment (F.meaning shelf.old) (O.meaning out.old) steps.old)
+        (moment (F.meaning shelf.new) (O.meaning out.new) steps.new) (N.meaning notes.old) (N.meaning notes.new) result }
+    ensures edges { (asked : AskedEdges) → command_of (map string_bytes words.now) ≡ Some (edges asked)
+        → TellsEdges asked.index
+        (moment (F.meaning shelf.old) (O.meaning out.old) steps.old)
+        (moment (F.meaning shelf.new) (O.meaning out.new) steps.new) (N.meaning notes.old) (N.meaning notes.new) result }
     ensures stabs { (asked : AskedStab) → command_of (map string_bytes words.now) ≡ Some (stab asked)
         → Stabs (layer_file asked.layer asked.form asked.scale) asked.spans
+        (moment (F.meaning shelf.old) (O.meaning out.old) steps.old)
+        (moment (F.meaning shelf.new) (O.meaning out.new) steps.new) (N.meaning notes.old) (N.meaning notes.new) result }
+    ensures judges { (asked : AskedValid) → command_of (map string_bytes words.now) ≡ Some (valid asked)
+        → Judges (layer_file asked.layer asked.form asked.scale)
+        (moment (F.meaning shelf.old) (O.meaning out.old) steps.old)
+        (moment (F.meaning shelf.new) (O.meaning out.new) steps.new) (N.meaning notes.old) (N.meaning notes.new) result }
+    ensures dissolves { (asked : AskedDissolve) → command_of (map string_bytes words.now) ≡ Some (dissolve asked)
+        → Dissolves (layer_file asked.layer asked.form asked.scale)
         (moment (F.meaning shelf.old) (O.meaning out.old) steps.old)
         (moment (F.meaning shelf.new) (O.meaning out.new) steps.new) (N.meaning notes.old) (N.meaning notes.new) result }
     ensures ran { Ran (course_of (map string_bytes words.now))

@@ -23,7 +23,7 @@ ghost use Rattle.loc_trial.specs.TrialCourses.{counted_course, trial_course, tri
 use crate::counts::line_of;
 use crate::layers::read_back;
 use crate::points::points_of;
-use loc_batch::{Batch, Tally, Unnumbered};
+use loc_batch::{Batch, ByPlace, Tally, Unnumbered};
 use loc_course::{Scale, Stop, write_out};
 use loc_cover::Legend;
 use loc_edges::EdgeTable;
@@ -69,16 +69,13 @@ fn tally_of<I: Locator, L: Ledger>(
     let points = points_of(alloc, n, shift)?;
     let mut batch = Batch::make(alloc, 0, LIMIT)?;
     let mut sink = SteadySink::new();
-    let views = table.views();
-    match batch.feed(
+    let by = ByPlace {
         index,
-        &views,
+        table,
         legend,
-        &Unnumbered,
-        &points,
-        &mut sink,
-        steps,
-    ) {
+        faces: &Unnumbered,
+    };
+    match batch.feed(&by, &points, &mut sink, steps) {
         Ok(()) => Ok(batch.tally()),
         Err(_) => unreachable!(),
     }

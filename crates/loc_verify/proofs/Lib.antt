@@ -2,6 +2,7 @@ mod Apart
 mod Ends
 mod Exchanged
 mod Following
+mod FollowingLists
 mod KindLaws
 mod LevelSteps
 mod Named

@@ -1,3 +1,4 @@
 pub mod Judged
 pub mod Least
 pub mod Readings
+pub mod Following

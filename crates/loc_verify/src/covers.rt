@@ -1,13 +1,14 @@
 // Cover lists that are not those above their edges.
 
-ghost use Rattle.std.specs.Prelude.{ℕ, ◌≡◌, ◌<◌, ◌≤◌, ◌↔◌, length, nat_lt, slice_index, IsTrue, IfSome, IfOk, OnOk};
+ghost use Rattle.std.specs.Prelude.{ℕ, ◌≡◌, ◌<◌, ◌≤◌, ◌↔◌, true, length, nat_lt, slice_index, IsTrue, IfSome, IfOk, OnOk};
 ghost use Rattle.loc_spec_plane.specs.Lists.{IsRisingListOf, exactly_one, is_in, is_rising};
 ghost use Rattle.loc_spec_plane.specs.Tables.{lo_of, mark_before};
 ghost use Rattle.loc_spec_plane.specs.Places.{IsJustBelow, IsVersion};
 ghost use Rattle.loc_spec_plane.specs.Covers.{cover_above, cover_of_floor};
 ghost use Rattle.loc_cover.specs.Exchanges.{IsExchange, is_marked_odd};
-ghost use Rattle.loc_cover.specs.Legends.{list_above};
-ghost use Rattle.loc_cover.specs.Numbered.{IsEven};
+ghost use Rattle.loc_cover.specs.Legends.{list_above, list_over};
+ghost use Rattle.loc_cover.specs.Numbered.{AreBelow, IsEven};
+ghost use Rattle.loc_verify.specs.Following.{IsNext};
 ghost use Rattle.loc_verify.specs.Least.{AreCoversBefore, IsLeastFailing, IsLeastFrom, IsLeastWith};
 
 use crate::line::go_to;
@@ -53,6 +54,67 @@ fn exchange_odd(list: &mut Vec<u32>, marks: &[Mark]) -> Result<(), AllocError>
         }
     }
     Ok(())
+}
+
+// Puts the list above an edge that may be missing into `covers`, as the legend has it.
+fn put_over(legend: &Legend, below: Option<u32>, covers: &mut Vec<u32>) -> Result<(), AllocError>
+    requires in_range { IfSome below (λ d. d < length legend.now.above) }
+    ensures { OnOk result (covers.new.items ≡ list_over legend.now below) }
+{
+    covers.clear();
+    if let Some(edge) = below {
+        covers.extend_from_slice(legend.above(edge))?;
+    }
+    Ok(())
+}
+
+// Whether two lists are the same.
+fn is_same(a: &[u32], b: &[u32]) -> bool
+    ensures { result ≡ true → a.now ≡ b.now }
+{
+    a == b
+}
+
+// Whether the list of an edge follows from the list of the edge just below it.
+fn is_next(
+    table: &EdgeTable,
+    legend: &Legend,
+    below: Option<u32>,
+    edge: u32,
+    covers: &mut Vec<u32>,
+) -> Result<bool, AllocError>
+    requires as_many { length legend.now.above ≡ length table.now.ends }
+    requires in_range { edge < length table.now.ends }
+    requires just_below { IsJustBelow table.now edge below }
+    ensures { IfOk result (λ follows. follows ≡ true → IsNext table.now legend.now below edge) }
+{
+    table.law();
+    legend.law();
+    put_over(legend, below, covers)?;
+    exchange_odd(covers, table.marks(edge))?;
+    Ok(is_same(legend.above(edge), covers.as_slice()))
+}
+
+// Whether the list of each edge follows from that of the edge just below it. Then all lists are those above their edges.
+fn all_follow(
+    alloc: Global,
+    table: &EdgeTable,
+    legend: &Legend,
+    below: &[Option<u32>],
+) -> Result<bool, AllocError>
+    requires even { IsEven table.now }
+    requires as_many { length legend.now.above ≡ length table.now.ends }
+    requires below { AreBelow table.now below.now }
+    ensures { IfOk result (λ follow. follow ≡ true → (e : ℕ) → e < length table.now.ends → list_above legend.now e ≡ cover_above table.now e) }
+{
+    table.law();
+    let mut covers = Vec::new(alloc);
+    for edge in 0..table.edge_count() {
+        if !is_next(table, legend, below[edge as usize], edge, &mut covers)? {
+            return Ok(false);
+        }
+    }
+    Ok(true)
 }
 
 // Puts the list above an edge that may be missing into `covers`. Where the edge begins at the corner it is there already; where it begins
@@ -155,8 +217,8 @@ fn least_wrong_at(
     Ok(least)
 }
 
-// The least edge whose list is not the one above it.
-pub(crate) fn least_wrong_cover(
+// The least edge whose list is not the one above it, found by a sweep.
+fn least_by_sweep(
     alloc: Global,
     table: &EdgeTable,
     legend: &Legend,
@@ -176,4 +238,22 @@ pub(crate) fn least_wrong_cover(
         }
     }
     Ok(None)
+}
+
+// The least edge whose list is not the one above it. A sweep looks for it only where a list does not follow from the one just below it.
+pub(crate) fn least_wrong_cover(
+    alloc: Global,
+    table: &EdgeTable,
+    legend: &Legend,
+    below: &[Option<u32>],
+) -> Result<Option<u32>, AllocError>
+    requires even { IsEven table.now }
+    requires as_many { length legend.now.above ≡ length table.now.ends }
+    requires below { AreBelow table.now below.now }
+    ensures { IfOk result (IsLeastFailing (length table.now.ends) (λ e. list_above legend.now e ≡ cover_above table.now e)) }
+{
+    if all_follow(alloc, table, legend, below)? {
+        return Ok(None);
+    }
+    least_by_sweep(alloc, table, legend)
 }

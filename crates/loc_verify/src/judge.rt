@@ -15,8 +15,8 @@ use std::alloc::Global;
 
 /// Judges what was read from an index file. It is Ok exactly where that is a true index, want of memory aside; else its first flaw is shown,
 /// in the order of the faults: corners without an edge, edges without a mark, uneven features, conflicts, floors, cover lists, spare lists,
-/// sources, and then one version after another. Of two edges that conflict any may be shown. It takes the time that all versions take to be read, by
-/// their lists.
+/// sources, and then one version after another. Of two edges that conflict any may be shown. Where the nodes are those of the
+/// tree that sweeps the table, it takes about the time of that sweep; else the time that all versions take to be read, by their lists.
 pub fn verify(alloc: Global, held: &Held) -> Result<(), VerifyFault>
     ensures ok { OnOk result (IsTrueIndex held.now.content) }
     ensures first { IfErr result (IsJudged held.now.content) }
@@ -25,10 +25,10 @@ pub fn verify(alloc: Global, held: &Held) -> Result<(), VerifyFault>
     judge_corners(held)?;
     judge_edges(held)?;
     judge_marks(alloc, held)?;
-    let floors = judge_crossings(alloc, held)?;
+    let (index, floors) = judge_crossings(alloc, held)?;
     judge_floors(held, &floors)?;
-    judge_covers(alloc, held)?;
+    judge_covers(alloc, held, &floors)?;
     judge_lists(alloc, held)?;
     judge_sources(held)?;
-    judge_versions(alloc, held)
+    judge_versions(alloc, held, &index)
 }

@@ -8,6 +8,7 @@ ghost use Rattle.loc_spec_plane.specs.Covers.{cover_above};
 ghost use Rattle.loc_edges.specs.Floors.{AreFloors};
 ghost use Rattle.loc_cover.specs.Numbered.{IsEven};
 ghost use Rattle.loc_spec_index.specs.Content.{cover_numbers, cover_of_edge, floor_of_corner, table_in};
+ghost use Rattle.loc_treeidx.specs.Standing.{AreVersionsOf};
 ghost use Rattle.loc_verify.specs.Judged.{IsFaultOf};
 
 use crate::VerifyFault;
@@ -18,8 +19,9 @@ use crate::marks::{least_bare, least_lone};
 use crate::sources::least_off_source;
 use loc_edges::Floors;
 use loc_file::Held;
-use loc_status::VecStatus;
 use loc_sweep::{SweepFault, sweep};
+use loc_treeidx::TreeIndex;
+use loc_treeidx::laws::swept_stands;
 use std::alloc::Global;
 
 // Every corner is an end of an edge.
@@ -56,15 +58,22 @@ pub(crate) fn judge_marks(alloc: Global, held: &Held) -> Result<(), VerifyFault>
     }
 }
 
-// No two edges conflict; then the floors are known.
-pub(crate) fn judge_crossings(alloc: Global, held: &Held) -> Result<Floors, VerifyFault>
+// No two edges conflict; then the tree that swept them is known, and the floors.
+pub(crate) fn judge_crossings(
+    alloc: Global,
+    held: &Held,
+) -> Result<(TreeIndex, Floors), VerifyFault>
     ensures ok { OnOk result (NoConflict (table_in held.now.content)) }
-    ensures floors { IfOk result (AreFloors (table_in held.now.content)) }
+    ensures stands { IfOk result (λ swept. AreVersionsOf (table_in held.now.content) swept.0) }
+    ensures floors { IfOk result (λ swept. AreFloors (table_in held.now.content) swept.1) }
     ensures fault { IfErr result (IsFaultOf held.now.content 3) }
 {
     held.law();
-    match sweep(alloc, held.table(), VecStatus::new(alloc)) {
-        Ok((_, floors)) => Ok(floors),
+    match sweep(alloc, held.table(), TreeIndex::new(alloc)) {
+        Ok((index, floors)) => {
+            swept_stands(held.table(), &index);
+            Ok((index, floors))
+        }
         Err(SweepFault::Conflict { a, b, meeting }) => Err(VerifyFault::Conflict { a, b, meeting }),
         Err(SweepFault::NoMemory) => Err(VerifyFault::NoMemory),
     }
@@ -85,13 +94,14 @@ pub(crate) fn judge_floors(held: &Held, floors: &Floors) -> Result<(), VerifyFau
 }
 
 // The list that each edge names is the one above it.
-pub(crate) fn judge_covers(alloc: Global, held: &Held) -> Result<(), VerifyFault>
-    requires { IsEven (table_in held.now.content) }
+pub(crate) fn judge_covers(alloc: Global, held: &Held, floors: &Floors) -> Result<(), VerifyFault>
+    requires even { IsEven (table_in held.now.content) }
+    requires floors { AreFloors (table_in held.now.content) floors.now }
     ensures ok { OnOk result ((e : ℕ) → e < length held.now.content.edges → cover_of_edge held.now.content e ≡ cover_above (table_in held.now.content) e) }
     ensures fault { IfErr result (IsFaultOf held.now.content 5) }
 {
     held.law();
-    match least_wrong_cover(alloc, held.table(), held.legend())? {
+    match least_wrong_cover(alloc, held.table(), held.legend(), floors.of_edge())? {
         None => Ok(()),
         Some(edge) => Err(VerifyFault::WrongCover { edge }),
     }

@@ -11,5 +11,8 @@ usage_text = codes "usage: locate query LAYER POINTS --scale K [--form lines|csv
     ++ codes "       locate face LAYER POINT --scale K [--form lines|csv]" ++ 10 ∷ []
     ++ codes "       locate gen KIND N SHIFT" ++ 10 ∷ []
     ++ codes "       locate trial KIND N SHIFT [--index scan|tree|trap]" ++ 10 ∷ []
+    ++ codes "       locate upgrade OLD NEW" ++ 10 ∷ []
+    ++ codes "       locate edges INDEX" ++ 10 ∷ []
     ++ codes "       locate stab LAYER SPANS --scale K [--form lines|csv]" ++ 10 ∷ []
+    ++ codes "       locate valid LAYER --scale K [--form lines|csv]" ++ 10 ∷ []
     ++ codes "       locate dissolve LAYER --scale K [--form lines|csv]" ++ 10 ∷ []

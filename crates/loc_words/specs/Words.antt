@@ -18,7 +18,7 @@ use Rattle.loc_words.specs.declared.row.OptionKind.TheVariants.{Required, Option
 use Rattle.loc_words.specs.declared.row.CommandRow.{CommandRow as Row}
 use Rattle.loc_words.specs.declared.row.OptionRow.{OptionRow as Declared}
 use Rattle.loc_words.specs.declared.command.Command.{Command}
-use Rattle.loc_words.specs.declared.command.Command.TheVariants.{Query, Check, Build, Ask, Verify, Face, Gen, Trial, Stab, Dissolve}
+use Rattle.loc_words.specs.declared.command.Command.TheVariants.{Query, Check, Build, Ask, Verify, Face, Gen, Trial, Upgrade, Edges, Stab, Valid, Dissolve}
 
 -- what a query says
 pub record AskedQuery : Type 0 where
@@ -72,10 +72,25 @@ pub record AskedTrial : Type 0 where
   pub shift : ℕ
   pub index : Index
 
+-- which index file is upgraded, and the name of the new one
+pub record AskedUpgrade : Type 0 where
+  pub old : Text
+  pub new : Text
+
+-- which index file's edges are listed
+pub record AskedEdges : Type 0 where
+  pub index : Text
+
 -- what a question for the edges on spans says
 pub record AskedStab : Type 0 where
   pub layer : Text
   pub spans : Text
+  pub scale : ℕ
+  pub form : Form
+
+-- the features of which layer are judged
+pub record AskedValid : Type 0 where
+  pub layer : Text
   pub scale : ℕ
   pub form : Form
 
@@ -95,7 +110,10 @@ pub data Asked : Type 0 where
   face : AskedFace → Asked
   gen : AskedGen → Asked
   trial : AskedTrial → Asked
+  upgrade : AskedUpgrade → Asked
+  edges : AskedEdges → Asked
   stab : AskedStab → Asked
+  valid : AskedValid → Asked
   dissolve : AskedDissolve → Asked
 
 -- what a command says
@@ -108,7 +126,10 @@ asked_by (Verify v) = verify (record { index = v.index.now })
 asked_by (Face f) = face (record { layer = f.layer.now; point = f.point.now; scale = f.scale; form = f.form })
 asked_by (Gen g) = gen (record { kind = g.kind; n = g.n; shift = g.shift })
 asked_by (Trial t) = trial (record { kind = t.kind; n = t.n; shift = t.shift; index = t.index })
+asked_by (Upgrade u) = upgrade (record { old = u.old.now; new = u.new.now })
+asked_by (Edges e) = edges (record { index = e.index.now })
 asked_by (Stab s) = stab (record { layer = s.layer.now; spans = s.spans.now; scale = s.scale; form = s.form })
+asked_by (Valid v) = valid (record { layer = v.layer.now; scale = v.scale; form = v.form })
 asked_by (Dissolve d) = dissolve (record { layer = d.layer.now; scale = d.scale; form = d.form })
 
 -- the scale of a command that has one is one that coordinates can have
@@ -118,6 +139,7 @@ HasScale (Check c) = c.scale ≤ 15
 HasScale (Build b) = b.scale ≤ 15
 HasScale (Face f) = f.scale ≤ 15
 HasScale (Stab s) = s.scale ≤ 15
+HasScale (Valid v) = v.scale ≤ 15
 HasScale (Dissolve d) = d.scale ≤ 15
 HasScale other = ⊤
 
@@ -211,9 +233,21 @@ gen_row = record { name = codes "gen"; places = codes "kind" ∷ codes "n" ∷ c
 abbrev pub trial_row : CommandRow
 trial_row = record gen_row { name = codes "trial"; options = record { name = codes "index"; kind = Optional } ∷ [] }
 
+-- upgrade OLD NEW
+abbrev pub upgrade_row : CommandRow
+upgrade_row = record { name = codes "upgrade"; places = codes "old" ∷ codes "new" ∷ []; options = [] }
+
+-- edges INDEX
+abbrev pub edges_row : CommandRow
+edges_row = record { name = codes "edges"; places = codes "index" ∷ []; options = [] }
+
 -- stab LAYER SPANS
 abbrev pub stab_row : CommandRow
 stab_row = record { name = codes "stab"; places = codes "layer" ∷ codes "spans" ∷ []; options = layer_options }
+
+-- valid LAYER
+abbrev pub valid_row : CommandRow
+valid_row = record { name = codes "valid"; places = codes "layer" ∷ []; options = layer_options }
 
 -- dissolve LAYER
 abbrev pub dissolve_row : CommandRow
@@ -270,9 +304,21 @@ gen_from given = option_map (λ of. gen (record { kind = of.0; n = of.1; shift =
 abbrev pub trial_from : List Entry → Option Asked
 trial_from given = option_and_then (λ of. option_map (λ index. trial (record { kind = of.0; n = of.1; shift = of.2; index = index })) (index_given given)) (generated_given given)
 
+-- the index file to be upgraded and the new one, of what was given
+abbrev pub upgrade_from : List Entry → Option Asked
+upgrade_from given = option_and_then (λ old. option_map (λ new. upgrade (record { old = old; new = new })) (value_in given (codes "new"))) (value_in given (codes "old"))
+
+-- the index file whose edges are listed, of what was given
+abbrev pub edges_from : List Entry → Option Asked
+edges_from given = option_map (λ index. edges (record { index = index })) (value_in given (codes "index"))
+
 -- the question for the edges on spans of what was given
 abbrev pub stab_from : List Entry → Option Asked
 stab_from given = option_and_then (λ file. option_map (λ spans. stab (record { layer = file.0; spans = spans; scale = file.1; form = file.2 })) (value_in given (codes "spans"))) (layer_given given)
+
+-- the layer whose features are to be judged, of what was given
+abbrev pub valid_from : List Entry → Option Asked
+valid_from given = option_map (λ file. valid (record { layer = file.0; scale = file.1; form = file.2 })) (layer_given given)
 
 -- the layer to be dissolved, of what was given
 abbrev pub dissolve_from : List Entry → Option Asked
@@ -284,7 +330,7 @@ Making = CommandRow × (List Entry → Option Asked)
 
 -- all commands
 abbrev pub commands : List Making
-commands = (query_row, query_from) ∷ (check_row, check_from) ∷ (build_row, build_from) ∷ (ask_row, ask_from) ∷ (verify_row, verify_from) ∷ (face_row, face_from) ∷ (gen_row, gen_from) ∷ (trial_row, trial_from) ∷ (stab_row, stab_from) ∷ (dissolve_row, dissolve_from) ∷ []
+commands = (query_row, query_from) ∷ (check_row, check_from) ∷ (build_row, build_from) ∷ (ask_row, ask_from) ∷ (verify_row, verify_from) ∷ (face_row, face_from) ∷ (gen_row, gen_from) ∷ (trial_row, trial_from) ∷ (upgrade_row, upgrade_from) ∷ (edges_row, edges_from) ∷ (stab_row, stab_from) ∷ (valid_row, valid_from) ∷ (dissolve_row, dissolve_from) ∷ []
 
 -- the row of the command of this name
 abbrev pub row_in : List Making → Text → Option CommandRow

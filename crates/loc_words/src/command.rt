@@ -29,8 +29,14 @@ pub enum Command<'a> {
     Gen(Gen),
     /// The counts of the answers to the points of a generated layer.
     Trial(Trial),
+    /// An index file of either version as one of the second.
+    Upgrade(Upgrade<'a>),
+    /// The edges of an index file with their sources.
+    Edges(Edges<'a>),
     /// The edges that the spans of a file meet, against a layer.
     Stab(Stab<'a>),
+    /// The first breach of each feature of a layer.
+    Valid(Valid<'a>),
     /// The features of a layer by their ids, as the polygons that they cover together.
     Dissolve(Dissolve<'a>),
 }
@@ -104,11 +110,32 @@ pub struct Trial {
     pub index: Index,
 }
 
+/// Which index file is upgraded, and the name of the new one.
+#[derive(Clone, Copy, Debug, PartialEq, Eq)]
+pub struct Upgrade<'a> {
+    pub old: &'a str,
+    pub new: &'a str,
+}
+
+/// Which index file's edges are listed.
+#[derive(Clone, Copy, Debug, PartialEq, Eq)]
+pub struct Edges<'a> {
+    pub index: &'a str,
+}
+
 /// What a question for the edges on spans says. Its places are as they stand in the words.
 #[derive(Clone, Copy, Debug, PartialEq, Eq)]
 pub struct Stab<'a> {
     pub layer: &'a str,
     pub spans: &'a str,
+    pub scale: u8,
+    pub form: Form,
+}
+
+/// The features of which layer are judged.
+#[derive(Clone, Copy, Debug, PartialEq, Eq)]
+pub struct Valid<'a> {
+    pub layer: &'a str,
     pub scale: u8,
     pub form: Form,
 }
@@ -199,9 +226,27 @@ const TRIAL: CommandRow<'static> = CommandRow {
     options: &[INDEX],
 };
 
+const UPGRADE: CommandRow<'static> = CommandRow {
+    name: "upgrade",
+    places: &["old", "new"],
+    options: &[],
+};
+
+const EDGES: CommandRow<'static> = CommandRow {
+    name: "edges",
+    places: &["index"],
+    options: &[],
+};
+
 const STAB: CommandRow<'static> = CommandRow {
     name: "stab",
     places: &["layer", "spans"],
+    options: &[SCALE, FORM],
+};
+
+const VALID: CommandRow<'static> = CommandRow {
+    name: "valid",
+    places: &["layer"],
     options: &[SCALE, FORM],
 };
 
@@ -334,6 +379,23 @@ fn trial_from<'a>(given: &Given<'a>) -> Option<Command<'a>>
     }))
 }
 
+fn upgrade_from<'a>(given: &Given<'a>) -> Option<Command<'a>>
+    ensures scale { IfSome result spec.HasScale }
+    ensures value { option_map spec.asked_by result ≡ spec.upgrade_from (given_by given.now) }
+{
+    let old = given.value("old")?;
+    let new = given.value("new")?;
+    Some(Command::Upgrade(Upgrade { old, new }))
+}
+
+fn edges_from<'a>(given: &Given<'a>) -> Option<Command<'a>>
+    ensures scale { IfSome result spec.HasScale }
+    ensures value { option_map spec.asked_by result ≡ spec.edges_from (given_by given.now) }
+{
+    let index = given.value("index")?;
+    Some(Command::Edges(Edges { index }))
+}
+
 fn stab_from<'a>(given: &Given<'a>) -> Option<Command<'a>>
     ensures scale { IfSome result spec.HasScale }
     ensures value { option_map spec.asked_by result ≡ spec.stab_from (given_by given.now) }
@@ -346,6 +408,14 @@ fn stab_from<'a>(given: &Given<'a>) -> Option<Command<'a>>
         scale,
         form,
     }))
+}
+
+fn valid_from<'a>(given: &Given<'a>) -> Option<Command<'a>>
+    ensures scale { IfSome result spec.HasScale }
+    ensures value { option_map spec.asked_by result ≡ spec.valid_from (given_by given.now) }
+{
+    let (layer, scale, form) = layer_given(given)?;
+    Some(Command::Valid(Valid { layer, scale, form }))
 }
 
 fn dissolve_from<'a>(given: &Given<'a>) -> Option<Command<'a>>
@@ -369,7 +439,10 @@ fn row_named(name: &str) -> Option<&'static CommandRow<'static>>
         "face" => Some(&FACE),
         "gen" => Some(&GEN),
         "trial" => Some(&TRIAL),
+        "upgrade" => Some(&UPGRADE),
+        "edges" => Some(&EDGES),
         "stab" => Some(&STAB),
+        "valid" => Some(&VALID),
         "dissolve" => Some(&DISSOLVE),
         _ => None,
     }
@@ -389,7 +462,10 @@ fn command_from<'a>(name: &str, given: &Given<'a>) -> Option<Command<'a>>
         "face" => face_from(given),
         "gen" => gen_from(given),
         "trial" => trial_from(given),
+        "upgrade" => upgrade_from(given),
+        "edges" => edges_from(given),
         "stab" => stab_from(given),
+        "valid" => valid_from(given),
         "dissolve" => dissolve_from(given),
         _ => None,
     }

@@ -1,10 +1,11 @@
-use Rattle.std.proofs.Common.{Ok, Err}
-use Rattle.loc_answering.proofs.Bridge.{answered_source}
+use Rattle.loc_spec_text.specs.Points.{ended}
+use Rattle.loc_course.specs.Moments.{moment}
+use Rattle.loc_course.specs.Stops.{end_of, source}
+use Rattle.loc_answering.proofs.Places.{places_source}
 use Rattle.loc_answering.proofs.answer_source.Goals as goal
 
-pub returns-in-Ok-answer_all : goal.returns-in-Ok-answer_all
-returns-in-Ok-answer_all g c = answered_source (rw c.in-Ok.is at c.take_up.ensures) (Ok c.in-Ok-answer_all.field-0) (rw c.in-Ok-answer_all.is at c.answer_all.ensures.answers)
-
-pub returns-in-Err-answer_all : goal.returns-in-Err-answer_all
-returns-in-Err-answer_all g c =
-    rw c.stop_of.ensures (answered_source (rw c.in-Ok.is at c.take_up.ensures) (Err c.in-Err-answer_all.fault) (rw c.in-Err-answer_all.is at c.answer_all.ensures.answers))
+pub returns : goal.returns
+returns g c =
+    places_source c.args.batch.now.scale (g.I.Locator.finds c.args.index.now c.args.table.now) (g.N.FaceNumbers.shown c.args.faces.now) c.args.legend.now
+    (source c.args.name.now c.args.batch.now.limit (ended c.args.too_long.now)) (g.I.Locator.most c.args.index.now c.args.table.now)
+    (moment (g.F.Shelf.meaning c.args.shelf.now) (g.O.Sink.meaning c.args.out.now) c.args.steps.now) (moment (g.F.Shelf.meaning c.answer_lines.new.shelf) (g.O.Sink.meaning c.answer_lines.new.out) c.answer_lines.new.steps) (end_of c.answer_lines.result) c.answer_lines.ensures

@@ -5,7 +5,7 @@ use Rattle.loc_spec_plane.specs.Points.{Point}
 use Rattle.loc_spec_text.specs.Points.{position_text}
 use Rattle.std.proofs.lemmas.Result.{err_from_is_err_and}
 use Rattle.loc_page.proofs.Pages.{goes_end, goes_more, stop}
-use Rattle.loc_dissolve.proofs.Written.{goes_item}
+use Rattle.loc_faces.proofs.Writing.{goes_item}
 use Rattle.loc_dissolve.proofs.texts.put_corners.Goals as goal
 
 pub loop-corner-init : goal.loop-corner-init

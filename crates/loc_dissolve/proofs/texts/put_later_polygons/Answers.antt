@@ -5,7 +5,7 @@ use Rattle.loc_spec_plane.specs.Rings.{Rings}
 use Rattle.loc_spec_groups.specs.GroupTexts.{polygon_text}
 use Rattle.std.proofs.lemmas.Result.{err_from_is_err_and}
 use Rattle.loc_page.proofs.Pages.{goes_end, goes_more, stop}
-use Rattle.loc_dissolve.proofs.Written.{goes_item}
+use Rattle.loc_faces.proofs.Writing.{goes_item}
 use Rattle.loc_dissolve.proofs.texts.put_later_polygons.Goals as goal
 
 pub loop-polygon-init : goal.loop-polygon-init

@@ -5,7 +5,7 @@ use Rattle.loc_spec_plane.specs.Rings.{Ring}
 use Rattle.loc_spec_groups.specs.GroupTexts.{ring_text}
 use Rattle.std.proofs.lemmas.Result.{err_from_is_err_and}
 use Rattle.loc_page.proofs.Pages.{goes_end, goes_more, stop}
-use Rattle.loc_dissolve.proofs.Written.{goes_item}
+use Rattle.loc_faces.proofs.Writing.{goes_item}
 use Rattle.loc_dissolve.proofs.texts.put_later_rings.Goals as goal
 
 pub loop-ring-init : goal.loop-ring-init

@@ -1,4 +1,3 @@
-use Rattle.std.proofs.Common.{◌∙◌, refl}
 use Rattle.std.proofs.lemmas.Result.{err_from_is_err_and}
 use Rattle.loc_course.proofs.Going.{goes_further, lacks_on}
 use Rattle.loc_maps.specs.Located.{table_in}

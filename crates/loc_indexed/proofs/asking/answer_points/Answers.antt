@@ -10,4 +10,4 @@ pub returns : goal.returns
 returns g c =
     let l = c.legend.ensures in
     let rows = rows_are c.args.held.now.content c.legend.result.now l.ids l.covers l.cover_of l.floors l.fits in
-    answers_by (rw (c.in_ok-batch.ensures.limit, c.in_ok-batch.ensures.scale, c.scale.ensures.value, c.views.ensures, c.table.ensures, rows) at c.answer_source.ensures)
+    answers_by (rw (c.in_ok-batch.ensures.limit, c.in_ok-batch.ensures.scale, c.scale.ensures.value, c.table.ensures, rows) at c.answer_source.ensures)

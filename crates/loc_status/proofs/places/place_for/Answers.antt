@@ -20,3 +20,6 @@ returns-in-Below-clause-ok c =
     let t = c.args.ranks.now in
     is_place_for t c.args.edge c.args.list.now c.requires.chain (edge_up t c.law.ensures.in_order c.args.edge c.requires.in_range) c.search-place.result c.search-place.ensures
     (λ less. below_by_placing (edge t (get_or c.args.list.now c.search-place.result 0)) (edge t c.args.edge) c.placing.result c.placing.ensures.value (c.search-place.ensures.reached less) c.in-Below.is)
+
+pub returns-in-Hits-clause-ok : goal.returns-in-Hits-clause-ok
+returns-in-Hits-clause-ok c = tt

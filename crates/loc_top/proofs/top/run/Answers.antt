@@ -10,8 +10,15 @@ use Rattle.loc_indexed.proofs.Outcomes.{asks}
 use Rattle.loc_indexed.proofs.VerifyRows.{verifies}
 use Rattle.loc_query.specs.QueryCourses.{query_course}
 use Rattle.loc_query.proofs.Headlines.{headline}
+use Rattle.loc_breaches.specs.BreachCourses.{valid_course}
+use Rattle.loc_breaches.proofs.Answered.{judges}
+use Rattle.loc_groups.specs.GroupCourses.{dissolve_course}
+use Rattle.loc_groups.proofs.Dissolved.{dissolves}
 use Rattle.loc_reach.specs.SpanCourses.{stab_course}
 use Rattle.loc_reach.proofs.Stabbed.{stabs}
+use Rattle.loc_upgrade.specs.UpgradeCourses.{edges_course, upgrade_course}
+use Rattle.loc_upgrade.proofs.EdgesTold.{tells}
+use Rattle.loc_upgrade.proofs.Upgraded.{upgrades}
 use Rattle.loc_top.specs.Run.{course_by}
 use Rattle.loc_top.proofs.Runs.{ended_of, files_of, range, refuses_words, sentences_hold, sentences_of}
 use Rattle.loc_top.proofs.top.run.Goals as goal
@@ -35,10 +42,28 @@ pub returns-clause-verifies : goal.returns-clause-verifies
 returns-clause-verifies g c asked is =
     verifies asked.index _ _ _ _ _ (sentences_of _ _ _ _ c.run_course.result _ c.run_course.ensures.ran (verify_course asked.index) (ap (option_map course_by) is)) (c.run_course.ensures.judged asked is)
 
+pub returns-clause-upgrades : goal.returns-clause-upgrades
+returns-clause-upgrades g c asked is =
+    upgrades asked.old asked.new _ _ _ _ _ (ended_of _ _ _ _ c.run_course.result _ c.run_course.ensures.ran (upgrade_course asked.old asked.new) (ap (option_map course_by) is)) (c.run_course.ensures.upgraded asked is)
+
+pub returns-clause-edges : goal.returns-clause-edges
+returns-clause-edges g c asked is =
+    tells asked.index _ _ _ _ _ (sentences_of _ _ _ _ c.run_course.result _ c.run_course.ensures.ran (edges_course asked.index) (ap (option_map course_by) is)) (c.run_course.ensures.listed asked is)
+
 pub returns-clause-stabs : goal.returns-clause-stabs
 returns-clause-stabs g c asked is =
     let file = layer_file asked.layer asked.form asked.scale in
     stabs file asked.spans _ _ _ _ _ (sentences_of _ _ _ _ c.run_course.result _ c.run_course.ensures.ran (stab_course file asked.spans) (ap (option_map course_by) is))
+
+pub returns-clause-judges : goal.returns-clause-judges
+returns-clause-judges g c asked is =
+    let file = layer_file asked.layer asked.form asked.scale in
+    judges file _ _ _ _ _ (sentences_of _ _ _ _ c.run_course.result _ c.run_course.ensures.ran (valid_course file) (ap (option_map course_by) is))
+
+pub returns-clause-dissolves : goal.returns-clause-dissolves
+returns-clause-dissolves g c asked is =
+    let file = layer_file asked.layer asked.form asked.scale in
+    dissolves file _ _ _ _ _ (sentences_of _ _ _ _ c.run_course.result _ c.run_course.ensures.ran (dissolve_course file) (ap (option_map course_by) is))
 
 pub returns-clause-sentences : goal.returns-clause-sentences
 returns-clause-sentences g c = sentences_hold _ _ _ _ c.run_course.result (command_of (map string_bytes c.args.words.now)) c.run_course.ensures.ran c.run_course.ensures.notes_in_time

@@ -1,4 +1,4 @@
-use Rattle.std.proofs.Common.{◌-◌, ◌++◌, [], ◌∷◌, refl}
+use Rattle.std.proofs.Common.{◌-◌, ◌++◌, [], ◌∷◌, refl, rules}
 use Rattle.loc_pool.specs.declared.Turn.TheVariants.{Left, Right}
 use Rattle.loc_spec_plane.specs.Tables.{corner, hi_of}
 use Rattle.loc_status.proofs.Standing.{chain_in_range}
@@ -35,3 +35,6 @@ returns-clause-node c =
     let m = c.args.versions.now in
     let r = here_item m _ _ c.in-Some.at _ _ c.walk_to-way.ensures.way.descent c.in-Some.is c.args.edge (stopped m c.walk_to-way.result.next c.in-Some.at c.args.edge c.in-Some.is c.walk_to-way.ensures.stops) in
     record { front = r.front; back = r.back; leads = r.leads; whole = r.whole }
+
+pub returns-clause-beside : goal.returns-clause-beside
+returns-clause-beside c = search rules steps 400000

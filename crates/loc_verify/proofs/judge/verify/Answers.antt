@@ -20,37 +20,37 @@ returns-in_err-judge_marks-clause-first c =
     handed c.from_residual-in_err-judge_marks.result _ (IsJudged c.args.held.now.content) c.from_residual-in_err-judge_marks.ensures.1
     (judged c.args.held.now.content 2 (none_below c.args.held.now.content 2 (omega arith) (λ l. c.in_ok-judge_corners.ensures.ok) (λ l. c.in_ok-judge_edges.ensures.ok) (λ l. absurd (omega (arith, l))) (λ l. absurd (omega (arith, l))) (λ l. absurd (omega (arith, l))) (λ l. absurd (omega (arith, l))) (λ l. absurd (omega (arith, l))) (λ l. absurd (omega (arith, l)))) c.in_err-judge_marks.field-0.0 c.in_err-judge_marks.ensures.fault)
 
-pub returns-in_err-floors-clause-first : goal.returns-in_err-floors-clause-first
-returns-in_err-floors-clause-first c =
-    handed c.from_residual-in_err-floors.result _ (IsJudged c.args.held.now.content) c.from_residual-in_err-floors.ensures.1
-    (judged c.args.held.now.content 3 (none_below c.args.held.now.content 3 (omega arith) (λ l. c.in_ok-judge_corners.ensures.ok) (λ l. c.in_ok-judge_edges.ensures.ok) (λ l. c.in_ok-judge_marks.ensures.ok) (λ l. absurd (omega (arith, l))) (λ l. absurd (omega (arith, l))) (λ l. absurd (omega (arith, l))) (λ l. absurd (omega (arith, l))) (λ l. absurd (omega (arith, l)))) c.in_err-floors.field-0.0 c.in_err-floors.ensures.fault)
+pub returns-in_err-index-clause-first : goal.returns-in_err-index-clause-first
+returns-in_err-index-clause-first c =
+    handed c.from_residual-in_err-index.result _ (IsJudged c.args.held.now.content) c.from_residual-in_err-index.ensures.1
+    (judged c.args.held.now.content 3 (none_below c.args.held.now.content 3 (omega arith) (λ l. c.in_ok-judge_corners.ensures.ok) (λ l. c.in_ok-judge_edges.ensures.ok) (λ l. c.in_ok-judge_marks.ensures.ok) (λ l. absurd (omega (arith, l))) (λ l. absurd (omega (arith, l))) (λ l. absurd (omega (arith, l))) (λ l. absurd (omega (arith, l))) (λ l. absurd (omega (arith, l)))) c.in_err-index.field-0.0 c.in_err-index.ensures.fault)
 
 pub returns-in_err-judge_floors-clause-first : goal.returns-in_err-judge_floors-clause-first
 returns-in_err-judge_floors-clause-first c =
     handed c.from_residual-in_err-judge_floors.result _ (IsJudged c.args.held.now.content) c.from_residual-in_err-judge_floors.ensures.1
-    (judged c.args.held.now.content 4 (none_below c.args.held.now.content 4 (omega arith) (λ l. c.in_ok-judge_corners.ensures.ok) (λ l. c.in_ok-judge_edges.ensures.ok) (λ l. c.in_ok-judge_marks.ensures.ok) (λ l. c.in_ok-floors.ensures.ok) (λ l. absurd (omega (arith, l))) (λ l. absurd (omega (arith, l))) (λ l. absurd (omega (arith, l))) (λ l. absurd (omega (arith, l)))) c.in_err-judge_floors.field-0.0 c.in_err-judge_floors.ensures.fault)
+    (judged c.args.held.now.content 4 (none_below c.args.held.now.content 4 (omega arith) (λ l. c.in_ok-judge_corners.ensures.ok) (λ l. c.in_ok-judge_edges.ensures.ok) (λ l. c.in_ok-judge_marks.ensures.ok) (λ l. c.in_ok-index.ensures.ok) (λ l. absurd (omega (arith, l))) (λ l. absurd (omega (arith, l))) (λ l. absurd (omega (arith, l))) (λ l. absurd (omega (arith, l)))) c.in_err-judge_floors.field-0.0 c.in_err-judge_floors.ensures.fault)
 
 pub returns-in_err-judge_covers-clause-first : goal.returns-in_err-judge_covers-clause-first
 returns-in_err-judge_covers-clause-first c =
     handed c.from_residual-in_err-judge_covers.result _ (IsJudged c.args.held.now.content) c.from_residual-in_err-judge_covers.ensures.1
-    (judged c.args.held.now.content 5 (none_below c.args.held.now.content 5 (omega arith) (λ l. c.in_ok-judge_corners.ensures.ok) (λ l. c.in_ok-judge_edges.ensures.ok) (λ l. c.in_ok-judge_marks.ensures.ok) (λ l. c.in_ok-floors.ensures.ok) (λ l. c.in_ok-judge_floors.ensures.ok) (λ l. absurd (omega (arith, l))) (λ l. absurd (omega (arith, l))) (λ l. absurd (omega (arith, l)))) c.in_err-judge_covers.field-0.0 c.in_err-judge_covers.ensures.fault)
+    (judged c.args.held.now.content 5 (none_below c.args.held.now.content 5 (omega arith) (λ l. c.in_ok-judge_corners.ensures.ok) (λ l. c.in_ok-judge_edges.ensures.ok) (λ l. c.in_ok-judge_marks.ensures.ok) (λ l. c.in_ok-index.ensures.ok) (λ l. c.in_ok-judge_floors.ensures.ok) (λ l. absurd (omega (arith, l))) (λ l. absurd (omega (arith, l))) (λ l. absurd (omega (arith, l)))) c.in_err-judge_covers.field-0.0 c.in_err-judge_covers.ensures.fault)
 
 pub returns-in_err-judge_lists-clause-first : goal.returns-in_err-judge_lists-clause-first
 returns-in_err-judge_lists-clause-first c =
     handed c.from_residual-in_err-judge_lists.result _ (IsJudged c.args.held.now.content) c.from_residual-in_err-judge_lists.ensures.1
-    (judged c.args.held.now.content 6 (none_below c.args.held.now.content 6 (omega arith) (λ l. c.in_ok-judge_corners.ensures.ok) (λ l. c.in_ok-judge_edges.ensures.ok) (λ l. c.in_ok-judge_marks.ensures.ok) (λ l. c.in_ok-floors.ensures.ok) (λ l. c.in_ok-judge_floors.ensures.ok) (λ l. c.in_ok-judge_covers.ensures.ok) (λ l. absurd (omega (arith, l))) (λ l. absurd (omega (arith, l)))) c.in_err-judge_lists.field-0.0 c.in_err-judge_lists.ensures.fault)
+    (judged c.args.held.now.content 6 (none_below c.args.held.now.content 6 (omega arith) (λ l. c.in_ok-judge_corners.ensures.ok) (λ l. c.in_ok-judge_edges.ensures.ok) (λ l. c.in_ok-judge_marks.ensures.ok) (λ l. c.in_ok-index.ensures.ok) (λ l. c.in_ok-judge_floors.ensures.ok) (λ l. c.in_ok-judge_covers.ensures.ok) (λ l. absurd (omega (arith, l))) (λ l. absurd (omega (arith, l)))) c.in_err-judge_lists.field-0.0 c.in_err-judge_lists.ensures.fault)
 
 pub returns-in_err-judge_sources-clause-first : goal.returns-in_err-judge_sources-clause-first
 returns-in_err-judge_sources-clause-first c =
     handed c.from_residual-in_err-judge_sources.result _ (IsJudged c.args.held.now.content) c.from_residual-in_err-judge_sources.ensures.1
-    (judged c.args.held.now.content 7 (none_below c.args.held.now.content 7 (omega arith) (λ l. c.in_ok-judge_corners.ensures.ok) (λ l. c.in_ok-judge_edges.ensures.ok) (λ l. c.in_ok-judge_marks.ensures.ok) (λ l. c.in_ok-floors.ensures.ok) (λ l. c.in_ok-judge_floors.ensures.ok) (λ l. c.in_ok-judge_covers.ensures.ok) (λ l. c.in_ok-judge_lists.ensures.ok) (λ l. absurd (omega (arith, l)))) c.in_err-judge_sources.field-0.0 c.in_err-judge_sources.ensures.fault)
+    (judged c.args.held.now.content 7 (none_below c.args.held.now.content 7 (omega arith) (λ l. c.in_ok-judge_corners.ensures.ok) (λ l. c.in_ok-judge_edges.ensures.ok) (λ l. c.in_ok-judge_marks.ensures.ok) (λ l. c.in_ok-index.ensures.ok) (λ l. c.in_ok-judge_floors.ensures.ok) (λ l. c.in_ok-judge_covers.ensures.ok) (λ l. c.in_ok-judge_lists.ensures.ok) (λ l. absurd (omega (arith, l)))) c.in_err-judge_sources.field-0.0 c.in_err-judge_sources.ensures.fault)
 
 pub returns-clause-ok : goal.returns-clause-ok
 returns-clause-ok c = on_ok_weaker c.judge_versions.result (λ versions. record {
   ended = c.in_ok-judge_corners.ensures.ok;
   marked = c.in_ok-judge_edges.ensures.ok;
   even = c.in_ok-judge_marks.ensures.ok;
-  apart = c.in_ok-floors.ensures.ok;
+  apart = c.in_ok-index.ensures.ok;
   floors = c.in_ok-judge_floors.ensures.ok;
   covers = c.in_ok-judge_covers.ensures.ok;
   named = c.in_ok-judge_lists.ensures.ok;
@@ -61,5 +61,5 @@ returns-clause-ok c = on_ok_weaker c.judge_versions.result (λ versions. record 
 pub returns-clause-first : goal.returns-clause-first
 returns-clause-first c =
     let h = c.args.held.now.content in
-    IfErr-weaker c.judge_versions.result (IsFaultOf h 8) (IsJudged h) (judged h 8 (none_below h 8 (omega arith) (λ l. c.in_ok-judge_corners.ensures.ok) (λ l. c.in_ok-judge_edges.ensures.ok) (λ l. c.in_ok-judge_marks.ensures.ok) (λ l. c.in_ok-floors.ensures.ok) (λ l. c.in_ok-judge_floors.ensures.ok) (λ l. c.in_ok-judge_covers.ensures.ok) (λ l. c.in_ok-judge_lists.ensures.ok) (λ l. c.in_ok-judge_sources.ensures.ok)))
+    IfErr-weaker c.judge_versions.result (IsFaultOf h 8) (IsJudged h) (judged h 8 (none_below h 8 (omega arith) (λ l. c.in_ok-judge_corners.ensures.ok) (λ l. c.in_ok-judge_edges.ensures.ok) (λ l. c.in_ok-judge_marks.ensures.ok) (λ l. c.in_ok-index.ensures.ok) (λ l. c.in_ok-judge_floors.ensures.ok) (λ l. c.in_ok-judge_covers.ensures.ok) (λ l. c.in_ok-judge_lists.ensures.ok) (λ l. c.in_ok-judge_sources.ensures.ok)))
     c.judge_versions.ensures.fault

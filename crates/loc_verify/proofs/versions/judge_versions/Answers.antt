@@ -1,27 +1,23 @@
-use Rattle.std.proofs.Common.{◌≡◌, ◌<◌, ◌∙◌, subst, ap, arith, length}
-use Rattle.loc_spec_plane.specs.Tables.{Table}
+use Rattle.std.proofs.Common.{length, refl, sym, ap, subst, arith}
+use Rattle.loc_persist.specs.Meaning.{VersionsMeaning}
+use Rattle.loc_status.specs.Versions.{AreVersions}
 use Rattle.loc_spec_index.specs.Content.{table_in}
-use Rattle.loc_verify.specs.declared.fault.VerifyFault.TheVariants.{NoMemory}
-use Rattle.loc_file.proofs.Steps.{handed}
-use Rattle.loc_verify.specs.Judged.{IsFaultOf}
-use Rattle.loc_verify.proofs.Ranked.{least_version}
+use Rattle.loc_laws_index.proofs.FlawKinds.{as_many_corners}
+use Rattle.loc_laws_built.proofs.True.{versions_true}
 use Rattle.loc_verify.proofs.versions.judge_versions.Goals as goal
 
-pub returns-in_err-go_to-clause-fault : goal.returns-in_err-go_to-clause-fault
-returns-in_err-go_to-clause-fault c = handed c.from_residual.result NoMemory (IsFaultOf c.args.held.now.content 8) c.from_residual.ensures.1 tt
+pub has_roots-requires : goal.has_roots-requires
+has_roots-requires c =
+    let h = c.args.held.now.content in
+    let lists = c.requires.stands.versions.as_many in
+    let same = ap (λ (m : VersionsMeaning). length m.sealed_lists) c.versions-tree.ensures in
+    let many = c.sealed-sealed.ensures.facts.as_many in
+    let corners = as_many_corners h in
+    record { as_many = omega (arith, lists, same, many, corners) }
 
-pub judge_version-requires-clause-in_range : goal.judge_version-requires-clause-in_range
-unfolding table_in
-judge_version-requires-clause-in_range c = subst (λ k. c.loop-version.version < k) (c.corner_count-version-end.ensures.value ∙ ap (λ (t : Table). length t.corners) c.table-table.ensures) c.loop-version-test.true
-
-pub returns-in_err-judge_version-clause-fault : goal.returns-in_err-judge_version-clause-fault
-unfolding table_in
-returns-in_err-judge_version-clause-fault c =
-    handed c.from_residual-in_err-judge_version.result _ (IsFaultOf c.args.held.now.content 8) c.from_residual-in_err-judge_version.ensures.1
-    (least_version c.args.held.now.content c.loop-version.version (subst (λ k. c.loop-version.version < k) (c.corner_count-version-end.ensures.value ∙ ap (λ (t : Table). length t.corners) c.table-table.ensures) c.loop-version-test.true) c.loop-version.invariant.right c.in_err-judge_version.field-0.0 c.in_err-judge_version.ensures.fault)
-
-pub returns-clause-ok : goal.returns-clause-ok
-unfolding table_in
-returns-clause-ok c = λ i fits.
-    (let size : c.corner_count-version-end.result ≡ length c.args.held.now.content.corners = c.corner_count-version-end.ensures.value ∙ ap (λ (t : Table). length t.corners) c.table-table.ensures in
-    c.loop-version.invariant.right i (omega (arith, fits, size, c.loop-version-test.false)))
+pub returns-then-has_roots-clause-ok : goal.returns-then-has_roots-clause-ok
+returns-then-has_roots-clause-ok c =
+    let h = c.args.held.now.content in
+    versions_true (table_in h) c.versions-tree.result.now h refl c.sealed-sealed.ensures.facts
+    (subst (λ (m : VersionsMeaning). AreVersions (table_in h) m.sealed_lists) (sym c.versions-tree.ensures) c.requires.stands.versions)
+    (c.if-has_nodes.ensures refl) (c.if-has_roots.ensures refl)

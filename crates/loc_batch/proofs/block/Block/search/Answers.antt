@@ -14,7 +14,7 @@ seek-requires-clause-lines g c =
 
 pub returns-clause-found : goal.returns-clause-found
 returns-clause-found g c = λ points h.
-    let finds = g.I.Locator.finds c.args.index.now c.args.views.now in
+    let finds = g.D.Answerer.finds c.args.by.now in
     let held : Holds points (record { queries = c.deref.result.now; found = c.deref_mut.result.now }) =
     rw (c.deref.ensures.value, c.deref_mut.ensures.value) (held_again points _ c.sort_unstable.new.self.items c.sort_unstable.ensures.permutation (subst (Holds points) (sym c.self.view_is) h)) in
     written_back _ _ _ (search (rules, arith)) ∙ (c.seek.ensures.placed ∙ placed_is finds points _ held)

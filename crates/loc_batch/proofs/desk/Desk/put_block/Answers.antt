@@ -1,30 +1,37 @@
-use Rattle.std.proofs.Common.{◌+◌, Ok, drop, arith, ◌∙◌, None, rules}
+use Rattle.std.proofs.Common.{◌+◌, length, Ok, drop, arith, ◌∙◌, None, rules}
 use Rattle.std.proofs.lemmas.Result.{err_from_is_err_and}
-use Rattle.loc_spec_text.specs.Answered.{answered}
-use Rattle.loc_batch.specs.Answering.{found_answer}
-use Rattle.loc_batch.proofs.Lines.{goes_off, goes_on, next_answered, no_line, none_answered, one_line}
+use Rattle.loc_spec_text.specs.Answered.{answered, with_answer}
+use Rattle.loc_batch.specs.Told.{told_found}
+use Rattle.loc_batch.proofs.Lines.{goes_off, goes_on, next_answered, next_few, no_answers, no_more_few, no_line, none_answered, one_line}
 use Rattle.loc_batch.proofs.desk.Desk.put_block.Goals as goal
 
 pub returns-in_err-answer_found-clause-answers : goal.returns-in_err-answer_found-clause-answers
 returns-in_err-answer_found-clause-answers g c =
-    let answer = found_answer c.args.legend.now (g.N.FaceNumbers.shown c.args.faces.now) in
+    let answer = told_found (g.D.Answerer.tells c.args.by.now) in
     let founds = c.args.self.now.block.found in
     let is = next_answered answer founds c.loop-line.line None c.found-found.result (search (rules, arith)) (rw c.loop-line.invariant.block at c.found-found.ensures) in
     let p = err_from_is_err_and c.from_residual.result c.from_residual.ensures.1 in
-    rw (p.1, p.2) (goes_off _ _ (answered answer (drop (c.loop-line.line + 1) founds)) _ _ _ _ _ _ _ _ _ _ c.answer_found.result c.in_err-answer_found.was (rw is at c.loop-line.invariant.goes) (one_line (answer c.found-found.result) _ _ _ _ _ _ _ c.answer_found.ensures.answers))
+    rw (p.1, p.2) (goes_off (answered answer founds) (with_answer (answer c.found-found.result) no_answers) (answered answer (drop (c.loop-line.line + 1) founds)) c.args.self.now.tally c.loop-line.self.tally c.answer_found.new.self.tally (g.O.Sink.meaning c.args.sink.now) (g.O.Sink.meaning c.loop-line.sink) (g.O.Sink.meaning c.answer_found.new.sink) c.args.self.now.page c.loop-line.self.page c.answer_found.new.self.page _ c.answer_found.result c.in_err-answer_found.was (rw is at c.loop-line.invariant.goes) (one_line (answer c.found-found.result) _ _ _ _ _ _ _ c.answer_found.ensures.answers))
 
 pub loop-line-preserved : goal.loop-line-preserved
 loop-line-preserved g c =
-    let answer = found_answer c.args.legend.now (g.N.FaceNumbers.shown c.args.faces.now) in
+    let answer = told_found (g.D.Answerer.tells c.args.by.now) in
     let founds = c.args.self.now.block.found in
     let is = next_answered answer founds c.loop-line.line None c.found-found.result (search (rules, arith)) (rw c.loop-line.invariant.block at c.found-found.ensures) in
     record {
-      goes = goes_on _ _ (answered answer (drop (c.loop-line.line + 1) founds)) _ _ _ _ _ _ _ _ _ _ c.answer_found.result c.in_ok-answer_found.was (rw is at c.loop-line.invariant.goes) (one_line (answer c.found-found.result) _ _ _ _ _ _ _ c.answer_found.ensures.answers);
+      goes = goes_on (answered answer founds) (with_answer (answer c.found-found.result) no_answers) (answered answer (drop (c.loop-line.line + 1) founds)) c.args.self.now.tally c.loop-line.self.tally c.answer_found.new.self.tally (g.O.Sink.meaning c.args.sink.now) (g.O.Sink.meaning c.loop-line.sink) (g.O.Sink.meaning c.answer_found.new.sink) c.args.self.now.page c.loop-line.self.page c.answer_found.new.self.page _ c.answer_found.result c.in_ok-answer_found.was (rw is at c.loop-line.invariant.goes) (one_line (answer c.found-found.result) _ _ _ _ _ _ _ c.answer_found.ensures.answers);
       block = c.answer_found.ensures.block ∙ c.loop-line.invariant.block;
       same = c.answer_found.ensures.line ∙ c.loop-line.invariant.same;
+      up = omega (arith, c.loop-line.invariant.up, c.answer_found.ensures.counted);
+      few = next_few c.loop-line.line _ _ _ (g.D.Answerer.most_put c.args.by.now) c.loop-line.invariant.few c.answer_found.ensures.within;
     }
 
 pub returns-clause-answers : goal.returns-clause-answers
 returns-clause-answers g c =
-    let answer = found_answer c.args.legend.now (g.N.FaceNumbers.shown c.args.faces.now) in
+    let answer = told_found (g.D.Answerer.tells c.args.by.now) in
     (rw (none_answered answer c.args.self.now.block.found c.loop-line.line (search (rules, arith))) at c.loop-line.invariant.goes) _ _ _ (Ok tt) (no_line _ _ _ tt)
+
+pub returns-in_err-answer_found-clause-within : goal.returns-in_err-answer_found-clause-within
+returns-in_err-answer_found-clause-within g c =
+    let last = next_few c.loop-line.line _ _ _ (g.D.Answerer.most_put c.args.by.now) c.loop-line.invariant.few c.answer_found.ensures.within in
+    no_more_few (c.loop-line.line + 1) (length c.args.self.now.block.found) _ _ (g.D.Answerer.most_put c.args.by.now) (search (rules, arith)) last

@@ -1,14 +1,16 @@
-use Rattle.std.proofs.Common.{◌≡◌, drop}
+use Rattle.std.proofs.Common.{◌≡◌, ◌≤◌, ◌+◌, ◌*◌, drop}
 use Rattle.loc_spec_text.specs.Answered.{answered}
-use Rattle.loc_batch.specs.Answering.{found_answer}
+use Rattle.loc_batch.specs.Told.{told_found}
 use Rattle.loc_batch.proofs.Lines.{GoesLines}
 use Rattle.loc_batch.proofs.desk.Desk.put_block.Given as goal
 
 abbrev pub invariant-loop-line : goal.invariant-loop-line
 invariant-loop-line g l =
-    let answer = found_answer l.legend (g.N.FaceNumbers.shown l.faces) in
+    let answer = told_found (g.D.Answerer.tells l.by) in
     record {
       goes : GoesLines (answered answer l.fn.self.block.found) (answered answer (drop l.line l.fn.self.block.found)) l.fn.self.tally l.self.tally (g.O.Sink.meaning l.fn.sink) (g.O.Sink.meaning l.sink) l.fn.self.page l.self.page;
       block : l.self.block ≡ l.fn.self.block;
       same : l.self.line ≡ l.fn.self.line;
+      up : l.fn.steps ≤ l.steps;
+      few : l.steps ≤ l.fn.steps + l.line * g.D.Answerer.most_put l.by;
     }

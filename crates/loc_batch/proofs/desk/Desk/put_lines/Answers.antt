@@ -1,13 +1,14 @@
-use Rattle.std.proofs.Common.{◌++◌, Ok, arith, sym, ◌∙◌, ap, map}
+use Rattle.std.proofs.Common.{◌++◌, ◌+◌, length, Ok, arith, sym, ◌∙◌, ap, map}
+use Rattle.std.specs.Prelude.{option_map}
 use Rattle.std.proofs.lemmas.List.{length-map}
 use Rattle.std.proofs.lemmas.Result.{err_from_is_err_and}
 use Rattle.loc_spec_text.specs.Answered.{answered}
 use Rattle.loc_spec_text.specs.Bytes.{ended_lines}
 use Rattle.loc_spec_text.specs.Points.{point_of}
-use Rattle.loc_batch.specs.Answering.{answer_by, found_answer}
+use Rattle.loc_batch.specs.Told.{told_by, told_found}
 use Rattle.loc_batch.specs.Kept.{kept}
 use Rattle.loc_batch.proofs.Cutting.{split_none, unbroken_both, unbroken_front}
-use Rattle.loc_batch.proofs.Lines.{answered_found, cut_answered, fewer, goes_off, goes_on, no_line}
+use Rattle.loc_batch.proofs.Lines.{answered_found, cut_answered, fewer, goes_off, goes_on, no_line, sought_and_put}
 use Rattle.loc_batch.proofs.desk.Desk.put_lines.Goals as goal
 
 pub search-requires-clause-held : goal.search-requires-clause-held
@@ -15,14 +16,14 @@ search-requires-clause-held g c = (map (point_of c.args.scale) c.in-Some.ensures
 
 pub returns-in_err-put_block-clause-answers : goal.returns-in_err-put_block-clause-answers
 returns-in_err-put_block-clause-answers g c =
-    let finds = g.I.Locator.finds c.args.index.now c.args.views.now in
-    let shown = g.N.FaceNumbers.shown c.args.faces.now in
+    let finds = g.D.Answerer.finds c.args.by.now in
+    let tells = g.D.Answerer.tells c.args.by.now in
     let r = c.in-Some.ensures.reads in
-    let same = ap (answered (found_answer c.args.legend.now shown)) (c.search.ensures.found (map (point_of c.args.scale) r.lines) r.holds) ∙ answered_found c.args.scale finds shown c.args.legend.now r.lines in
+    let same = ap (answered (told_found tells)) (c.search.ensures.found (map (point_of c.args.scale) r.lines) r.holds) ∙ answered_found c.args.scale finds tells r.lines in
     let p = err_from_is_err_and c.from_residual.result c.from_residual.ensures.1 in
-    let answer = answer_by c.args.scale finds shown c.args.legend.now in
-    let is = cut_answered answer (ended_lines (c.loop-more.self.line.items ++ c.loop-more.rest.now)) r.lines (ended_lines (c.read_lines.new.self.line.items ++ c.in-Some.more.now)) _ (ap (λ s. s.0) r.split) same in
-    rw (p.1, p.2) (goes_off _ _ _ _ _ _ _ _ _ _ _ _ _ c.put_block.result c.in_err-put_block.was (rw is at c.loop-more.invariant.goes) (rw (c.read_lines.ensures.tally, c.read_lines.ensures.page) at c.put_block.ensures.answers))
+    let answer = told_by c.args.scale finds tells in
+    let is = cut_answered answer (ended_lines (c.loop-more.self.line.items ++ c.loop-more.rest.now)) r.lines (ended_lines (c.read_lines.new.self.line.items ++ c.in-Some.more.now)) (answered (told_found tells) c.search.new.self.found) (ap (λ s. s.0) r.split) same in
+    rw (p.1, p.2) (goes_off (answered answer (ended_lines (c.args.self.now.line.items ++ c.args.text.now))) (answered (told_found tells) c.search.new.self.found) (answered answer (ended_lines (c.read_lines.new.self.line.items ++ c.in-Some.more.now))) c.args.self.now.tally c.loop-more.self.tally c.put_block.new.self.tally (g.O.Sink.meaning c.args.sink.now) (g.O.Sink.meaning c.loop-more.sink) (g.O.Sink.meaning c.put_block.new.sink) c.args.self.now.page c.loop-more.self.page c.put_block.new.self.page _ c.put_block.result c.in_err-put_block.was (rw is at c.loop-more.invariant.goes) (rw (c.read_lines.ensures.tally, c.read_lines.ensures.page) at c.put_block.ensures.answers))
 
 pub returns-in_err-put_block-clause-unbroken : goal.returns-in_err-put_block-clause-unbroken
 returns-in_err-put_block-clause-unbroken g c = rw c.put_block.ensures.line c.in-Some.ensures.reads.unbroken
@@ -31,23 +32,29 @@ pub returns-in_err-put_block-clause-within : goal.returns-in_err-put_block-claus
 returns-in_err-put_block-clause-within g c =
     let r = c.in-Some.ensures.reads in
     let many = r.holds.as_many ∙ length-map r.lines (point_of c.args.scale) in
-    omega (arith, fewer c.loop-more.steps _ (g.I.Locator.most c.args.index.now c.args.views.now) _ _ (ended_lines (c.loop-more.self.line.items ++ c.loop-more.rest.now)) r.lines (ended_lines (c.read_lines.new.self.line.items ++ c.in-Some.more.now)) (ap (λ s. s.0) r.split) many c.search.ensures.within c.loop-more.invariant.few)
+    let found = g.D.Answerer.most_found c.args.by.now in
+    let put = g.D.Answerer.most_put c.args.by.now in
+    let both = sought_and_put _ c.loop-more.steps _ _ _ _ found put c.search.ensures.within c.put_block.ensures.within (ap length (c.search.ensures.found (map (point_of c.args.scale) r.lines) r.holds) ∙ length-map (map (point_of c.args.scale) r.lines) (option_map (g.D.Answerer.finds c.args.by.now)) ∙ length-map r.lines (point_of c.args.scale)) many in
+    omega (arith, fewer c.loop-more.steps _ (found + put) _ _ (ended_lines (c.loop-more.self.line.items ++ c.loop-more.rest.now)) r.lines (ended_lines (c.read_lines.new.self.line.items ++ c.in-Some.more.now)) (ap (λ s. s.0) r.split) many both c.loop-more.invariant.few)
 
 pub loop-more-preserved : goal.loop-more-preserved
 loop-more-preserved g c =
-    let finds = g.I.Locator.finds c.args.index.now c.args.views.now in
-    let shown = g.N.FaceNumbers.shown c.args.faces.now in
+    let finds = g.D.Answerer.finds c.args.by.now in
+    let tells = g.D.Answerer.tells c.args.by.now in
     let r = c.in-Some.ensures.reads in
-    let same = ap (answered (found_answer c.args.legend.now shown)) (c.search.ensures.found (map (point_of c.args.scale) r.lines) r.holds) ∙ answered_found c.args.scale finds shown c.args.legend.now r.lines in
+    let same = ap (answered (told_found tells)) (c.search.ensures.found (map (point_of c.args.scale) r.lines) r.holds) ∙ answered_found c.args.scale finds tells r.lines in
     let many = r.holds.as_many ∙ length-map r.lines (point_of c.args.scale) in
-    let answer = answer_by c.args.scale finds shown c.args.legend.now in
-    let is = cut_answered answer (ended_lines (c.loop-more.self.line.items ++ c.loop-more.rest.now)) r.lines (ended_lines (c.read_lines.new.self.line.items ++ c.in-Some.more.now)) _ (ap (λ s. s.0) r.split) same in
+    let found = g.D.Answerer.most_found c.args.by.now in
+    let put = g.D.Answerer.most_put c.args.by.now in
+    let both = sought_and_put _ c.loop-more.steps _ _ _ _ found put c.search.ensures.within c.put_block.ensures.within (ap length (c.search.ensures.found (map (point_of c.args.scale) r.lines) r.holds) ∙ length-map (map (point_of c.args.scale) r.lines) (option_map finds) ∙ length-map r.lines (point_of c.args.scale)) many in
+    let answer = told_by c.args.scale finds tells in
+    let is = cut_answered answer (ended_lines (c.loop-more.self.line.items ++ c.loop-more.rest.now)) r.lines (ended_lines (c.read_lines.new.self.line.items ++ c.in-Some.more.now)) (answered (told_found tells) c.search.new.self.found) (ap (λ s. s.0) r.split) same in
     rw c.put_block.ensures.line (record {
-      goes = goes_on _ _ _ _ _ _ _ _ _ _ _ _ _ c.put_block.result c.in_ok-put_block.was (rw is at c.loop-more.invariant.goes) (rw (c.read_lines.ensures.tally, c.read_lines.ensures.page) at c.put_block.ensures.answers);
+      goes = goes_on (answered answer (ended_lines (c.args.self.now.line.items ++ c.args.text.now))) (answered (told_found tells) c.search.new.self.found) (answered answer (ended_lines (c.read_lines.new.self.line.items ++ c.in-Some.more.now))) c.args.self.now.tally c.loop-more.self.tally c.put_block.new.self.tally (g.O.Sink.meaning c.args.sink.now) (g.O.Sink.meaning c.loop-more.sink) (g.O.Sink.meaning c.put_block.new.sink) c.args.self.now.page c.loop-more.self.page c.put_block.new.self.page _ c.put_block.result c.in_ok-put_block.was (rw is at c.loop-more.invariant.goes) (rw (c.read_lines.ensures.tally, c.read_lines.ensures.page) at c.put_block.ensures.answers);
       unbroken = r.unbroken;
       left = sym (ap (λ s. s.1) r.split) ∙ c.loop-more.invariant.left;
-      up = omega (arith, c.loop-more.invariant.up, c.search.ensures.counted);
-      few = fewer c.loop-more.steps _ (g.I.Locator.most c.args.index.now c.args.views.now) _ _ (ended_lines (c.loop-more.self.line.items ++ c.loop-more.rest.now)) r.lines (ended_lines (c.read_lines.new.self.line.items ++ c.in-Some.more.now)) (ap (λ s. s.0) r.split) many c.search.ensures.within c.loop-more.invariant.few;
+      up = omega (arith, c.loop-more.invariant.up, c.search.ensures.counted, c.put_block.ensures.counted);
+      few = fewer c.loop-more.steps _ (found + put) _ _ (ended_lines (c.loop-more.self.line.items ++ c.loop-more.rest.now)) r.lines (ended_lines (c.read_lines.new.self.line.items ++ c.in-Some.more.now)) (ap (λ s. s.0) r.split) many both c.loop-more.invariant.few;
     })
 
 pub returns-clause-answers : goal.returns-clause-answers

@@ -1,41 +1,8 @@
-use Rattle.std.proofs.Common.{◌<◌, length, get_or, sym, ◌∙◌, ap, subst, arith, None}
-use Rattle.std.specs.Prelude.{All, IfSome}
-use Rattle.std.proofs.lemmas.List.{get_or_default, length-map}
-use Rattle.loc_spec_plane.specs.Tables.{corner}
-use Rattle.loc_spec_plane.specs.Places.{IsFloor}
-use Rattle.loc_cover.specs.Legends.{AreLists}
-use Rattle.loc_cover.proofs.Sound.{are_lists, covers_named, floor_in_range}
+use Rattle.std.proofs.Common.{length, ap, arith}
+use Rattle.std.proofs.lemmas.List.{length-map}
 use Rattle.loc_cover.proofs.legend.Legend.make.Goals as goal
 
-pub assemble-requires-clause-lists : goal.assemble-requires-clause-lists
-assemble-requires-clause-lists c = subst (AreLists (length c.args.table.now.ends)) (sym c.in_ok-covers.ensures.lists) (are_lists c.args.table.now c.in_ok-covers.ensures.few)
-
-pub assemble-requires-clause-lists_named : goal.assemble-requires-clause-lists_named
-assemble-requires-clause-lists_named c = subst (All (All (λ f. f < length c.in_ok-ids.ids.items))) (sym c.in_ok-covers.ensures.lists) (covers_named c.args.table.now (length c.in_ok-ids.ids.items)
-    (let same = ap length c.in_ok-ids.ensures.value in omega (arith, c.requires.features, same, length-map c.in_ok-ids.ids.items (λ id. id.items), length-map c.args.layer.now (λ f. f.id))))
-
-pub assemble-requires-clause-above_in_range : goal.assemble-requires-clause-above_in_range
-assemble-requires-clause-above_in_range c = λ e d fits.
-    (let at = c.in_ok-covers.ensures.above e (omega (arith, c.in_ok-covers.ensures.as_many)) in
-    omega (arith, at.fits, get_or_default c.in_ok-covers.cover_of.items e d 0 fits, ap length c.in_ok-covers.ensures.lists))
-
-pub assemble-requires-clause-floors_in_range : goal.assemble-requires-clause-floors_in_range
-assemble-requires-clause-floors_in_range c =
-    let t = c.args.table.now in
-    let are = c.in_ok-floors.ensures.items ∙ c.of_corner.ensures in
-    subst (All (λ floor. IfSome floor (λ e. e < length c.args.table.now.ends))) (sym are) (λ k d fits.
-    (let inside : k < length c.args.table.now.corners = omega (arith, c.requires.swept.as_many_corners) in
-    subst (λ o. IfSome o (λ e. e < length c.args.table.now.ends)) (get_or_default c.args.floors.now.of_corner k None d fits) (floor_in_range t k (get_or c.args.floors.now.of_corner k None) (c.requires.swept.of_corner k inside))))
-
-pub assemble-requires-clause-as_many_corners : goal.assemble-requires-clause-as_many_corners
-assemble-requires-clause-as_many_corners c = ap length c.in_ok-floors.ensures.items ∙ (ap length c.of_corner.ensures ∙ c.requires.swept.as_many_corners)
-
-pub returns-clause-is_true : goal.returns-clause-is_true
-returns-clause-is_true c =
-    let t = c.args.table.now in
-    let made = c.in_ok-assemble.ensures in
-    record {
-      lists = made.lists ∙ c.in_ok-covers.ensures.lists;
-      above = λ e inside. rw (made.lists, made.above, c.in_ok-covers.ensures.lists) (c.in_ok-covers.ensures.above e inside).at;
-      floors = λ n inside. subst (λ floors. IsFloor t (corner t n) (get_or floors n None)) (sym (made.floors ∙ (c.in_ok-floors.ensures.items ∙ c.of_corner.ensures))) (c.requires.swept.of_corner n inside);
-    }
+pub with_ids-requires-clause-features : goal.with_ids-requires-clause-features
+with_ids-requires-clause-features c =
+    let same = ap length c.in_ok-ids.ensures.value in
+    omega (arith, c.requires.features, same, length-map c.in_ok-ids.ids.items (λ id. id.items), length-map c.args.layer.now (λ f. f.id))

@@ -11,7 +11,7 @@ pub invariant_of-self-2 : goal.invariant_of-self-2
 invariant_of-self-2 c =
     let starts = c.self.inside.starts.items in
     let rings = map (λ ring. ring.items) c.self.inside.rings.items in
-    let pushed = ap (map (λ ring. ring.items)) c.in_ok-append.ensures.ok ∙ map-append (λ ring. ring.items) c.self.inside.rings.items (c.args.ring ∷ []) in
+    let pushed = ap (map (λ ring. ring.items)) c.in_ok-append.ensures.ok ∙ (map-append (λ ring. ring.items) c.self.inside.rings.items (c.shrink_to_fit.new.self ∷ []) ∙ ap (λ r. rings ++ r ∷ []) c.shrink_to_fit.ensures.items) in
     let seen = seen-rings starts rings c.args.self.now c.self.view_is c.self.invariant.begin in
     let more : length (rings ++ c.args.ring.items ∷ []) ≡ length rings + 1 = length-append rings (c.args.ring.items ∷ []) in
     record {
@@ -26,5 +26,5 @@ returns-clause-ok c =
     let starts = c.self.inside.starts.items in
     let rings = map (λ ring. ring.items) c.self.inside.rings.items in
     ap (λ vs. cut_into starts (map (λ ring. ring.items) vs)) c.in_ok-append.ensures.ok
-    ∙ ap (cut_into starts) (map-append (λ ring. ring.items) c.self.inside.rings.items (c.args.ring ∷ []))
+    ∙ ap (cut_into starts) (map-append (λ ring. ring.items) c.self.inside.rings.items (c.shrink_to_fit.new.self ∷ []) ∙ ap (λ r. rings ++ r ∷ []) c.shrink_to_fit.ensures.items)
     ∙ seen-ring starts rings c.args.self.now c.self.view_is c.self.invariant.begin c.args.ring.items c.requires.started

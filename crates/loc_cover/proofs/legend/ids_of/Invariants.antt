@@ -1,7 +1,0 @@
-use Rattle.std.proofs.Common.{◌≡◌, map, take}
-use Rattle.loc_rings.specs.Values.{Feature}
-use Rattle.loc_cover.proofs.legend.ids_of.Given as goal
-
--- the ids of the features before are copied
-abbrev pub invariant-loop-feature : goal.invariant-loop-feature
-invariant-loop-feature l = map (λ id. id.items) l.ids.items ≡ map (λ (f : Feature). f.id) (take l.feature-index l.feature-items)

@@ -1,0 +1,5 @@
+use Rattle.std.proofs.Common.{rules}
+use Rattle.loc_page.proofs.held.Page.put_first.Goals as goal
+
+pub returns : goal.returns
+returns g c = search rules steps 1000000

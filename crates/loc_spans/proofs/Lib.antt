@@ -1,0 +1,9 @@
+mod Adding
+mod Closing
+mod Growing
+mod Idle
+mod Nexts
+mod Ordered
+mod Seen
+mod Sided
+mod Widening

@@ -1,0 +1,4 @@
+pub mod Around
+pub mod Boxes
+pub mod Parity
+pub mod Rows

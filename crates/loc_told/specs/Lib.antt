@@ -1,0 +1,2 @@
+-- What a command answers whose files are told (Answers).
+pub mod Answers

@@ -1,0 +1,16 @@
+pub mod Covered
+pub mod Firsts
+pub mod Found
+pub mod InLists
+pub mod Minima
+pub mod OddLists
+pub mod OneFeature
+pub mod Order
+pub mod PairOrder
+pub mod PinchEnds
+pub mod PointRings
+pub mod RingCounts
+pub mod RingHomes
+pub mod Thrice
+pub mod Turns
+pub mod Within
