@@ -1,13 +1,14 @@
 // How many parts the inside of a polygon has.
 
-ghost use Rattle.std.specs.Prelude.{◌≡◌, ℕ, ◌<◌, ◌≤◌, ◌^◌, ◌*◌, ◌-◌, ◌∷◌, ◌==◌, ◌&&◌, [], false, count_by, length, get_or, IfOk, IfErr};
+ghost use Rattle.std.specs.Prelude.{◌≡◌, ℕ, ◌<◌, ◌≤◌, ◌^◌, ◌*◌, ◌-◌, ◌∷◌, ◌==◌, ◌&&◌, [], false, count_by, length, get_or, IfOk, IfErr, IfSome};
 ghost use Rattle.std.specs.List.{list_any, range_with_len};
 ghost use Rattle.loc_spec_plane.specs.Covers.{cover_above, feature_count};
 ghost use Rattle.loc_spec_plane.specs.Lists.{is_in};
 ghost use Rattle.loc_spec_plane.specs.HalfEdges.{half_edge_count};
-ghost use Rattle.loc_spec_plane.specs.Tables.{AllEnds, AllEven, NoConflict, edge_numbers, piece_count};
+ghost use Rattle.loc_spec_plane.specs.Tables.{AllEnds, AllEven, NoConflict, edge_numbers, noded_table_of, piece_count};
 ghost use Rattle.loc_spec_valid.specs.Breaches.{part_count, polygon_table};
 ghost use Rattle.loc_edges.specs.Floors.{AreFloors};
+ghost use Rattle.loc_edges.specs.Layers.{layer_rings};
 ghost use Rattle.loc_node.specs.Pieces.{most_pieces};
 ghost use Rattle.loc_rings.specs.Layers.{point_count};
 ghost use Rattle.loc_cover.specs.Legends.{IsTrueLegend, FitsTable as FitsLegend};
@@ -27,30 +28,6 @@ use loc_rings::{Feature, Layer};
 use loc_sweep::SweepFault;
 use std::alloc::{AllocError, Global};
 
-// The layer and the noded table of polygon n alone.
-fn table_of_polygon(
-    alloc: Global,
-    feature: &Feature,
-    n: u32,
-) -> Result<(Layer, EdgeTable), ValidFault>
-    requires few { point_count feature.now ≤ 2 ^ 20 }
-    requires in_range { n < length feature.now.polygons }
-    requires few_pieces { piece_count (get_or feature.now.polygons n [] ∷ []) ≤ most_pieces }
-    ensures table { IfOk result (λ made. made.1 ≡ polygon_table feature.now.polygons n) }
-    ensures all_ends { IfOk result (λ made. AllEnds made.1) }
-    ensures all_even { IfOk result (λ made. AllEven made.1) }
-    ensures one_feature { IfOk result (λ made. feature_count made.1 ≤ 1) }
-    ensures one_layer { IfOk result (λ made. length made.0 ≡ 1) }
-    ensures refused { IfErr result IsNoMemory }
-{
-    let layer = Layer::of_polygon(alloc, feature, n)?;
-    match node(alloc, &layer) {
-        Ok(table) => Ok((layer, table)),
-        Err(NodeFault::ManyPieces) => unreachable!(),
-        Err(NodeFault::NoMemory) => Err(ValidFault::NoMemory),
-    }
-}
-
 // The floors of a table in which no two edges conflict.
 fn floors_of(alloc: Global, table: &EdgeTable) -> Result<Floors, ValidFault>
     requires { NoConflict table.now }
@@ -62,6 +39,69 @@ fn floors_of(alloc: Global, table: &EdgeTable) -> Result<Floors, ValidFault>
         Err(SweepFault::Conflict { .. }) => unreachable!(),
         Err(SweepFault::NoMemory) => Err(ValidFault::NoMemory),
     }
+}
+
+// The plain table of a layer and its floors, where no two of its edges conflict. Then it is the noded one.
+fn plain_swept(alloc: Global, layer: &Layer) -> Result<Option<(EdgeTable, Floors)>, ValidFault>
+    ensures table { IfOk result (λ found. IfSome found (λ made. made.0 ≡ noded_table_of (layer_rings layer.now))) }
+    ensures all_ends { IfOk result (λ found. IfSome found (λ made. AllEnds made.0)) }
+    ensures all_even { IfOk result (λ found. IfSome found (λ made. AllEven made.0)) }
+    ensures features { IfOk result (λ found. IfSome found (λ made. feature_count made.0 ≤ length layer.now)) }
+    ensures floors { IfOk result (λ found. IfSome found (λ made. AreFloors made.0 made.1)) }
+    ensures refused { IfErr result IsNoMemory }
+{
+    let table = EdgeTable::make(alloc, layer)?;
+    match swept_floors(alloc, &table) {
+        Ok(floors) => Ok(Some((table, floors))),
+        Err(SweepFault::Conflict { .. }) => Ok(None),
+        Err(SweepFault::NoMemory) => Err(ValidFault::NoMemory),
+    }
+}
+
+// The noded table of a layer and its floors.
+fn noded_swept(alloc: Global, layer: &Layer) -> Result<(EdgeTable, Floors), ValidFault>
+    requires few_pieces { piece_count (layer_rings layer.now) ≤ most_pieces }
+    requires apart { NoConflict (noded_table_of (layer_rings layer.now)) }
+    ensures table { IfOk result (λ made. made.0 ≡ noded_table_of (layer_rings layer.now)) }
+    ensures all_ends { IfOk result (λ made. AllEnds made.0) }
+    ensures all_even { IfOk result (λ made. AllEven made.0) }
+    ensures features { IfOk result (λ made. feature_count made.0 ≤ length layer.now) }
+    ensures floors { IfOk result (λ made. AreFloors made.0 made.1) }
+    ensures refused { IfErr result IsNoMemory }
+{
+    let table = match node(alloc, layer) {
+        Ok(table) => table,
+        Err(NodeFault::ManyPieces) => unreachable!(),
+        Err(NodeFault::NoMemory) => return Err(ValidFault::NoMemory),
+    };
+    let floors = floors_of(alloc, &table)?;
+    Ok((table, floors))
+}
+
+// The layer of polygon n alone, its noded table, and the floors of that.
+fn table_of_polygon(
+    alloc: Global,
+    feature: &Feature,
+    n: u32,
+) -> Result<(Layer, EdgeTable, Floors), ValidFault>
+    requires few { point_count feature.now ≤ 2 ^ 20 }
+    requires in_range { n < length feature.now.polygons }
+    requires few_pieces { piece_count (get_or feature.now.polygons n [] ∷ []) ≤ most_pieces }
+    requires apart { NoConflict (polygon_table feature.now.polygons n) }
+    ensures table { IfOk result (λ made. made.1 ≡ polygon_table feature.now.polygons n) }
+    ensures all_ends { IfOk result (λ made. AllEnds made.1) }
+    ensures all_even { IfOk result (λ made. AllEven made.1) }
+    ensures one_feature { IfOk result (λ made. feature_count made.1 ≤ 1) }
+    ensures one_layer { IfOk result (λ made. length made.0 ≡ 1) }
+    ensures floors { IfOk result (λ made. AreFloors made.1 made.2) }
+    ensures refused { IfErr result IsNoMemory }
+{
+    let layer = Layer::of_polygon(alloc, feature, n)?;
+    if let Some((table, floors)) = plain_swept(alloc, &layer)? {
+        return Ok((layer, table, floors));
+    }
+    let (table, floors) = noded_swept(alloc, &layer)?;
+    Ok((layer, table, floors))
 }
 
 // The legend of the table of one feature, whose cover lists have at most one member each.
@@ -138,9 +178,8 @@ pub(crate) fn parts_of(alloc: Global, feature: &Feature, n: u32) -> Result<u32, 
     ensures parts { IfOk result (λ parts. parts ≡ part_count (polygon_table feature.now.polygons n) (next_at (polygon_table feature.now.polygons n)) (face_at (polygon_table feature.now.polygons n))) }
     ensures refused { IfErr result IsNoMemory }
 {
-    let (layer, table) = table_of_polygon(alloc, feature, n)?;
+    let (layer, table, floors) = table_of_polygon(alloc, feature, n)?;
     table.law();
-    let floors = floors_of(alloc, &table)?;
     let half = HalfEdges::make(alloc, &table)?;
     let faces = Faces::make(alloc, &table, &half, &floors)?;
     let legend = legend_of_one(alloc, &layer, &table, &floors)?;
