@@ -2,7 +2,7 @@
 # Completion of planar-locate for bash.
 _planar_locate() {
     local word=${COMP_WORDS[COMP_CWORD]} before=${COMP_WORDS[COMP_CWORD - 1]} command=${COMP_WORDS[1]-} options
-    local commands="query check build ask verify face gen trial upgrade edges stab valid dissolve help"
+    local commands="query features check build ask verify face gen trial upgrade edges stab valid dissolve help"
     COMPREPLY=()
     if ((COMP_CWORD == 1)); then
         mapfile -t COMPREPLY < <(compgen -W "$commands --help --version" -- "$word")
@@ -10,7 +10,7 @@ _planar_locate() {
     fi
     case $command in
         query) options="--scale --form --index --order --shuffle --faces --help" ;;
-        check | build | face | stab | valid | dissolve) options="--scale --form --help" ;;
+        features | check | build | face | stab | valid | dissolve) options="--scale --form --help" ;;
         trial) options="--index --help" ;;
         *) options="--help" ;;
     esac

@@ -7,15 +7,16 @@
 # and then calls `front_door "$@"`.
 
 declare -A places=(
-    [query]="LAYER POINTS" [check]="LAYER" [build]="LAYER INDEX" [ask]="INDEX POINTS" [verify]="INDEX" [face]="LAYER POINT" [gen]="KIND N SHIFT"
+    [query]="LAYER POINTS" [features]="LAYER POINTS" [check]="LAYER" [build]="LAYER INDEX" [ask]="INDEX POINTS" [verify]="INDEX" [face]="LAYER POINT" [gen]="KIND N SHIFT"
     [trial]="KIND N SHIFT" [upgrade]="OLD NEW" [edges]="INDEX" [stab]="LAYER SPANS" [valid]="LAYER" [dissolve]="LAYER"
 )
 declare -A options=(
-    [query]="--scale --form --index --order --shuffle --faces" [check]="--scale --form" [build]="--scale --form" [ask]="" [verify]="" [face]="--scale --form"
-    [gen]="" [trial]="--index" [upgrade]="" [edges]="" [stab]="--scale --form" [valid]="--scale --form" [dissolve]="--scale --form"
+    [query]="--scale --form --index --order --shuffle --faces" [features]="--scale --form" [check]="--scale --form" [build]="--scale --form" [ask]="" [verify]=""
+    [face]="--scale --form" [gen]="" [trial]="--index" [upgrade]="" [edges]="" [stab]="--scale --form" [valid]="--scale --form" [dissolve]="--scale --form"
 )
 declare -A usages=(
     [query]="query LAYER POINTS --scale K [--form lines|csv] [--index scan|tree|trap] [--order FILE | --shuffle N] [--faces]"
+    [features]="features LAYER POINTS --scale K [--form lines|csv]"
     [check]="check LAYER --scale K [--form lines|csv]"
     [build]="build LAYER INDEX --scale K [--form lines|csv]"
     [ask]="ask INDEX POINTS"
@@ -31,6 +32,7 @@ declare -A usages=(
 )
 declare -A summaries=(
     [query]="answer each point of a list from a layer of polygons"
+    [features]="name the polygons that touch and that cover each point of a list, in any layer that reads"
     [check]="say whether a layer is accepted, and count its features, corners and edges"
     [build]="make the index file of a layer, to be asked ever after"
     [ask]="answer each point of a list from an index file"
@@ -44,18 +46,25 @@ declare -A summaries=(
     [valid]="say of each feature of a layer whether it keeps the rules of the standard, and which it breaks first"
     [dissolve]="write the polygons that features of one id cover together, without their inner borders"
 )
-commands="query check build ask verify face gen trial upgrade edges stab valid dissolve"
+commands="query features check build ask verify face gen trial upgrade edges stab valid dissolve"
 
 about_layer="LAYER is a file of polygons: a POLYGON or MULTIPOLYGON text on each line, or with --form csv
 a CSV with a column 'wkt' and, if the polygons have names, a column 'id'. In a file of lines the
 id of a polygon is the number of its line. '-' means standard input.
 --scale K says how many decimals a coordinate may have, 0 to 15. Nothing is rounded: a layer
 with more decimals is refused."
-about_points="POINTS is a file with one point on each line, as '2.5 1' or 'POINT (2.5 1)'. '-' means standard input.
+about_points_file="POINTS is a file with one point on each line, as '2.5 1' or 'POINT (2.5 1)'. '-' means standard input."
+about_points="$about_points_file
 Each line of POINTS gets one line of answer:
     corner N on IDS in IDS    the point is corner N of the layer
     border N on IDS in IDS    it lies on edge N
     face in IDS               it lies in the open; a bare 'face in' means in no polygon
+    unread                    the line holds no point, or one with more decimals than the scale
+'on' names the polygons that touch the point, 'in' those that cover it."
+about_features="$about_points_file
+Each line of POINTS gets one line of answer:
+    on IDS in IDS             the point lies on the border of polygons
+    in IDS                    it lies on no border; a bare 'in' means in no polygon
     unread                    the line holds no point, or one with more decimals than the scale
 'on' names the polygons that touch the point, 'in' those that cover it."
 about_spans="SPANS is a file with one vertical span on each line, as '2.5 -1 5': x, the lower y and the upper y. '-' means
@@ -78,6 +87,11 @@ help_of() {
             echo "--index says how points are found; the answers are the same. tree is the default and the fastest,
 scan looks at one edge after another, trap goes down a map of trapezoids. --order FILE or
 --shuffle N says in which order that map is made. --faces names an open face by its number."
+            ;;
+        features)
+            printf '%s\n\n%s\n\n' "$about_layer" "$about_features"
+            echo "No layer that reads is refused: polygons may overlap and cross each other or themselves. In a layer that
+'$name check' accepts the polygons are those that '$name query' names, which also names corners and borders."
             ;;
         check) printf '%s\n\n%s\n' "$about_layer" "It prints: features F corners V edges E" ;;
         build) printf '%s\n\n%s\n' "$about_layer" "INDEX is the file to be made. Ask it by: $name ask INDEX POINTS" ;;
@@ -121,7 +135,7 @@ border or in the open, and which polygons touch and cover it. Nothing is rounded
     echo "usage: $name COMMAND ..."
     echo
     for command in $commands; do
-        printf '    %-8s%s\n' "$command" "${summaries[$command]}"
+        printf '    %-10s%s\n' "$command" "${summaries[$command]}"
     done
     echo
     echo "    $name help COMMAND        more about a command, as does $name COMMAND --help
@@ -303,7 +317,7 @@ files_read() {
     done
     case $command in
         query) printf '%s\n' "$1" ${order:+"$order"} "$2" ;;
-        ask | stab) printf '%s\n' "$1" "$2" ;;
+        ask | features | stab) printf '%s\n' "$1" "$2" ;;
         check | build | verify | face | upgrade | edges | valid | dissolve) printf '%s\n' "$1" ;;
     esac
 }

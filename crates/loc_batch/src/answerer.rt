@@ -1,6 +1,7 @@
 // What answers a point, and the lists that it fills.
 
-ghost use Rattle.std.specs.Prelude.{◌≡◌, ◌+◌, ◌<◌, ◌≤◌, ◌++◌, ◌∷◌, [], ℕ, Result, length, IfOk};
+ghost use Rattle.std.specs.Prelude.{◌≡◌, ◌+◌, ◌<◌, ◌≤◌, ◌++◌, ◌∷◌, [], ℕ, Result, length, nat_lt, vec_capacity, IfOk};
+ghost use Rattle.loc_spec_plane.specs.Lists.{sorted_set};
 ghost use Rattle.loc_spec_plane.specs.Points.{Point as PointValue};
 ghost use Rattle.loc_place.specs.declared.locator.Deep.{Deep as DeepOf};
 ghost use Rattle.loc_batch.specs.Desks.{PutsOne};
@@ -17,6 +18,15 @@ use std::sync::ledger::Ledger;
 
 // How many features a list has room for.
 const MOST_FEATURES: usize = 262_144;
+
+// The features of a list in order, each once. The list keeps its room.
+fn sort_features(list: &mut Vec<u32>)
+    ensures set { list.new.items ≡ sorted_set nat_lt list.old.items }
+    ensures room { vec_capacity list.new ≡ vec_capacity list.old }
+{
+    list.sort_unstable();
+    list.dedup();
+}
 
 /// Room for two lists of features, from `make` on.
 #[derive(Drop)]
@@ -69,6 +79,15 @@ impl Lists {
         ensures { self.new ≡ record self.old { covering = self.old.covering ++ feature ∷ [] } }
     {
         let _ = self.covering.push(feature);
+    }
+
+    /// The features of each list in order, each once.
+    pub fn sort(&mut self)
+        ensures touching { self.new.touching ≡ sorted_set nat_lt self.old.touching }
+        ensures covering { self.new.covering ≡ sorted_set nat_lt self.old.covering }
+    {
+        sort_features(&mut self.touching);
+        sort_features(&mut self.covering);
     }
 
     /// The features that touch.

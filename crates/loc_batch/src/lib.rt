@@ -15,7 +15,7 @@ mod tally;
 mod whole;
 
 pub use answerer::{Answerer, Lists};
-pub use answers::{put_doubled, write_answer};
+pub use answers::{put_doubled, put_quoted, write_answer};
 pub use batch::Batch;
 pub use faces::{FaceNumbers, Unnumbered};
 pub use faults::{BatchFault, FeedFault};

@@ -1,5 +1,5 @@
 -- What `valid` answers, by what its told file comes to.
-use Rattle.std.proofs.Common.{◌≡◌, ℕ, zero, suc, ◌≤◌, List, [], ◌∷◌, length, Option, Some, None, Ok, Err, refl, ◌∙◌, ap, inl, inr, arith}
+use Rattle.std.proofs.Common.{◌≡◌, ℕ, zero, suc, List, [], ◌∷◌, Option, Some, None, refl, ◌∙◌, ap, inl, inr, arith}
 use Rattle.std.specs.Prelude.{All, IsTrue, codes}
 use Rattle.std.specs.Io.KnownBytes.{Appends}
 use Rattle.std.proofs.lemmas.List.Elements.{All-cons}
@@ -8,17 +8,16 @@ use Rattle.loc_io.specs.Streams.{Stream}
 use Rattle.loc_spec_text.specs.Bytes.{Text, or_else}
 use Rattle.loc_spec_text.specs.Points.{ended}
 use Rattle.loc_rings.specs.Values.{Feature}
-use Rattle.loc_csvform.specs.Layer.{LayerRead, layer_of}
 use Rattle.loc_course.specs.Moments.{Moment}
 use Rattle.loc_course.specs.Outcomes.{outcome}
 use Rattle.loc_course.specs.Sentences.{EndsSo, Sentences}
-use Rattle.loc_course.proofs.Streamed.{long_or_short}
 use Rattle.loc_maps.specs.LineTexts.{covers_text, layer_fault_text, pieces_text}
-use Rattle.loc_maps.specs.MapCourses.{LayerFile, limit}
+use Rattle.loc_maps.specs.MapCourses.{IsRead, LayerFile}
+use Rattle.loc_maps.proofs.ReadRows.{layer_line, layer_long, was_read}
 use Rattle.loc_told.specs.Answers.{OrMemory}
 use Rattle.loc_told.proofs.Ends.{done_so, grown_so, not_done, refused_by}
-use Rattle.loc_breaches.specs.BreachCourses.{AreLines, are_lines, first_refusal, refusal_of, valid_course}
-use Rattle.loc_breaches.specs.Judges.{IsFirst, IsJudged, IsRead, Judges}
+use Rattle.loc_breaches.specs.BreachCourses.{AreLines, are_lines, first_refusal, judged_course, refusal_of, valid_course}
+use Rattle.loc_breaches.specs.Judges.{IsFirst, IsJudged, Judges}
 use Rattle.loc_breaches.proofs.LineLists.{passes_lines}
 use Rattle.loc_breaches.proofs.Plainly.{valid_plain}
 use Rattle.loc_breaches.proofs.Refusals.{covers_refused, few_covers, few_pieces, not_refused, pieces_refused, refused_first}
@@ -54,15 +53,10 @@ module _ (told : Text → Told) (file : LayerFile) (layer : Text) (is : told fil
   by_first features r None none = (features, r, none)
   by_first features r (Some line) first = absurd (not_done _ _ before new (rows.refused_so told file layer is features r line first) ends)
 
-  by_read : length layer ≤ limit → (r : LayerRead) → layer_of file.form file.scale layer ≡ r → WasJudged
-  by_read few (Err fault) reads = absurd (not_done _ _ before new (rows.layer_line told file layer is fault few reads) ends)
-  by_read few (Ok features) reads = by_first features (record { within = few; reads = reads }) (first_refusal features) refl
-
   was_judged : WasJudged
-  was_judged = elim (long_or_short limit layer) [
-    | inl long ↦ absurd (not_done _ _ before new (rows.layer_long told file layer is long.0) ends)
-    | inr short ↦ by_read short.0 (layer_of file.form file.scale layer) refl
-  ]
+  was_judged =
+      let read = was_read told file (judged_course file.scale) layer is before new ends in
+      by_first read.0 read.1 (first_refusal read.0) refl
 
 module _ (file : LayerFile) (old new : Moment) (n n' : Stream) (status : ℕ) (s : Sentences (valid_course file) old new n n' status) where
   -- lines that passed
@@ -85,13 +79,13 @@ module _ (file : LayerFile) (old new : Moment) (n n' : Stream) (status : ℕ) (s
       record {
         done = λ layer is zero.
             let a = was_judged told file layer is old.out.written new (s.done zero) in
-            (a.0, a.1, all_judged a.0 a.2, lines_of a.0 (grown_so course plain old new n n' status s (are_lines file.scale a.0) (rows.written told file layer is a.0 a.1 a.2) zero));
+            (a.0, a.1, all_judged a.0 a.2, lines_of a.0 (grown_so course plain.makes_none old new n n' status s (are_lines file.scale a.0) (rows.written told file layer is a.0 a.1 a.2) zero));
         answers = λ layer features is r judged reads out.
-            answered features (done_so course plain old new n n' status s (are_lines file.scale features) (rows.written told file layer is features r (none_refused features judged)) reads out);
-        layer_long = λ layer is long steady. refused_by course plain old new n n' status s (ended (codes "layer: too long")) (rows.layer_long told file layer is long) steady;
-        layer_fault = λ layer fault is few reads steady. refused_by course plain old new n n' status s (ended (layer_fault_text file.form fault)) (rows.layer_line told file layer is fault few reads) steady;
+            answered features (done_so course plain.makes_none old new n n' status s (are_lines file.scale features) (rows.written told file layer is features r (none_refused features judged)) reads out);
+        layer_long = λ layer is long steady. refused_by course plain.makes_none old new n n' status s (ended (codes "layer: too long")) (layer_long told file (judged_course file.scale) layer is long) steady;
+        layer_fault = λ layer fault is few reads steady. refused_by course plain.makes_none old new n n' status s (ended (layer_fault_text file.form fault)) (layer_line told file (judged_course file.scale) layer is fault few reads) steady;
         pieces = λ layer features feature is r first many steady.
-            refused_by course plain old new n n' status s (ended pieces_text) (rows.refused_so told file layer is features r pieces_text (first_is features feature pieces_text first (pieces_refused feature.polygons many))) steady;
+            refused_by course plain.makes_none old new n n' status s (ended pieces_text) (rows.refused_so told file layer is features r pieces_text (first_is features feature pieces_text first (pieces_refused feature.polygons many))) steady;
         covers = λ layer features feature is r first many steady.
-            refused_by course plain old new n n' status s (ended covers_text) (rows.refused_so told file layer is features r covers_text (first_is features feature covers_text first (covers_refused feature.polygons many))) steady;
+            refused_by course plain.makes_none old new n n' status s (ended covers_text) (rows.refused_so told file layer is features r covers_text (first_is features feature covers_text first (covers_refused feature.polygons many))) steady;
       }

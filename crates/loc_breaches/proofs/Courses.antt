@@ -1,36 +1,14 @@
--- How far reading a layer and judging its features come along a course.
-use Rattle.std.proofs.Common.{◌≡◌, ℕ, ◌+◌, ◌<◌, List, ◌∷◌, ◌++◌, length, get_or, take, drop, Option, Some, None, Err, refl, sym, ◌∙◌, ap, subst}
+-- How far judging the features of a layer comes along a course.
+use Rattle.std.proofs.Common.{◌≡◌, ℕ, ◌+◌, ◌<◌, List, ◌∷◌, ◌++◌, length, get_or, take, drop, Option, Some, None, refl, sym, ◌∙◌, ap, subst}
 use Rattle.std.proofs.lemmas.List.{at_drop_more, take-append-drop}
 use Rattle.loc_spec_text.specs.Bytes.{Text}
 use Rattle.loc_spec_text.specs.Points.{ended}
-use Rattle.loc_spec_text.specs.declared.Form.{Form}
 use Rattle.loc_rings.specs.Values.{Feature}
-use Rattle.loc_csvform.specs.Faults.{IsFaultOf}
-use Rattle.loc_csvform.specs.Layer.{LayerRead}
-use Rattle.loc_csvform.specs.declared.faults.LayerFault.{LayerFault}
-use Rattle.loc_csvform.specs.declared.faults.LayerFault.TheVariants as l
 use Rattle.loc_course.specs.Courses.{Course, Stopped, no_memory, refused, unread, unwritten, writes}
 use Rattle.loc_course.specs.Following.{Follows, Moment, lacks, refuses_by}
 use Rattle.loc_course.proofs.Told.{exactly_it}
-use Rattle.loc_maps.specs.LineTexts.{layer_fault_text, layer_stop}
-use Rattle.loc_breaches.specs.BreachCourses.{IsRefusedBy, are_lines, first_refusal, judged_course, read_in, refusal_of, refused_or}
+use Rattle.loc_breaches.specs.BreachCourses.{IsRefusedBy, are_lines, first_refusal, judged_course, refusal_of, refused_or}
 use Rattle.loc_breaches.proofs.Refusals.{refused_first}
-
--- the line of a fault, by which a layer is refused
-by_line : (form : Form) (read : LayerRead) (fault : LayerFault) (next : List Feature → Course) (m : Moment) → read ≡ Err fault → Follows (read_in form read next) m m (Some (refused (ended (layer_fault_text form fault))))
-by_line form read fault next m is =
-    let line = ended (layer_fault_text form fault) in
-    subst (λ (r : LayerRead). Follows (read_in form r next) m m (Some (refused line))) (sym is) (refuses_by line (exactly_it line line refl))
-
-pub refuses_read : (form : Form) (read : LayerRead) (fault : LayerFault) (next : List Feature → Course) (m : Moment) → IsFaultOf read fault → Follows (read_in form read next) m m (Some (layer_stop form fault))
-refuses_read form read l.NoMemory next m is = lacks
-refuses_read form read l.NoColumn next m is = by_line form read l.NoColumn next m is
-refuses_read form read (l.Ragged row) next m is = by_line form read (l.Ragged row) next m is
-refuses_read form read (l.BadText row) next m is = by_line form read (l.BadText row) next m is
-refuses_read form read (l.LongId row) next m is = by_line form read (l.LongId row) next m is
-refuses_read form read (l.Text row fault) next m is = by_line form read (l.Text row fault) next m is.0
-refuses_read form read (l.ManyFeatures row) next m is = by_line form read (l.ManyFeatures row) next m is
-refuses_read form read (l.ManyPoints row) next m is = by_line form read (l.ManyPoints row) next m is
 
 -- a layer of which no feature is refused
 pub on_judged : (scale : ℕ) (layer : List Feature) → first_refusal layer ≡ None → judged_course scale layer ≡ writes (are_lines scale layer)

@@ -9,8 +9,8 @@ use Rattle.loc_course.specs.Outcomes.{exactly}
 use Rattle.loc_course.specs.Sentences.{IsPlain}
 use Rattle.loc_course.proofs.Plain.{plain_reads, plain_refuses, plain_writes}
 use Rattle.loc_maps.specs.LineTexts.{layer_fault_text}
-use Rattle.loc_maps.specs.MapCourses.{LayerFile}
-use Rattle.loc_breaches.specs.BreachCourses.{are_lines, first_refusal, judged_course, read_in, refused_or, valid_course}
+use Rattle.loc_maps.specs.MapCourses.{LayerFile, read_in}
+use Rattle.loc_breaches.specs.BreachCourses.{are_lines, first_refusal, judged_course, refused_or, valid_course}
 
 refused_plain : (refusal : Option Text) (next : Course) → IsPlain next → IsPlain (refused_or refusal next)
 refused_plain None next plain = plain

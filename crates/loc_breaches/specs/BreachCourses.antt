@@ -2,8 +2,8 @@
 --   crossings, said_of, breaches_of  the pairs of edges that cross; what may be said of a feature: of crossings any, else the first breach
 --   is_uncrossed, has_many_pieces_of, has_many_covers_of, refusal_of, first_refusal, IsRefusedBy  why a feature is not judged, and the first of a layer that is not
 --   AreLines, are_lines              a text has a line for each feature, in order
---   read_in, judged_course, valid_course  a layer's text is read, its features are judged, and both of a file
-use Rattle.std.specs.Prelude.{◌≡◌, ℕ, ◌+◌, Bool, true, false, ◌&&◌, List, [], ◌∷◌, ◌++◌, length, map, filter, find, take, drop, nat_lt, codes, Option, Some, None, Ok, Err, ⊤, if◌then◌else◌}
+--   judged_course, valid_course  the features of a layer are judged, and those of a file
+use Rattle.std.specs.Prelude.{◌≡◌, ℕ, ◌+◌, Bool, true, false, ◌&&◌, List, [], ◌∷◌, ◌++◌, length, map, filter, find, take, drop, nat_lt, Option, Some, None, ⊤, if◌then◌else◌}
 use Rattle.std.specs.List.{flat_map, list_any}
 use Rattle.std.specs.Option.{is_none}
 use Rattle.std.specs.Str.{bytes_eq}
@@ -12,19 +12,16 @@ use Rattle.loc_spec_plane.specs.Rings.{Rings}
 use Rattle.loc_spec_plane.specs.Tables.{corner_numbers, edge, edge_numbers, piece_count}
 use Rattle.loc_spec_text.specs.Bytes.{Text, or_else}
 use Rattle.loc_spec_text.specs.Points.{ended}
-use Rattle.loc_spec_text.specs.declared.Form.{Form}
 use Rattle.loc_spec_valid.specs.Breaches.{Breach, IsBreachOf, crossing, feature_rings, first_pair, first_point_ring, is_crossing, is_pinch, is_twice, later_breach, point_ring, ring_numbers, ring_table}
 use Rattle.loc_spec_valid.specs.BreachTexts.{breach_line}
 use Rattle.loc_rings.specs.Values.{Feature}
-use Rattle.loc_csvform.specs.Layer.{LayerRead, layer_of}
 use Rattle.loc_cover.specs.Legends.{most_members}
 use Rattle.loc_node.specs.Pieces.{most_pieces}
 use Rattle.loc_faces.specs.Subdivision.{face_at, next_at}
-use Rattle.loc_course.specs.Courses.{Course, Stopped, no_memory, reads, refused, refuses, unread, unwritten, writes}
+use Rattle.loc_course.specs.Courses.{Course, Stopped, no_memory, refused, refuses, unread, unwritten, writes}
 use Rattle.loc_course.specs.Outcomes.{exactly}
-use Rattle.loc_course.specs.Stops.{source}
-use Rattle.loc_maps.specs.LineTexts.{covers_text, layer_fault_text, pieces_text}
-use Rattle.loc_maps.specs.MapCourses.{LayerFile, limit}
+use Rattle.loc_maps.specs.LineTexts.{covers_text, pieces_text}
+use Rattle.loc_maps.specs.MapCourses.{LayerFile, read_course}
 
 -- ---- what may be said of a feature
 -- the pairs of edges that cross
@@ -90,11 +87,6 @@ are_lines scale [] text = bytes_eq text []
 are_lines scale (f ∷ fs) text = list_any (λ breach. goes_on (breach_line scale f.id breach) (are_lines scale fs) text) (breaches_of f.polygons)
 
 -- ---- the courses
--- a text is read as a layer, or refused by the line of its fault
-abbrev pub read_in : Form → LayerRead → (List Feature → Course) → Course
-read_in form (Ok layer) next = next layer
-read_in form (Err fault) next = refuses (exactly (ended (layer_fault_text form fault)))
-
 -- refused by this line, if there is one
 abbrev pub refused_or : Option Text → Course → Course
 refused_or None next = next
@@ -106,4 +98,4 @@ judged_course scale layer = refused_or (first_refusal layer) (writes (are_lines 
 
 -- a layer's file is read, and its features are judged
 abbrev pub valid_course : LayerFile → Course
-valid_course file = reads (source file.name limit (ended (codes "layer: too long"))) (λ text. read_in file.form (layer_of file.form file.scale text) (judged_course file.scale))
+valid_course file = read_course file (judged_course file.scale)

@@ -1,9 +1,8 @@
 -- What `valid` answers whose layer is told, in the words of its user. The words:
---   IsRead       a text reads as a layer
 --   IsJudged     a feature is judged
 --   IsFirst      a feature of a layer, those before which are judged
 --   Judges       all that a user is told
-use Rattle.std.specs.Prelude.{◌≡◌, ℕ, ◌<◌, ◌≤◌, ◌++◌, ◌∷◌, All, List, length, Ok, Err, codes}
+use Rattle.std.specs.Prelude.{◌≡◌, ℕ, ◌<◌, ◌≤◌, ◌++◌, ◌∷◌, All, List, length, Err, codes}
 use Rattle.std.specs.Io.KnownBytes.{Appends}
 use Rattle.loc_io.specs.Streams.{Stream}
 use Rattle.loc_io.specs.Meaning.{holds}
@@ -16,14 +15,9 @@ use Rattle.loc_valid.specs.Judged.{HasManyCovers, HasManyPieces}
 use Rattle.loc_course.specs.Moments.{Moment}
 use Rattle.loc_course.specs.Sentences.{Steady}
 use Rattle.loc_maps.specs.LineTexts.{covers_text, layer_fault_text, pieces_text}
-use Rattle.loc_maps.specs.MapCourses.{LayerFile, limit}
+use Rattle.loc_maps.specs.MapCourses.{IsRead, LayerFile, limit}
 use Rattle.loc_told.specs.Answers.{IsRefused, OrMemory}
 use Rattle.loc_breaches.specs.BreachCourses.{AreLines}
-
--- the text is within the limit and reads as a layer of these features
-pub record IsRead (file : LayerFile) (layer : Text) (features : List Feature) : Type 0 where
-  pub within : length layer ≤ limit
-  pub reads : layer_of file.form file.scale layer ≡ Ok features
 
 -- neither the pieces nor the cover lists of the feature's rings keep it from being judged
 pub record IsJudged (feature : Feature) : Type 0 where

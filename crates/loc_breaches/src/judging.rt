@@ -12,10 +12,9 @@ ghost use Rattle.loc_maps.specs.MapCourses.{layer_file};
 ghost use Rattle.loc_breaches.specs.BreachCourses.{AreLines, IsRefusedBy, are_lines, judged_course, refusal_of, valid_course};
 
 use crate::lines::push_line;
-use crate::reading::read_file;
 use loc_course::{Scale, Stop, write_out};
 use loc_io::{Shelf, Sink};
-use loc_maps::{covers_line, pieces_line};
+use loc_maps::{covers_line, pieces_line, read_features_file};
 use loc_rings::{Feature, Layer};
 use loc_spec_text::Form;
 use loc_valid::{Breach, ValidFault, judge};
@@ -60,7 +59,7 @@ pub fn valid<F: Shelf, O: Sink>(
 ) -> Result<(), Stop>
     ensures { (k : ℕ) → Follows (valid_course (layer_file layer_name.now form scale)) (moment (F.meaning shelf.old) (O.meaning out.old) k) (moment (F.meaning shelf.new) (O.meaning out.new) k) (end_of result) }
 {
-    let layer = read_file(alloc, shelf, layer_name, form, scale)?;
+    let layer = read_features_file(alloc, shelf, layer_name, form, scale)?;
     let text = judged_lines(alloc, &layer, scale)?;
     write_out(out, &text)
 }

@@ -4,7 +4,6 @@
 mod judging;
 mod laws;
 mod lines;
-mod reading;
 
 pub use judging::valid;
 pub use laws::valid_law;

@@ -19,7 +19,7 @@ use std::marker::Model;
 /// above each edge by its number among them, and the floor of each corner.
 #[derive(Drop)]
 pub struct Legend {
-    ids: Vec<Vec<u8>>,
+    ids: Rows<u8>,
     on_corner: Rows<u32>,
     on_edge: Rows<u32>,
     lists: Rows<u32>,
@@ -28,13 +28,12 @@ pub struct Legend {
 }
 
 impl Model for Legend {
-    ghost use Rattle.std.specs.Prelude.{map};
     ghost use Rattle.loc_cover.specs.Legends.{IsSound, LegendRows};
 
     ghost Value = { LegendRows };
 
     ghost view = { λ l. record {
-      ids = map (λ id. id.items) l.ids.items;
+      ids = l.ids;
       on_corner = l.on_corner;
       on_edge = l.on_edge;
       lists = l.lists;
@@ -43,7 +42,7 @@ impl Model for Legend {
     } };
 
     ghost invariant = { λ l. IsSound (record {
-      ids = map (λ id. id.items) l.ids.items;
+      ids = l.ids;
       on_corner = l.on_corner;
       on_edge = l.on_edge;
       lists = l.lists;
@@ -53,7 +52,7 @@ impl Model for Legend {
 }
 
 // Lists one behind another.
-fn flat(alloc: Global, lists: &[Vec<u32>]) -> Result<Rows<u32>, AllocError>
+fn rows_of<T: Copy>(alloc: Global, lists: &[Vec<T>]) -> Result<Rows<T>, AllocError>
     ensures { IfOk result (λ rows. rows ≡ map (λ list. list.items) lists.now) }
 {
     let mut rows = Rows::new(alloc);
@@ -61,6 +60,13 @@ fn flat(alloc: Global, lists: &[Vec<u32>]) -> Result<Rows<u32>, AllocError>
         rows.push(list)?;
     }
     Ok(rows)
+}
+
+// The same of lists that are let go.
+fn flat<T: Copy + Drop>(alloc: Global, lists: Vec<Vec<T>>) -> Result<Rows<T>, AllocError>
+    ensures { IfOk result (λ rows. rows ≡ map (λ list. list.items) lists.items) }
+{
+    rows_of(alloc, &lists)
 }
 
 impl Legend {
@@ -135,7 +141,7 @@ impl Legend {
         ensures floors { IfOk result (λ rows. rows.floors ≡ floors.items) }
         ensures fits { IfOk result (FitsTable table.now) }
     {
-        let lists = flat(alloc, &covers)?;
+        let lists = flat(alloc, covers)?;
         Legend::assemble(alloc, table, ids, lists, cover_of, floors)
     }
 
@@ -163,6 +169,7 @@ impl Legend {
         ensures fits { IfOk result (FitsTable table.now) }
     {
         table.law();
+        let ids = flat(alloc, ids)?;
         let on_corner = touching_corners(alloc, table)?;
         let on_edge = touching_edges(alloc, table)?;
         Ok(Legend {
@@ -218,7 +225,7 @@ impl Legend {
         requires { feature < length self.now.ids }
         ensures { slice_get self.now.ids feature ≡ Some result.now }
     {
-        self.ids[feature as usize].as_slice()
+        self.ids.row(feature as usize)
     }
 
     /// The features that touch corner n, in order.

@@ -1,12 +1,12 @@
 // The groups as a layer in form csv.
 
-ghost use Rattle.std.specs.Prelude.{◌≤◌, ◌∷◌, ◌++◌, codes, map};
+ghost use Rattle.std.specs.Prelude.{◌≤◌, ◌++◌, ℕ, List, codes, map};
 ghost use Rattle.std.specs.List.{flat_map};
 ghost use Rattle.loc_io.specs.Streams.{TakesAll};
 ghost use Rattle.loc_page.specs.Puts.{PutsText};
 ghost use Rattle.loc_spec_text.specs.Points.{position_text};
 ghost use Rattle.loc_dissolve.specs.Writing.{closed_text};
-ghost use Rattle.loc_spec_groups.specs.GroupTexts.{dissolved_text, group_row, listed, polygon_text, polygons_text, ring_text};
+ghost use Rattle.loc_spec_groups.specs.GroupTexts.{dissolved_text, enclosed, group_row, listed, polygon_text, polygons_text, ring_text};
 
 use crate::groups::{Dissolved, Group, Polygon, Ring};
 use loc_batch::put_doubled;
@@ -62,128 +62,94 @@ fn put_closed<O: Sink>(
     put_position(page, sink, *first, scale)
 }
 
-// A ring, closed by its first corner.
-fn put_ring<O: Sink>(
-    page: &mut Page,
-    sink: &mut O,
-    ring: &Ring,
-    scale: u8,
-) -> Result<(), WriteFault>
-    requires scale { scale ≤ 15 }
-    ensures { PutsText (ring_text scale ring.now) (O.meaning sink.old) (O.meaning sink.new) page.old page.new result }
-{
-    page.put(sink, b"(")?;
-    put_closed(page, sink, ring.corners(), scale)?;
-    page.put(sink, b")")
+// What is written as a text at a scale.
+trait Written {
+    ghost text: { ℕ → Self → List ℕ };
+
+    // Puts the text.
+    fn put<O: Sink>(&self, page: &mut Page, sink: &mut O, scale: u8) -> Result<(), WriteFault>
+        requires { scale ≤ 15 }
+        ensures { PutsText (text scale self.now) (O.meaning sink.old) (O.meaning sink.new) page.old page.new result };
 }
 
-// A further ring, behind a comma.
-fn put_later_ring<O: Sink>(
+// A further item, behind a comma.
+fn put_later<T: Written, O: Sink>(
     page: &mut Page,
     sink: &mut O,
-    ring: &Ring,
+    item: &T,
     scale: u8,
 ) -> Result<(), WriteFault>
     requires scale { scale ≤ 15 }
-    ensures { PutsText (codes ", " ++ ring_text scale ring.now) (O.meaning sink.old) (O.meaning sink.new) page.old page.new result }
+    ensures { PutsText (codes ", " ++ T.text scale item.now) (O.meaning sink.old) (O.meaning sink.new) page.old page.new result }
 {
     page.put(sink, b", ")?;
-    put_ring(page, sink, ring, scale)
+    item.put(page, sink, scale)
 }
 
-// Further rings, each behind a comma.
-fn put_later_rings<O: Sink>(
+// Further items, each behind a comma.
+fn put_all_later<T: Written, O: Sink>(
     page: &mut Page,
     sink: &mut O,
-    rings: &[Ring],
+    items: &[T],
     scale: u8,
 ) -> Result<(), WriteFault>
     requires scale { scale ≤ 15 }
-    ensures { PutsText (flat_map (λ r. codes ", " ++ ring_text scale r) rings.now) (O.meaning sink.old) (O.meaning sink.new) page.old page.new result }
+    ensures { PutsText (flat_map (λ x. codes ", " ++ T.text scale x) items.now) (O.meaning sink.old) (O.meaning sink.new) page.old page.new result }
 {
-    for ring in rings {
-        put_later_ring(page, sink, ring, scale)?;
+    for item in items {
+        put_later(page, sink, item, scale)?;
     }
     Ok(())
 }
 
-// Rings with a comma and a space between them.
-fn put_rings<O: Sink>(
+// Items with a comma and a space between them.
+fn put_listed<T: Written, O: Sink>(
     page: &mut Page,
     sink: &mut O,
-    rings: &[Ring],
+    items: &[T],
     scale: u8,
 ) -> Result<(), WriteFault>
     requires scale { scale ≤ 15 }
-    ensures { PutsText (listed (map (ring_text scale) rings.now)) (O.meaning sink.old) (O.meaning sink.new) page.old page.new result }
+    ensures { PutsText (listed (map (T.text scale) items.now)) (O.meaning sink.old) (O.meaning sink.new) page.old page.new result }
 {
-    let Some((first, later)) = rings.split_first() else {
+    let Some((first, later)) = items.split_first() else {
         return Ok(());
     };
-    put_ring(page, sink, first, scale)?;
-    put_later_rings(page, sink, later, scale)
+    first.put(page, sink, scale)?;
+    put_all_later(page, sink, later, scale)
 }
 
-// A polygon.
-fn put_polygon<O: Sink>(
+// The same in parentheses.
+fn put_enclosed<T: Written, O: Sink>(
     page: &mut Page,
     sink: &mut O,
-    polygon: &Polygon,
+    items: &[T],
     scale: u8,
 ) -> Result<(), WriteFault>
     requires scale { scale ≤ 15 }
-    ensures { PutsText (polygon_text scale polygon.now) (O.meaning sink.old) (O.meaning sink.new) page.old page.new result }
+    ensures { PutsText (enclosed (map (T.text scale) items.now)) (O.meaning sink.old) (O.meaning sink.new) page.old page.new result }
 {
     page.put(sink, b"(")?;
-    put_rings(page, sink, polygon.rings(), scale)?;
+    put_listed(page, sink, items, scale)?;
     page.put(sink, b")")
 }
 
-// A further polygon, behind a comma.
-fn put_later_polygon<O: Sink>(
-    page: &mut Page,
-    sink: &mut O,
-    polygon: &Polygon,
-    scale: u8,
-) -> Result<(), WriteFault>
-    requires scale { scale ≤ 15 }
-    ensures { PutsText (codes ", " ++ polygon_text scale polygon.now) (O.meaning sink.old) (O.meaning sink.new) page.old page.new result }
-{
-    page.put(sink, b", ")?;
-    put_polygon(page, sink, polygon, scale)
-}
+impl Written for Ring {
+    ghost text = { ring_text };
 
-// Further polygons, each behind a comma.
-fn put_later_polygons<O: Sink>(
-    page: &mut Page,
-    sink: &mut O,
-    polygons: &[Polygon],
-    scale: u8,
-) -> Result<(), WriteFault>
-    requires scale { scale ≤ 15 }
-    ensures { PutsText (flat_map (λ q. codes ", " ++ polygon_text scale q) polygons.now) (O.meaning sink.old) (O.meaning sink.new) page.old page.new result }
-{
-    for polygon in polygons {
-        put_later_polygon(page, sink, polygon, scale)?;
+    fn put<O: Sink>(&self, page: &mut Page, sink: &mut O, scale: u8) -> Result<(), WriteFault> {
+        page.put(sink, b"(")?;
+        put_closed(page, sink, self.corners(), scale)?;
+        page.put(sink, b")")
     }
-    Ok(())
 }
 
-// Polygons with a comma and a space between them, in parentheses.
-fn put_enclosed<O: Sink>(
-    page: &mut Page,
-    sink: &mut O,
-    first: &Polygon,
-    later: &[Polygon],
-    scale: u8,
-) -> Result<(), WriteFault>
-    requires scale { scale ≤ 15 }
-    ensures { PutsText (polygons_text scale (first.now ∷ later.now)) (O.meaning sink.old) (O.meaning sink.new) page.old page.new result }
-{
-    page.put(sink, b"(")?;
-    put_polygon(page, sink, first, scale)?;
-    put_later_polygons(page, sink, later, scale)?;
-    page.put(sink, b")")
+impl Written for Polygon {
+    ghost text = { polygon_text };
+
+    fn put<O: Sink>(&self, page: &mut Page, sink: &mut O, scale: u8) -> Result<(), WriteFault> {
+        put_enclosed(page, sink, self.rings(), scale)
+    }
 }
 
 // EMPTY, or the polygons.
@@ -196,10 +162,10 @@ fn put_polygons<O: Sink>(
     requires scale { scale ≤ 15 }
     ensures { PutsText (polygons_text scale polygons.now) (O.meaning sink.old) (O.meaning sink.new) page.old page.new result }
 {
-    match polygons.split_first() {
-        Some((first, later)) => put_enclosed(page, sink, first, later, scale),
-        None => page.put(sink, b"EMPTY"),
+    if polygons.is_empty() {
+        return page.put(sink, b"EMPTY");
     }
+    put_enclosed(page, sink, polygons, scale)
 }
 
 // The row of a group.

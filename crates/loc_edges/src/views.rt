@@ -10,8 +10,7 @@ ghost use Rattle.loc_edges.specs.Ending.{IsBeginning};
 ghost use Rattle.loc_edges.specs.Small.{IsSmallTable};
 
 use crate::table::EdgeTable;
-use loc_geom::laws::point_order;
-use loc_geom::{Point, Side, Steps, lower, side};
+use loc_geom::{Point, Side, Steps, lower};
 use std::cmp::Ordering;
 use std::marker::{Model, PhantomData};
 use std::sync::ledger::Ledger;
@@ -75,8 +74,7 @@ impl<'t, L: Ledger> Views<'t, L> {
         ensures value { IsSide (edge_of self.now edge) p result }
         ensures counted { steps.new ≡ steps.old + 1 }
     {
-        steps.tick();
-        side(self.table.edge(edge), p)
+        steps.side(self.table.edge(edge), p)
     }
 
     /// How a corner stands to p in the order of points. It counts one step.
@@ -85,9 +83,7 @@ impl<'t, L: Ledger> Views<'t, L> {
         ensures value { MatchOrdering result (IsTrue (before (corner_of self.now corner) p)) (IsTrue (same_point (corner_of self.now corner) p)) (IsTrue (before p (corner_of self.now corner))) }
         ensures counted { steps.new ≡ steps.old + 1 }
     {
-        let order = point_order(self.table.corner(corner), p);
-        steps.tick();
-        order
+        steps.compare(self.table.corner(corner), p)
     }
 
     /// Whether edge a is lower than edge b. It says which edge is lower where both are alive at one point and do not conflict.

@@ -8,7 +8,7 @@ use Rattle.loc_spec_plane.specs.Tables.{Table}
 use Rattle.loc_spec_text.specs.Points.{point_of}
 use Rattle.loc_csvform.specs.Layer.{layer_of}
 use Rattle.loc_place.specs.Found.{place_at}
-use Rattle.loc_treeidx.specs.Steps.{most_steps}
+use Rattle.loc_place.specs.Steps.{most_steps}
 use Rattle.loc_course.specs.Outcomes.{exactly}
 use Rattle.loc_course.specs.Sentences.{IsPlain}
 use Rattle.loc_course.proofs.Plain.{plain_reads, plain_refuses, plain_searches, plain_writes}

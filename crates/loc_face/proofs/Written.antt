@@ -9,7 +9,7 @@ use Rattle.loc_spec_plane.specs.Tables.{Table}
 use Rattle.loc_spec_plane.specs.Faces.{face_above, face_count}
 use Rattle.loc_place.specs.Found.{place_at}
 use Rattle.loc_place.specs.Planar.{IsPlanar}
-use Rattle.loc_treeidx.specs.Steps.{most_steps}
+use Rattle.loc_place.specs.Steps.{most_steps}
 use Rattle.loc_half.specs.HalfEdgeLists.{HalfEdgeLists, AreHalfEdges, next_in}
 use Rattle.loc_faces.specs.FaceLists.{FaceLists, AreFaces, face_in}
 use Rattle.loc_faces.specs.FaceTexts.{face_text}

@@ -11,7 +11,7 @@ use Rattle.loc_spec_plane.specs.Tables.{Table}
 use Rattle.loc_spec_plane.specs.Faces.{face_above}
 use Rattle.loc_spec_text.specs.Points.{ended, point_of}
 use Rattle.loc_place.specs.Found.{place_at}
-use Rattle.loc_treeidx.specs.Steps.{most_steps}
+use Rattle.loc_place.specs.Steps.{most_steps}
 use Rattle.loc_faces.specs.FaceTexts.{face_text}
 use Rattle.loc_faces.specs.Subdivision.{face_at, next_at}
 use Rattle.loc_course.specs.Courses.{Course, refuses, searches, writes}

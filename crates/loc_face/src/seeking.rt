@@ -7,7 +7,7 @@ ghost use Rattle.loc_edges.specs.Floors.{AreFloors};
 ghost use Rattle.loc_io.specs.Meaning.{Meaning};
 ghost use Rattle.loc_place.specs.Found.{place_at};
 ghost use Rattle.loc_treeidx.specs.Standing.{AreVersionsOf};
-ghost use Rattle.loc_treeidx.specs.Steps.{most_steps};
+ghost use Rattle.loc_place.specs.Steps.{most_steps};
 ghost use Rattle.loc_course.specs.Courses.{searches, writes};
 ghost use Rattle.loc_course.specs.Following.{Follows, moment};
 ghost use Rattle.loc_course.specs.Outcomes.{exactly};

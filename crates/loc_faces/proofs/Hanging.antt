@@ -9,7 +9,9 @@ use Rattle.loc_spec_plane.specs.Faces.{hangs, least_corner}
 use Rattle.loc_laws_order.proofs.Booleans.{same-from_both}
 use Rattle.loc_half.specs.HalfEdgeLists.{HalfEdgeLists, AreHalfEdges, leader_in, next_in}
 use Rattle.loc_faces.specs.Cycles.{AreHanging, AreLeast, passes_low}
-use Rattle.loc_faces.proofs.Leaders.{leads_within, on_same, same_on, any_member, member_any}
+use Rattle.loc_laws_rays.proofs.Covering.{any-found}
+use Rattle.loc_laws_rays.proofs.Picked.{member_any}
+use Rattle.loc_faces.proofs.Leaders.{leads_within, on_same, same_on}
 
 -- of the half-edges below i, each that passes so is noted, and where it is noted there is one
 pub record IsHangingSoFar (t : Table) (half : HalfEdgeLists) (least : List ℕ) (hanging : List Bool) (i : ℕ) : Type 0 where
@@ -62,7 +64,7 @@ module _ (t : Table) (ok : IsTable t) (half : HalfEdgeLists) (are : AreHalfEdges
       forth : (h : ℕ) → h < half_edge_count t → get_or hanging (leader_in half h) false ≡ true → hangs t (next_in half) h ≡ true
       forth h lt note =
           let found = so_far.met (leader_in half h) (leads_within t ok half are h lt) note in
-          any_member (λ g. (target t g == least_corner t (next_in half) h) && ((edge_of g == edge_of (next_in half g)) || lower_of t (edge_of g) (edge_of (next_in half g)))) found.0 (cycle t (next_in half) h)
+          any-found (λ g. (target t g == least_corner t (next_in half) h) && ((edge_of g == edge_of (next_in half g)) || lower_of t (edge_of g) (edge_of (next_in half g)))) (cycle t (next_in half) h) found.0
           (on_same t ok half are found.0 h (omega (arith, found.1, few)) lt found.2)
           (subst (λ c. ((target t found.0 == c) && ((edge_of found.0 == edge_of (next_in half found.0)) || lower_of t (edge_of found.0) (edge_of (next_in half found.0)))) ≡ true) (low_at found.0 h lt found.2) found.3)
 

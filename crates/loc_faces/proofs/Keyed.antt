@@ -5,7 +5,7 @@ use Rattle.std.proofs.lemmas.Bool.{cases_Bool, cond-true, cond-false, and_from, 
 use Rattle.std.proofs.lemmas.List.{map-append}
 use Rattle.std.proofs.lemmas.List.Elements.{All-cons, All-nil}
 use Rattle.loc_spec_plane.specs.Lists.{is_in, numbers}
-use Rattle.loc_faces.proofs.Leaders.{kept_below}
+use Rattle.loc_laws_rays.proofs.Picked.{kept_below}
 use Rattle.loc_faces.proofs.Numbering.{filter_more}
 
 -- two tests one after the other

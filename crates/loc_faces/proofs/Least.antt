@@ -7,7 +7,8 @@ use Rattle.loc_spec_plane.specs.Faces.{least_corner}
 use Rattle.loc_half.specs.HalfEdgeLists.{HalfEdgeLists, AreHalfEdges, leader_in, next_in}
 use Rattle.loc_half.proofs.Halves.{target-fits}
 use Rattle.loc_faces.specs.Cycles.{AreLeast}
-use Rattle.loc_faces.proofs.Leaders.{leads_within, on_same, same_on, least-le, le-least}
+use Rattle.loc_laws_rays.proofs.Picked.{least-le, le-least}
+use Rattle.loc_faces.proofs.Leaders.{leads_within, on_same, same_on}
 
 -- of the half-edges below i, no note is above where one arrives, and each note is where one arrives, or the number of corners still
 pub record IsLeastSoFar (t : Table) (half : HalfEdgeLists) (least : List ℕ) (i : ℕ) : Type 0 where

@@ -12,7 +12,7 @@ use Rattle.loc_spec_plane.specs.HalfEdges.{half_edge_count, leader}
 use Rattle.loc_spec_plane.specs.Faces.{hangs, leads_face}
 use Rattle.loc_faces.specs.Boundaries.{inner_leaders, leads_hanging, outer_leaders}
 use Rattle.loc_faces.specs.FaceLists.{FaceLists, AreFaces, face_in}
-use Rattle.loc_faces.proofs.Leaders.{all_members, kept_below}
+use Rattle.loc_laws_rays.proofs.Picked.{all_members, kept_below}
 use Rattle.loc_faces.proofs.Numbering.{filter_more, filter_past}
 
 -- two tests that agree below n

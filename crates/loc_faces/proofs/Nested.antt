@@ -16,7 +16,8 @@ use Rattle.loc_laws_order.proofs.TableOrder.{lo_rises}
 use Rattle.loc_half.proofs.Halves.{either_way, edge-fits, origin-up, target-down, target-up, target-fits}
 use Rattle.loc_half.proofs.Orbits.{comes_from, leaves_there}
 use Rattle.loc_faces.specs.Cycles.{AreHanging, AreLeast, face_by}
-use Rattle.loc_faces.proofs.Leaders.{leads, leads_within, member_any, on_same, same_on, least-le}
+use Rattle.loc_laws_rays.proofs.Picked.{member_any, least-le}
+use Rattle.loc_faces.proofs.Leaders.{leads, leads_within, on_same, same_on}
 
 -- the face above the floor of the least corner of a cycle
 abbrev pub face_over : Table → HalfEdgeLists → FloorLists → List ℕ → ℕ → ℕ

@@ -17,7 +17,7 @@ use Rattle.loc_half.proofs.Orbits.{cycle_differs, in_cycle, leader_within, leads
 use Rattle.loc_half.proofs.Permuting.{AllDiffer, differ_from_rising}
 use Rattle.loc_faces.specs.Boundaries.{boundary, inner_leaders, leads_hanging, outer_leaders}
 use Rattle.loc_faces.specs.FaceLists.{FaceLists, AreFaces, face_in}
-use Rattle.loc_faces.proofs.Leaders.{kept_below}
+use Rattle.loc_laws_rays.proofs.Picked.{kept_below}
 
 -- 1 for a test that passes
 abbrev pub one_if : Bool → ℕ

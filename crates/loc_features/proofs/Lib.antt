@@ -1,2 +1,5 @@
+mod Answered
+pub mod Ended
 mod Examples
 mod Named
+mod Naming

@@ -9,8 +9,8 @@ use Rattle.loc_spec_plane.specs.Tables.{Table}
 use Rattle.loc_spec_index.specs.declared.NodeRow.{NodeRow}
 use Rattle.loc_spec_index.specs.Nodes.{Side, Left, Right, child, child_of, row_of, led_to, IsShallow}
 use Rattle.loc_spec_index.specs.Content.{Content, root_of}
-use Rattle.loc_treeidx.specs.Steps.{version_bound, most_steps}
-use Rattle.loc_treeidx.proofs.Halving.{both_within, within_most}
+use Rattle.loc_place.specs.Steps.{version_bound, most_steps}
+use Rattle.loc_place.proofs.SearchBounds.{both_within, within_most}
 use Rattle.loc_file.specs.Depths.{depth_from, is_level, most_of}
 
 module _ (rows : List NodeRow) (version : ℕ) where

@@ -5,6 +5,8 @@ use Rattle.std.specs.Str.{bytes_eq}
 use Rattle.std.proofs.lemmas.Slice.Eq.{bytes_eq-Decides}
 use Rattle.std.specs.Int.{w8, w32, w64, to_be_bytes, from_be_bytes, cast_signed, cast_unsigned}
 use Rattle.std.proofs.lemmas.Nat.{be_bytes_4, be_bytes_8}
+use Rattle.byteorder.specs.Endian.{big_number}
+use Rattle.byteorder.specs.Numbers.{big_from-lt}
 use Rattle.std.proofs.lemmas.Bool.{le-ltb, lt-ltb, ne_eqb, or_from}
 use Rattle.std.proofs.lemmas.Int.{of_z-to_z, to_z-of_z, ints}
 use Rattle.loc_spec_index.specs.declared.IndexFault.{IndexFault}
@@ -46,6 +48,13 @@ one (x ∷ y ∷ ys) value l small is = absurd (omega (arith, l))
 abbrev pub AreBytes : List ℕ → Type 0
 AreBytes bs = (i : ℕ) → get_or bs i 0 < 256
 
+-- the number of four bytes, and of eight, as std has it
+pub word_is : (held : List ℕ) → big_number 4 held ≡ from_be_bytes w32 held
+word_is held = omega arith
+
+pub long_is : (held : List ℕ) → big_number 8 held ≡ from_be_bytes w64 held
+long_is held = omega arith
+
 pub number-read : (bound value : ℕ) (held : List ℕ) {a b : Left} → IsTaken 4 held a b → AreBytes held → value ≡ from_be_bytes w32 held → value < bound → IsRead (number w32 bound value ∷ []) a b
 number-read bound value held t small is lt = read-at (number w32 bound value) 4 held t (be_bytes_4 held value t.as_many small is) (unless-holds _ _ (lt-ltb value bound lt))
 
@@ -85,6 +94,10 @@ coordinate-wrong x z raw size offset held {a} o t is signed sized lt =
 -- a number that was cast and cast back
 pub cast-back : (v : ℤ) (raw : ℕ) → v ≡ cast_signed w64 raw → raw < 2 ^ 64 → cast_signed w64 (cast_unsigned w64 v) ≡ cast_signed w64 raw
 cast-back v raw e fits = ap (λ z. cast_signed w64 (cast_unsigned w64 z)) e ∙ ap (cast_signed w64) (of_z-to_z w64 raw fits)
+
+-- eight bytes are a number below 2 ^ 64
+pub below_64 : (held : List ℕ) → AreBytes held → from_be_bytes w64 held < 2 ^ 64
+below_64 held small = subst (λ n. n < 2 ^ 64) (long_is held) (big_from-lt 0 8 held small)
 
 pub coordinate-short : (x : ℤ) {a : Left} {f : IndexFault} → IsShort 8 a f → IsWrong (coordinate x) a f
 coordinate-short x s = short-at (coordinate x) 8 refl s

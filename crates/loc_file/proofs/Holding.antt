@@ -15,7 +15,7 @@ use Rattle.loc_laws_index.proofs.FileFacts.{Facts, facts}
 use Rattle.loc_laws_index.proofs.HeldTable.{file_holds_table}
 use Rattle.loc_laws_index.proofs.AgreeTable.{content-same}
 use Rattle.loc_file.specs.declared.edges.EdgeOf.{EdgeOf}
-use Rattle.loc_file.specs.Rows.{told, told_source}
+use Rattle.loc_file.specs.Told.{told, told_source}
 use Rattle.loc_file.specs.Keeping.{edge_rows, marks_from, content_of, IsHeld}
 use Rattle.loc_write.proofs.Held.{covers-of}
 use Rattle.loc_edges.specs.Ending.{row_of}

@@ -14,3 +14,4 @@ pub mod Texts
 pub mod TrueSteps
 pub mod Walked
 pub mod Whole
+pub mod ToldEdges

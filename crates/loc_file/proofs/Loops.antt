@@ -4,9 +4,8 @@ use Rattle.std.specs.Prelude.{Option, Some, None}
 use Rattle.std.specs.List.{last_or}
 use Rattle.std.proofs.lemmas.List.{length-append}
 use Rattle.loc_spec_index.specs.declared.IndexFault.{IndexFault}
-use Rattle.loc_spec_index.specs.IndexFile.{Field, rows_from}
-use Rattle.loc_file.specs.Readings.{Left, IsRead, IsRowStop, IsRowsStop, AreRows}
-use Rattle.loc_file.specs.Rows.{alone, rows_of}
+use Rattle.loc_spec_index.specs.IndexFile.{Field, rows_from, rows_of}
+use Rattle.loc_file.specs.Readings.{Left, IsRead, IsRowStop, IsRowsStop, AreRows, alone}
 use Rattle.loc_laws_index.proofs.RightRows.{last-is}
 use Rattle.loc_file.proofs.Steps.{rows-none, rows-more, rows-stop}
 

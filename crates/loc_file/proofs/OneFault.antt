@@ -1,5 +1,5 @@
 -- Bytes are refused by one fault at most, and those of a file by none.
-use Rattle.std.proofs.Common.{◌≡◌, refl}
+use Rattle.std.proofs.Common.{refl}
 use Rattle.loc_laws_index.proofs.OneReading.{one_fault, no_fault_in_file}
 use Rattle.loc_file.specs.Refused.{faulty, unheld, OneRefusal, NoRefusalOfFile}
 

@@ -1,6 +1,5 @@
 -- What a reader of all parts says of the bytes: they are a file, or they have their first fault.
-use Rattle.std.proofs.Common.{◌≡◌, ℕ, ◌+◌, ◌<◌, false, List, ◌++◌, length, refl, sym, ◌∙◌, ap, subst, append-nil, arith}
-use Rattle.std.specs.Prelude.{not}
+use Rattle.std.proofs.Common.{◌≡◌, ℕ, ◌+◌, ◌<◌, List, ◌++◌, length, refl, sym, ◌∙◌, ap, subst, append-nil, arith}
 use Rattle.std.proofs.lemmas.List.{nil_from_length}
 use Rattle.loc_spec_index.specs.declared.IndexFault.{IndexFault}
 use Rattle.loc_spec_index.specs.declared.IndexFault.TheVariants as fault

@@ -4,9 +4,8 @@ use Rattle.std.specs.Prelude.{Result, Ok, Err, IfErr}
 use Rattle.std.specs.Int.{w8}
 use Rattle.std.proofs.lemmas.List.{length-replicate}
 use Rattle.loc_spec_index.specs.declared.IndexFault.{IndexFault}
-use Rattle.loc_spec_index.specs.IndexFile.{number, text}
+use Rattle.loc_spec_index.specs.IndexFile.{number, text, id_fields}
 use Rattle.loc_file.specs.Readings.{Left, IsShort, IsRead, IsWrong, IsRowStop, stop}
-use Rattle.loc_file.specs.Rows.{id_row}
 use Rattle.loc_file.proofs.Fields.{short-at}
 use Rattle.loc_file.proofs.Steps.{read-along, read-next, fault-first, fault-next}
 
@@ -15,10 +14,10 @@ text-short (Ok x) count a h = tt
 text-short (Err f) count a h = λ held as_many. short-at (text held) count as_many h
 
 -- an id whose bytes are wrong: they can be any of this length
-pub at_id : (count : ℕ) {a b : Left} {f : IndexFault} → IsRead (number w8 201 count ∷ []) a b → ((held : List ℕ) → length held ≡ count → IsWrong (text held) b f) → IsRowStop id_row a f
+pub at_id : (count : ℕ) {a b : Left} {f : IndexFault} → IsRead (number w8 201 count ∷ []) a b → ((held : List ℕ) → length held ≡ count → IsWrong (text held) b f) → IsRowStop id_fields a f
 at_id count {f = f} read wrong =
     let l = length-replicate count 0 in
     stop (replicate count 0) f tt (fault-next _ _ (read-along (number w8 201) (sym l) read) (fault-first _ _ (wrong (replicate count 0) l)))
 
-pub id-read : (id held : List ℕ) (count : ℕ) {a b c : Left} → id ≡ held → length held ≡ count → IsRead (number w8 201 count ∷ []) a b → IsRead (text held ∷ []) b c → IsRead (id_row id) a c
+pub id-read : (id held : List ℕ) (count : ℕ) {a b c : Left} → id ≡ held → length held ≡ count → IsRead (number w8 201 count ∷ []) a b → IsRead (text held ∷ []) b c → IsRead (id_fields id) a c
 id-read id held count e l read body = read-next _ _ (read-along (number w8 201) (sym (ap length e ∙ l)) read) (read-along text (sym e) body)

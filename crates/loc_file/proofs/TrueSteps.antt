@@ -14,9 +14,9 @@ use Rattle.loc_laws_index.proofs.FlawKinds.{as_many, as_many_corners}
 use Rattle.loc_place.specs.Standing.{IsBehind}
 use Rattle.loc_place.proofs.Behind.{alive_is}
 use Rattle.loc_status.proofs.AtCorner.{alive_at_corner}
-use Rattle.loc_treeidx.specs.Steps.{alive_count, search_bound, most_steps}
-use Rattle.loc_treeidx.proofs.Halving.{both_within}
-use Rattle.loc_treeidx.proofs.Standing.{alive_few, square_rises}
+use Rattle.loc_place.specs.Steps.{alive_count, search_bound, most_steps}
+use Rattle.loc_place.proofs.SearchBounds.{both_within}
+use Rattle.loc_place.proofs.ListCounts.{alive_few, square_rises}
 use Rattle.loc_file.specs.Searches.{IsIndexFor}
 use Rattle.loc_file.specs.Depths.{depth_from, most_of}
 use Rattle.loc_file.proofs.Deep.{depth-shallow, level-from}

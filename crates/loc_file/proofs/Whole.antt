@@ -1,54 +1,35 @@
 -- A file as its parts: the fields of a content are those of its header and of its rows, and where a part stops, the rest can be any.
-use Rattle.std.proofs.Common.{◌≡◌, ℕ, ◌+◌, Bool, true, false, ◌&&◌, ◌||◌, List, [], ◌∷◌, ◌++◌, length, map, refl, sym, ◌∙◌, ap, append-nil, subst}
-use Rattle.std.specs.Prelude.{Option, Some, None, if◌then◌else◌}
+use Rattle.std.proofs.Common.{◌≡◌, ℕ, ◌+◌, Bool, true, false, ◌||◌, List, [], ◌∷◌, ◌++◌, length, map, refl, sym, ◌∙◌, ap, ap₂, append-nil, subst}
+use Rattle.std.specs.Prelude.{Option, None, if◌then◌else◌}
 use Rattle.std.specs.Int.{w32}
-use Rattle.std.specs.List.{flat_map, list_all, last_or}
+use Rattle.std.specs.List.{flat_map, list_all}
 use Rattle.std.proofs.lemmas.Bool.{and_from, eq-eqb}
 use Rattle.std.proofs.lemmas.List.{length-map}
 use Rattle.loc_spec_plane.specs.Points.{Point}
 use Rattle.loc_spec_plane.specs.declared.Mark.{Mark}
 use Rattle.loc_spec_index.specs.declared.IndexFault.{IndexFault}
 use Rattle.loc_spec_index.specs.declared.NodeRow.{NodeRow}
-use Rattle.loc_spec_index.specs.declared.Part.TheVariants.{Edges}
-use Rattle.loc_spec_index.specs.Content.{Content, EdgeRow}
-use Rattle.loc_spec_index.specs.IndexFile.{Field, number, order, fields, rows_from, edge_fields, edge_row_before, none_or_next, follows, is_own_source, is_rising_pair, names_sources, source_fields, IsShaped}
-use Rattle.loc_laws_index.proofs.AgreeTable as table
-use Rattle.loc_laws_index.proofs.Progress.{flat-rows, header_of, map-rows, same-numbers}
+use Rattle.loc_spec_index.specs.Content.{Content}
+use Rattle.loc_spec_index.specs.IndexFile.{Field, number, fields, rows_from, edge_fields, edge_row, header_of, is_own_source, names_sources, parts_behind, IsShaped, corner_row, cover_fields, floor_field, id_fields, mark_row, node_fields, rows_of}
+use Rattle.loc_laws_index.proofs.Progress.{flat-rows, map-rows, same-numbers}
 use Rattle.loc_file.specs.declared.edges.EdgeOf.{EdgeOf}
 use Rattle.loc_file.specs.declared.header.Header.{Header}
-use Rattle.loc_file.specs.Readings.{Left, IsRead, IsFaultIn, IsStop, stop}
-use Rattle.loc_file.specs.Rows.{told, told_source, alone, rows_of, header_row, id_row, corner_row, edge_of_before, edge_row, mark_row, cover_rows, floor_row, number_row, node_row}
+use Rattle.loc_file.specs.Readings.{Left, IsRead, IsFaultIn, IsStop, stop, alone, one}
+use Rattle.loc_file.specs.Told.{header_row, told, told_row}
+use Rattle.loc_file.proofs.ToldEdges.{last-told}
 
 -- ---- rows as the definition has them
 
-last-told : (v : ℕ) (o : Option EdgeOf) (p : Option EdgeRow) (es : List EdgeOf) (e : EdgeOf) → follows edge_row_before p (told v e) ≡ follows edge_of_before o e → follows edge_row_before (last_or p (map (told v) es)) (told v e) ≡ follows edge_of_before (last_or o es) e
-last-told v o p [] e h = h
-last-told v o p (d ∷ es) e h = last-told v (Some d) (Some (told v d)) es e refl
-
--- the fields of a source are those of the one that is told
-told-source : (v nv : ℕ) (e : EdgeOf) → source_fields v nv (told_source v e) ≡ source_fields v nv e.source
-told-source v nv e = by (names_sources v)
-  where
-    by : (b : Bool) → (if b then number w32 nv (if b then e.source else e.ends).0 ∷ number w32 nv (if b then e.source else e.ends).1 ∷ [] else []) ≡ (if b then number w32 nv e.source.0 ∷ number w32 nv e.source.1 ∷ [] else [])
-    by true = refl
-    by false = refl
-
--- the fields of an edge, with these of its source, this number and this order
-abbrev fields_by : ℕ → ℕ → ℕ → EdgeOf → List Field → ℕ → Bool → List Field
-fields_by v nv nc e source n t = number w32 nv e.ends.0 ∷ number w32 nv e.ends.1 ∷ number w32 nc e.cover ∷ source ++ order Edges n ((is_rising_pair e.ends && is_rising_pair (told_source v e)) && t) ∷ []
-
-told-rows : (v nv nc : ℕ) (earlier es : List EdgeOf) → rows_from (edge_fields v nv nc) (map (told v) earlier) (map (told v) es) ≡ rows_from (rows_of (edge_row v nv nc)) earlier es
+told-rows : (v nv nc : ℕ) (earlier es : List EdgeOf) → rows_from (edge_fields v nv nc) (map (told v) earlier) (map (told v) es) ≡ rows_from (rows_of (told_row v nv nc)) earlier es
 told-rows v nv nc earlier [] = refl
-told-rows v nv nc earlier (e ∷ es) = ap (λ l. l ++ rows_from (edge_fields v nv nc) (map (told v) earlier ++ told v e ∷ []) (map (told v) es)) row ∙ ap (λ l. rows_of (edge_row v nv nc) earlier e ++ l) (ap (λ l. rows_from (edge_fields v nv nc) l (map (told v) es)) (pushed earlier) ∙ told-rows v nv nc (earlier ++ e ∷ []) es)
+told-rows v nv nc earlier (e ∷ es) = ap (λ l. l ++ rows_from (edge_fields v nv nc) (map (told v) earlier ++ told v e ∷ []) (map (told v) es)) row ∙ ap (λ l. rows_of (told_row v nv nc) earlier e ++ l) (ap (λ l. rows_from (edge_fields v nv nc) l (map (told v) es)) (pushed earlier) ∙ told-rows v nv nc (earlier ++ e ∷ []) es)
   where
     pushed : (xs : List EdgeOf) → map (told v) xs ++ told v e ∷ [] ≡ map (told v) (xs ++ e ∷ [])
     pushed [] = refl
     pushed (x ∷ xs) = ap (λ l. told v x ∷ l) (pushed xs)
 
-    row : edge_fields v nv nc (map (told v) earlier) (told v e) ≡ rows_of (edge_row v nv nc) earlier e
-    row = ap (λ n. fields_by v nv nc e (source_fields v nv (told_source v e)) n (follows edge_row_before (last_or None (map (told v) earlier)) (told v e))) (length-map earlier (told v))
-        ∙ (ap (λ t. fields_by v nv nc e (source_fields v nv (told_source v e)) (length earlier) t) (last-told v None None earlier e refl)
-        ∙ ap (λ source. fields_by v nv nc e source (length earlier) (follows edge_of_before (last_or None earlier) e)) (told-source v nv e))
+    row : edge_fields v nv nc (map (told v) earlier) (told v e) ≡ rows_of (told_row v nv nc) earlier e
+    row = ap₂ (λ n o. edge_row v nv nc n o (told v e)) (length-map earlier (told v)) (last-told v None earlier)
 
 -- where a version names no sources, each edge is its own
 all-told : (v : ℕ) (es : List EdgeOf) → (names_sources v || list_all is_own_source (map (told v) es)) ≡ true
@@ -70,8 +51,8 @@ module _ (h : Header) (ids : List (List ℕ)) (corners : List Point) (edges : Li
 
   abbrev pub whole : List Field
   whole =
-      header_row h ++ (rows_from (alone id_row) [] ids ++ (rows_from (rows_of corner_row) [] corners ++ (rows_from (rows_of (edge_row h.version h.corners h.covers)) [] edges ++ (rows_from (rows_of (mark_row h.edges h.features)) [] marks
-      ++ (rows_from (cover_rows h.features) [] covers ++ (rows_from (alone (floor_row h.edges)) [] floors ++ (rows_from (alone (number_row (h.nodes + 1))) [] roots ++ rows_from (alone (node_row h.edges h.corners h.nodes)) [] nodes)))))))
+      header_row h ++ (rows_from (alone id_fields) [] ids ++ (rows_from (rows_of corner_row) [] corners ++ (rows_from (rows_of (told_row h.version h.corners h.covers)) [] edges ++ (rows_from (rows_of (mark_row h.edges h.features)) [] marks
+      ++ (rows_from (cover_fields h.features) [] covers ++ (rows_from (alone (one (floor_field h.edges))) [] floors ++ (rows_from (alone (one (number w32 (h.nodes + 1)))) [] roots ++ rows_from (alone (node_fields h.edges h.corners h.nodes)) [] nodes)))))))
 
   -- as many rows as the header tells
   pub record Fit : Type 0 where
@@ -87,8 +68,8 @@ module _ (h : Header) (ids : List (List ℕ)) (corners : List Point) (edges : Li
   pub fields-whole : Fit → fields h.version content ≡ whole
   unfolding fields
   fields-whole fit =
-      same-numbers (λ a b c d e g. header_of h.version h.scale a b c d e g ++ flat_map (λ part. part) (table.rows_of h.version a b c e g content)) fit.ids_fit fit.corners_fit (length-map edges (told h.version) ∙ fit.edges_fit) fit.marks_fit fit.covers_fit fit.nodes_fit
-      ∙ eight (λ a b c d e g. header_row h ++ (a ++ (rows_from (rows_of corner_row) [] corners ++ (b ++ (rows_from (rows_of (mark_row h.edges h.features)) [] marks ++ (rows_from (cover_rows h.features) [] covers ++ (c ++ (d ++ e)))))))) _ _ _ _ _ _ _ _ _ _ [] [] (sym (flat-rows id_row [] ids)) (told-rows h.version h.corners h.covers [] edges) (sym (map-rows (λ floor. number w32 (h.edges + 1) (none_or_next floor)) [] floors)) (sym (map-rows (number w32 (h.nodes + 1)) [] roots)) (append-nil _ ∙ sym (flat-rows (node_row h.edges h.corners h.nodes) [] nodes)) refl
+      same-numbers (λ a b c d e g. header_of h.version h.scale a b c d e g ++ flat_map (λ part. part) (parts_behind h.version a b c e g content)) fit.ids_fit fit.corners_fit (length-map edges (told h.version) ∙ fit.edges_fit) fit.marks_fit fit.covers_fit fit.nodes_fit
+      ∙ eight (λ a b c d e g. header_row h ++ (a ++ (rows_from (rows_of corner_row) [] corners ++ (b ++ (rows_from (rows_of (mark_row h.edges h.features)) [] marks ++ (rows_from (cover_fields h.features) [] covers ++ (c ++ (d ++ e)))))))) _ _ _ _ _ _ _ _ _ _ [] [] (sym (flat-rows id_fields [] ids)) (told-rows h.version h.corners h.covers [] edges) (sym (map-rows (floor_field h.edges) [] floors)) (sym (map-rows (number w32 (h.nodes + 1)) [] roots)) (append-nil _ ∙ sym (flat-rows (node_fields h.edges h.corners h.nodes) [] nodes)) refl
 
   pub shaped : Fit → IsShaped h.version content
   shaped fit = record { floors = fit.floors_fit ∙ sym fit.corners_fit; roots = fit.roots_fit ∙ sym fit.corners_fit; sources = all-told h.version edges }

@@ -2,7 +2,7 @@
 use Rattle.std.specs.Prelude.{map}
 use Rattle.loc_spec_index.specs.Content.{Content}
 use Rattle.loc_file.specs.declared.parts.Parts.{Parts}
-use Rattle.loc_file.specs.Rows.{told}
+use Rattle.loc_file.specs.Told.{told}
 
 -- the content of all parts that were read
 abbrev pub content_in : Parts → Content

@@ -9,7 +9,7 @@ use Rattle.loc_spec_plane.specs.Tables.{Table}
 use Rattle.loc_spec_index.specs.declared.NodeRow.{NodeRow}
 use Rattle.loc_spec_index.specs.Nodes.{Left, Right, child_of}
 use Rattle.loc_spec_index.specs.Content.{Content, root_of}
-use Rattle.loc_treeidx.specs.Steps.{version_bound, most_steps}
+use Rattle.loc_place.specs.Steps.{version_bound, most_steps}
 
 -- the nodes of the longest path from node n in a version, or the room where it is longer
 unfoldable pub depth_from : List NodeRow → ℕ → ℕ → ℕ → ℕ

@@ -3,7 +3,7 @@ pub mod Depths
 pub mod Keeping
 pub mod Readings
 pub mod Refused
-pub mod Rows
+pub mod Told
 pub mod Searches
 pub mod Standing
 pub mod Written

@@ -6,6 +6,7 @@
 --   IsWrong      what is wrong at a field
 --   IsFaultIn    what is wrong at the first of some fields that is not right
 --   IsStop       why a reader stopped: IsRowStop, of a row; IsRowsStop, of the rows of a part
+--   one, alone   a row that is one field; a row that is told by itself
 --   AreRows      the rows of a part were read, so many
 use Rattle.std.specs.Prelude.{◌≡◌, ℕ, ◌+◌, ◌<◌, List, [], ◌∷◌, ◌++◌, length, Some, IsTrue}
 use Rattle.loc_spec_index.specs.declared.IndexFault.{IndexFault}
@@ -61,6 +62,14 @@ IsRowStop row = IsStop (λ _. Unit {0}) row
 -- of some rows, so many, a field is wrong
 abbrev pub IsRowsStop : {X : Type 0} → (List X → X → List Field) → ℕ → Left → IndexFault → Type 0
 IsRowsStop row count = IsStop (λ xs. length xs ≡ count) (rows_from row [])
+
+-- a row that is one field
+abbrev pub one : {X : Type 0} → (X → Field) → X → List Field
+one field x = field x ∷ []
+
+-- a row that is told by itself
+abbrev pub alone : {X : Type 0} → (X → List Field) → List X → X → List Field
+alone row earlier x = row x
 
 -- these rows, so many, were read
 pub record AreRows {X : Type 0} (row : List X → X → List Field) (count : ℕ) (xs : List X) (earlier later : Left) : Type 0 where

@@ -1,10 +1,9 @@
 // The part of the corners.
 
 ghost use Rattle.std.specs.Prelude.{◌≡◌, IfOk, IfErr};
-ghost use Rattle.loc_spec_index.specs.IndexFile.{follows};
+ghost use Rattle.loc_spec_index.specs.IndexFile.{follows, corner_row, point_fields, rows_of};
 ghost use Rattle.loc_spec_plane.specs.Points.{before};
 ghost use Rattle.loc_file.specs.Readings.{IsRead, IsRowStop, AreRows, IsRowsStop};
-ghost use Rattle.loc_file.specs.Rows.{corner_row, point_row, rows_of};
 
 use crate::cursor::Cursor;
 use crate::rows::keep;
@@ -26,8 +25,8 @@ fn follows(last: Option<Point>, corner: Point) -> bool
 
 // A point by its coordinates.
 fn next_point(cursor: &mut Cursor<'_>) -> Result<Point, IndexFault>
-    ensures ok { IfOk result (λ p. IsRead (point_row p) cursor.old cursor.new) }
-    ensures err { IfErr result (IsRowStop point_row cursor.old) }
+    ensures ok { IfOk result (λ p. IsRead (point_fields p) cursor.old cursor.new) }
+    ensures err { IfErr result (IsRowStop point_fields cursor.old) }
 {
     let x = cursor.coordinate()?;
     let y = cursor.coordinate()?;

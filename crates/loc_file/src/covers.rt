@@ -2,11 +2,11 @@
 
 ghost use Rattle.std.specs.Prelude.{◌≡◌, ◌&&◌, ◌+◌, ◌-◌, ◌≤◌, min, ◌^◌, IfOk, IfErr, nat_lt, None, map, length};
 ghost use Rattle.std.specs.List.{last_or};
+ghost use Rattle.std.specs.Int.{w32};
 ghost use Rattle.loc_spec_plane.specs.Lists.{is_rising};
 ghost use Rattle.loc_spec_plane.specs.Covers.{list_before};
-ghost use Rattle.loc_spec_index.specs.IndexFile.{follows};
-ghost use Rattle.loc_file.specs.Readings.{IsRead, IsRowStop, AreRows, IsRowsStop};
-ghost use Rattle.loc_file.specs.Rows.{alone, cover_row, cover_rows, number_row};
+ghost use Rattle.loc_spec_index.specs.IndexFile.{follows, cover_fields, cover_row, number};
+ghost use Rattle.loc_file.specs.Readings.{IsRead, IsRowStop, AreRows, IsRowsStop, alone, one};
 
 use crate::cursor::Cursor;
 use crate::rows::keep;
@@ -23,9 +23,9 @@ fn read_members(
     features: u32,
     count: u32,
 ) -> Result<(Vec<u32>, bool), IndexFault>
-    ensures ok { IfOk result (λ found. AreRows (alone (number_row features)) count found.0.items cursor.old cursor.new) }
+    ensures ok { IfOk result (λ found. AreRows (alone (one (number w32 features))) count found.0.items cursor.old cursor.new) }
     ensures rising { IfOk result (λ found. found.1 ≡ is_rising nat_lt found.0.items) }
-    ensures err { IfErr result (IsRowsStop (alone (number_row features)) count cursor.old) }
+    ensures err { IfErr result (IsRowsStop (alone (one (number w32 features))) count cursor.old) }
 {
     let mut members = Vec::new(alloc);
     let mut last = None;
@@ -112,8 +112,8 @@ pub(crate) fn read_covers(
     count: u32,
 ) -> Result<Vec<Vec<u32>>, IndexFault>
     requires { features ≤ 2 ^ 18 }
-    ensures ok { IfOk result (λ lists. AreRows (cover_rows features) count (map (λ list. list.items) lists.items) cursor.old cursor.new) }
-    ensures err { IfErr result (IsRowsStop (cover_rows features) count cursor.old) }
+    ensures ok { IfOk result (λ lists. AreRows (cover_fields features) count (map (λ list. list.items) lists.items) cursor.old cursor.new) }
+    ensures err { IfErr result (IsRowsStop (cover_fields features) count cursor.old) }
 {
     let mut lists = Vec::new(alloc);
     let mut members = 0;

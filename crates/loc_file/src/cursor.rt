@@ -6,6 +6,7 @@ ghost use Rattle.loc_spec_plane.specs.Points.{OnGrid};
 ghost use Rattle.loc_spec_index.specs.IndexFile.{bit, number, coordinate, text, order};
 ghost use Rattle.loc_file.specs.Readings.{Left, IsTaken, IsShort, IsRead, IsWrong};
 
+use byteorder::{BigEndian, ByteOrder};
 use loc_spec_index::{IndexFault, Part};
 use std::marker::Model;
 
@@ -91,7 +92,8 @@ impl<'a> Cursor<'a> {
     {
         let offset = self.offset();
         let held = self.take(4)?;
-        let value = u32::from_be_bytes([held[0], held[1], held[2], held[3]]);
+        let _first = held[0]; // tells that bytes are below 256
+        let value = BigEndian::read_u32(held);
         if value >= bound {
             return Err(IndexFault::Field {
                 offset,
@@ -137,10 +139,8 @@ impl<'a> Cursor<'a> {
     {
         let offset = self.offset();
         let held = self.take(8)?;
-        let raw = u64::from_be_bytes([
-            held[0], held[1], held[2], held[3], held[4], held[5], held[6], held[7],
-        ]);
-        let value = raw.cast_signed();
+        let _first = held[0]; // tells that bytes are below 256
+        let value = BigEndian::read_i64(held);
         let size = value.unsigned_abs();
         if size > LIMIT {
             return Err(IndexFault::Field {

@@ -1,10 +1,10 @@
 // The part of the edges.
 
-ghost use Rattle.std.specs.Prelude.{◌≡◌, ◌&&◌, IfOk, IfErr};
+ghost use Rattle.std.specs.Prelude.{◌≡◌, ◌&&◌, ℕ, IfOk, IfErr, option_map};
 ghost use Rattle.loc_spec_plane.specs.Tables.{pair_before};
-ghost use Rattle.loc_spec_index.specs.IndexFile.{follows, is_rising_pair, source_fields};
+ghost use Rattle.loc_spec_index.specs.IndexFile.{edge_row_before, follows, is_rising_pair, rows_of, source_fields};
 ghost use Rattle.loc_file.specs.Readings.{IsRead, IsRowStop, AreRows, IsRowsStop};
-ghost use Rattle.loc_file.specs.Rows.{edge_row, edge_of_before, rows_of, told_source};
+ghost use Rattle.loc_file.specs.Told.{told, told_row, told_source};
 
 use crate::cursor::Cursor;
 use crate::rows::keep;
@@ -35,7 +35,7 @@ pub(crate) fn is_before(a: (u32, u32), b: (u32, u32)) -> bool
 
 // Whether an edge comes behind the one before it, if there is one.
 fn follows(last: Option<EdgeOf>, edge: EdgeOf) -> bool
-    ensures { result ≡ follows edge_of_before last edge }
+    ensures { (v : ℕ) → result ≡ follows edge_row_before (option_map (told v) last) (told v edge) }
 {
     match last {
         None => true,
@@ -52,7 +52,7 @@ fn goes_up(pair: (u32, u32)) -> bool
 
 // Whether an edge and its source go up, and the edge comes behind the one before it.
 fn is_in_order(version: u32, last: Option<EdgeOf>, edge: EdgeOf) -> bool
-    ensures { result ≡ ((is_rising_pair edge.ends && is_rising_pair (told_source version edge)) && follows edge_of_before last edge) }
+    ensures { result ≡ ((is_rising_pair edge.ends && is_rising_pair (told_source version edge)) && follows edge_row_before (option_map (told version) last) (told version edge)) }
 {
     goes_up(edge.ends) && goes_up(source_of(version, edge)) && follows(last, edge)
 }
@@ -84,8 +84,8 @@ fn next_edge(
     row: u32,
     last: Option<EdgeOf>,
 ) -> Result<EdgeOf, IndexFault>
-    ensures ok { IfOk result (λ e. IsRead (edge_row version corners covers row last e) cursor.old cursor.new) }
-    ensures err { IfErr result (IsRowStop (edge_row version corners covers row last) cursor.old) }
+    ensures ok { IfOk result (λ e. IsRead (told_row version corners covers row last e) cursor.old cursor.new) }
+    ensures err { IfErr result (IsRowStop (told_row version corners covers row last) cursor.old) }
 {
     let lower = cursor.number(corners)?;
     let upper = cursor.number(corners)?;
@@ -109,8 +109,8 @@ pub(crate) fn read_edges(
     covers: u32,
     count: u32,
 ) -> Result<Vec<EdgeOf>, IndexFault>
-    ensures ok { IfOk result (λ edges. AreRows (rows_of (edge_row version corners covers)) count edges.items cursor.old cursor.new) }
-    ensures err { IfErr result (IsRowsStop (rows_of (edge_row version corners covers)) count cursor.old) }
+    ensures ok { IfOk result (λ edges. AreRows (rows_of (told_row version corners covers)) count edges.items cursor.old cursor.new) }
+    ensures err { IfErr result (IsRowsStop (rows_of (told_row version corners covers)) count cursor.old) }
 {
     let mut edges = Vec::new(alloc);
     let mut last = None;

@@ -1,8 +1,9 @@
 // The parts of the floors and of the roots.
 
 ghost use Rattle.std.specs.Prelude.{◌+◌, ◌<◌, ◌^◌, IfOk, IfErr};
-ghost use Rattle.loc_file.specs.Readings.{IsRead, IsRowStop, AreRows, IsRowsStop};
-ghost use Rattle.loc_file.specs.Rows.{alone, floor_row, number_row};
+ghost use Rattle.std.specs.Int.{w32};
+ghost use Rattle.loc_spec_index.specs.IndexFile.{floor_field, number};
+ghost use Rattle.loc_file.specs.Readings.{IsRead, IsRowStop, AreRows, IsRowsStop, alone, one};
 
 use crate::cursor::Cursor;
 use crate::rows::keep;
@@ -12,8 +13,8 @@ use std::alloc::Global;
 // The floor of a corner, or none.
 fn next_floor(cursor: &mut Cursor<'_>, edges: u32) -> Result<Option<u32>, IndexFault>
     requires { edges < 2 ^ 31 }
-    ensures ok { IfOk result (λ floor. IsRead (floor_row edges floor) cursor.old cursor.new) }
-    ensures err { IfErr result (IsRowStop (floor_row edges) cursor.old) }
+    ensures ok { IfOk result (λ floor. IsRead (one (floor_field edges) floor) cursor.old cursor.new) }
+    ensures err { IfErr result (IsRowStop (one (floor_field edges)) cursor.old) }
 {
     let number = cursor.number(edges + 1)?;
     if number == 0 {
@@ -31,8 +32,8 @@ pub(crate) fn read_floors(
     count: u32,
 ) -> Result<Vec<Option<u32>>, IndexFault>
     requires { edges < 2 ^ 31 }
-    ensures ok { IfOk result (λ floors. AreRows (alone (floor_row edges)) count floors.items cursor.old cursor.new) }
-    ensures err { IfErr result (IsRowsStop (alone (floor_row edges)) count cursor.old) }
+    ensures ok { IfOk result (λ floors. AreRows (alone (one (floor_field edges))) count floors.items cursor.old cursor.new) }
+    ensures err { IfErr result (IsRowsStop (alone (one (floor_field edges))) count cursor.old) }
 {
     let mut floors = Vec::new(alloc);
     for _row in 0..count {
@@ -49,8 +50,8 @@ pub(crate) fn read_roots(
     bound: u32,
     count: u32,
 ) -> Result<Vec<u32>, IndexFault>
-    ensures ok { IfOk result (λ roots. AreRows (alone (number_row bound)) count roots.items cursor.old cursor.new) }
-    ensures err { IfErr result (IsRowsStop (alone (number_row bound)) count cursor.old) }
+    ensures ok { IfOk result (λ roots. AreRows (alone (one (number w32 bound))) count roots.items cursor.old cursor.new) }
+    ensures err { IfErr result (IsRowsStop (alone (one (number w32 bound))) count cursor.old) }
 {
     let mut roots = Vec::new(alloc);
     for _row in 0..count {

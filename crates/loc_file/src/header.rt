@@ -3,9 +3,10 @@
 ghost use Rattle.std.specs.Prelude.{◌≡◌, ℕ, ◌*◌, ◌^◌, ◌≤◌, ◌<◌, [], ◌∷◌, IfOk, IfErr, OnOk, codes};
 ghost use Rattle.loc_spec_index.specs.IndexFile.{magic, most_edges, version};
 ghost use Rattle.loc_file.specs.Readings.{IsRead, IsWrong, IsRowStop};
-ghost use Rattle.loc_file.specs.Rows.{header_row};
+ghost use Rattle.loc_file.specs.Told.{header_row};
 
 use crate::cursor::Cursor;
+use byteorder::{BigEndian, ByteOrder};
 use loc_spec_index::IndexFault;
 
 // How many features and corners there may be.
@@ -48,7 +49,8 @@ fn read_version(cursor: &mut Cursor<'_>) -> Result<u32, IndexFault>
     ensures err { IfErr result (λ f. (v : ℕ) → IsWrong (version v) cursor.old f) }
 {
     let held = cursor.take(4)?;
-    let found = u32::from_be_bytes([held[0], held[1], held[2], held[3]]);
+    let _first = held[0]; // tells that bytes are below 256
+    let found = BigEndian::read_u32(held);
     if found == 1 {
         return Ok(found);
     }

@@ -9,7 +9,7 @@ ghost use Rattle.loc_file.specs.declared.edges.EdgeOf.{EdgeOf as Edge};
 ghost use Rattle.loc_file.specs.Contents.{content_in};
 ghost use Rattle.loc_file.specs.Written.{WritesFile};
 ghost use Rattle.loc_file.specs.Refused.{IsRefused};
-ghost use Rattle.loc_file.specs.Rows.{told_source};
+ghost use Rattle.loc_file.specs.Told.{told_source};
 ghost use Rattle.loc_file.specs.Searches.{IsNodeIn};
 
 use crate::cursor::Cursor;

@@ -1,8 +1,8 @@
 // The part of the ids.
 
 ghost use Rattle.std.specs.Prelude.{IfOk, IfErr, map};
-ghost use Rattle.loc_file.specs.Readings.{IsRead, IsRowStop, AreRows, IsRowsStop};
-ghost use Rattle.loc_file.specs.Rows.{alone, id_row};
+ghost use Rattle.loc_spec_index.specs.IndexFile.{id_fields};
+ghost use Rattle.loc_file.specs.Readings.{IsRead, IsRowStop, AreRows, IsRowsStop, alone};
 
 use crate::cursor::Cursor;
 use crate::rows::keep;
@@ -11,8 +11,8 @@ use std::alloc::Global;
 
 // An id: its length, and its bytes.
 fn next_id(alloc: Global, cursor: &mut Cursor<'_>) -> Result<Vec<u8>, IndexFault>
-    ensures ok { IfOk result (λ id. IsRead (id_row id.items) cursor.old cursor.new) }
-    ensures err { IfErr result (IsRowStop id_row cursor.old) }
+    ensures ok { IfOk result (λ id. IsRead (id_fields id.items) cursor.old cursor.new) }
+    ensures err { IfErr result (IsRowStop id_fields cursor.old) }
 {
     let count = cursor.byte(201)?;
     let bytes = cursor.text(count)?;
@@ -28,8 +28,8 @@ pub(crate) fn read_ids(
     cursor: &mut Cursor<'_>,
     count: u32,
 ) -> Result<Vec<Vec<u8>>, IndexFault>
-    ensures ok { IfOk result (λ ids. AreRows (alone id_row) count (map (λ id. id.items) ids.items) cursor.old cursor.new) }
-    ensures err { IfErr result (IsRowsStop (alone id_row) count cursor.old) }
+    ensures ok { IfOk result (λ ids. AreRows (alone id_fields) count (map (λ id. id.items) ids.items) cursor.old cursor.new) }
+    ensures err { IfErr result (IsRowsStop (alone id_fields) count cursor.old) }
 {
     let mut ids = Vec::new(alloc);
     for _row in 0..count {

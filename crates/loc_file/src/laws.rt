@@ -1,7 +1,7 @@
 //! Laws of the reader and of what it holds, as calls that do no work: their contracts are the laws.
 
 ghost use Rattle.std.specs.Prelude.{◌≡◌};
-ghost use Rattle.loc_treeidx.specs.Steps.{most_steps};
+ghost use Rattle.loc_place.specs.Steps.{most_steps};
 ghost use Rattle.loc_file.specs.Depths.{most_of};
 ghost use Rattle.loc_file.specs.Searches.{IsIndexFor};
 ghost use Rattle.loc_file.specs.Refused.{OneRefusal, NoRefusalOfFile};

@@ -1,9 +1,8 @@
 // The part of the marks.
 
 ghost use Rattle.std.specs.Prelude.{◌≡◌, IfOk, IfErr};
-ghost use Rattle.loc_spec_index.specs.IndexFile.{follows, mark_row_before};
+ghost use Rattle.loc_spec_index.specs.IndexFile.{follows, mark_row_before, mark_row, rows_of};
 ghost use Rattle.loc_file.specs.Readings.{IsRead, IsRowStop, AreRows, IsRowsStop};
-ghost use Rattle.loc_file.specs.Rows.{mark_row, rows_of};
 
 use crate::cursor::Cursor;
 use crate::edges::is_before;

@@ -1,8 +1,8 @@
 // The part of the nodes.
 
 ghost use Rattle.std.specs.Prelude.{◌≡◌, ◌==◌, if◌then◌else◌, ◌+◌, ◌<◌, ◌^◌, IfOk, IfErr};
-ghost use Rattle.loc_file.specs.Readings.{IsRead, IsRowStop, AreRows, IsRowsStop};
-ghost use Rattle.loc_file.specs.Rows.{alone, node_row};
+ghost use Rattle.loc_spec_index.specs.IndexFile.{node_fields};
+ghost use Rattle.loc_file.specs.Readings.{IsRead, IsRowStop, AreRows, IsRowsStop, alone};
 
 use crate::cursor::Cursor;
 use crate::rows::keep;
@@ -24,8 +24,8 @@ fn next_node(
     nodes: u32,
 ) -> Result<NodeRow, IndexFault>
     requires { nodes < 2 ^ 31 }
-    ensures ok { IfOk result (λ node. IsRead (node_row edges corners nodes node) cursor.old cursor.new) }
-    ensures err { IfErr result (IsRowStop (node_row edges corners nodes) cursor.old) }
+    ensures ok { IfOk result (λ node. IsRead (node_fields edges corners nodes node) cursor.old cursor.new) }
+    ensures err { IfErr result (IsRowStop (node_fields edges corners nodes) cursor.old) }
 {
     let item = cursor.number(edges)?;
     let left = cursor.number(nodes + 1)?;
@@ -52,8 +52,8 @@ pub(crate) fn read_nodes(
     count: u32,
 ) -> Result<Vec<NodeRow>, IndexFault>
     requires { count < 2 ^ 31 }
-    ensures ok { IfOk result (λ nodes. AreRows (alone (node_row edges corners count)) count nodes.items cursor.old cursor.new) }
-    ensures err { IfErr result (IsRowsStop (alone (node_row edges corners count)) count cursor.old) }
+    ensures ok { IfOk result (λ nodes. AreRows (alone (node_fields edges corners count)) count nodes.items cursor.old cursor.new) }
+    ensures err { IfErr result (IsRowsStop (alone (node_fields edges corners count)) count cursor.old) }
 {
     let mut nodes = Vec::new(alloc);
     for _row in 0..count {

@@ -6,7 +6,7 @@ ghost use Rattle.loc_spec_index.specs.Content.{table_in, root_of};
 ghost use Rattle.loc_spec_index.specs.Nodes.{Left, Right, child};
 ghost use Rattle.loc_spec_index.specs.Search.{walk, search_for};
 ghost use Rattle.loc_place.specs.Answers.{IsInRange};
-ghost use Rattle.loc_treeidx.specs.Steps.{alive_count, search_bound};
+ghost use Rattle.loc_place.specs.Steps.{alive_count, search_bound};
 ghost use Rattle.loc_file.specs.Depths.{depth_from, most_of};
 ghost use Rattle.loc_file.specs.Searches.{answer_of, IsIndexFor};
 ghost use Rattle.loc_file.specs.Standing.{index_apart, index_finds};

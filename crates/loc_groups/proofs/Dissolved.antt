@@ -67,12 +67,12 @@ dissolves file old new n n' status s =
     record {
       done = λ layer is zero.
           let a = accepted told file layer is old.out.written new (s.done zero) in
-          (a.0, a.1, grown (dissolve_course file) plain old new n n' status s (groups_text file.scale a.0) (rows.written told file layer is a.0 a.1) zero);
-      answers = λ layer features is a reads out. done_by (dissolve_course file) plain old new n n' status s (groups_text file.scale features) (rows.written told file layer is features a) reads out;
+          (a.0, a.1, grown (dissolve_course file) plain.makes_none old new n n' status s (groups_text file.scale a.0) (rows.written told file layer is a.0 a.1) zero);
+      answers = λ layer features is a reads out. done_by (dissolve_course file) plain.makes_none old new n n' status s (groups_text file.scale features) (rows.written told file layer is features a) reads out;
       groups = λ layer features a. are_dissolved file layer features a;
-      layer_long = λ layer is long steady. refused_by (dissolve_course file) plain old new n n' status s (ended (codes "layer: too long")) (rows.layer_long told file layer is long) steady;
-      layer_fault = λ layer fault is few reads steady. refused_by (dissolve_course file) plain old new n n' status s (ended (layer_fault_text file.form fault)) (rows.layer_line told file layer is fault few reads) steady;
-      pieces = λ layer features is few reads many steady. refused_by (dissolve_course file) plain old new n n' status s (ended pieces_text) (rows.pieces told file layer is features few reads many) steady;
-      conflict = λ layer features is few reads cut has steady. refused_so (dissolve_course file) plain old new n n' status s (names_conflict file.scale (edges_of features)) (rows.conflict told file layer is features few reads cut has) steady;
-      covers = λ layer features is few reads cut apart many steady. refused_by (dissolve_course file) plain old new n n' status s (ended covers_text) (rows.covers told file layer is features few reads cut apart many) steady;
+      layer_long = λ layer is long steady. refused_by (dissolve_course file) plain.makes_none old new n n' status s (ended (codes "layer: too long")) (rows.layer_long told file layer is long) steady;
+      layer_fault = λ layer fault is few reads steady. refused_by (dissolve_course file) plain.makes_none old new n n' status s (ended (layer_fault_text file.form fault)) (rows.layer_line told file layer is fault few reads) steady;
+      pieces = λ layer features is few reads many steady. refused_by (dissolve_course file) plain.makes_none old new n n' status s (ended pieces_text) (rows.pieces told file layer is features few reads many) steady;
+      conflict = λ layer features is few reads cut has steady. refused_so (dissolve_course file) plain.makes_none old new n n' status s (names_conflict file.scale (edges_of features)) (rows.conflict told file layer is features few reads cut has) steady;
+      covers = λ layer features is few reads cut apart many steady. refused_by (dissolve_course file) plain.makes_none old new n n' status s (ended covers_text) (rows.covers told file layer is features few reads cut apart many) steady;
     }

@@ -17,7 +17,7 @@ use Rattle.loc_spec_index.specs.Content.{Content, EdgeRow, table_in}
 use Rattle.loc_spec_index.specs.Flaws.{Flaw, HasFlaw, IsFirst, bare, conflicting, deep, lone, spare_cover, uneven, wrong_cover, wrong_floor, wrong_list, wrong_source}
 use Rattle.loc_laws_judge.specs.FirstFlaw.{FirstIsFound, IsOneOf, IsReadable, first_flaw}
 use Rattle.loc_laws_rays.proofs.Members.{in_numbers}
-use Rattle.loc_faces.proofs.Leaders.{any_member}
+use Rattle.loc_laws_rays.proofs.Covering.{any-found}
 use Rattle.loc_verify.specs.Judged.{IsJudged}
 use Rattle.loc_verify.specs.declared.fault.VerifyFault.{VerifyFault}
 use Rattle.loc_verify.specs.declared.fault.VerifyFault.TheVariants as v
@@ -52,8 +52,8 @@ clash_named c a b meeting has meets =
     let t = table_in c in
     let line = ended (clash_text a b meeting) in
     let less : a < length c.edges = (let first = has.0 in let second = has.1 in omega (arith, first, second)) in
-    any_member (λ x. list_any (names_pair t line x) (edge_numbers t)) a (edge_numbers t) (numbered c a less)
-    (any_member (names_pair t line a) b (edge_numbers t) (numbered c b has.1) (pair_named t a b meeting ((Decides-ltb a b).1 has.0) has.2 meets))
+    any-found (λ x. list_any (names_pair t line x) (edge_numbers t)) (edge_numbers t) a (numbered c a less)
+    (any-found (names_pair t line a) (edge_numbers t) b (numbered c b has.1) (pair_named t a b meeting ((Decides-ltb a b).1 has.0) has.2 meets))
 
 -- ---- the line of a flaw
 

@@ -32,7 +32,7 @@ use Rattle.loc_laws_rays.proofs.Parity.{never, odd_many-same}
 use Rattle.loc_laws_search.proofs.FindsPlace.{search_finds_place}
 use Rattle.loc_rings.specs.Values.{Feature}
 use Rattle.loc_edges.specs.Layers.{layer_rings}
-use Rattle.loc_treeidx.specs.Steps.{most_steps}
+use Rattle.loc_place.specs.Steps.{most_steps}
 use Rattle.loc_place.specs.Found.{place_at}
 use Rattle.loc_place.specs.Planar.{IsPlanar}
 use Rattle.loc_place.proofs.FoundPlace.{place_is_found}
@@ -41,6 +41,7 @@ use Rattle.loc_cover.proofs.Covered.{touching_touches}
 use Rattle.loc_cover.proofs.Numbering.{above_rises, under_rises}
 use Rattle.loc_file.specs.Searches.{IsIndexFor, answer_of}
 use Rattle.loc_laws_index.proofs.FileFacts.{facts}
+use Rattle.loc_file.specs.Depths.{most_of}
 use Rattle.loc_file.proofs.TrueSteps.{true-most}
 use Rattle.loc_batch.specs.Answering.{answer_at as answer_by_rows, answer_by, face_at, found_answer, names}
 use Rattle.loc_batch.specs.Faces.{unnumbered}
@@ -189,11 +190,13 @@ module _ (c : Content) (bytes : Text) (file : IsIndexFile c bytes) (is_true : Is
   pub true_answers : answer_in c ≡ (λ line. Ok (marked_line c line))
   true_answers = fun_ext (λ line. ap as_bytes (line_is line))
 
+  -- a search takes as many steps at most as in the tree
+  pub true_bound : most_of c (table_in c) ≡ most_steps (table_in c)
+  true_bound = true-most c (table_in c) (record { table_is = refl; in_order = ok; few_edges = few; is_true = is_true })
+
   -- so the course is that by the marks
   pub true_course : (points : Text) → asked_course points c ≡ marked_course points c
-  true_course points =
-      let for : IsIndexFor c (table_in c) = record { table_is = refl; in_order = ok; few_edges = few; is_true = is_true } in
-      ap₂ (answers (source points limit (ended (codes "points: too long")))) (true-most c (table_in c) for) true_answers
+  true_course points = ap₂ (answers (source points limit (ended (codes "points: too long")))) true_bound true_answers
 
 -- ---- the index of a layer
 

@@ -1,5 +1,5 @@
 -- What asking an index file answers, by what the told files come to.
-use Rattle.std.proofs.Common.{◌≡◌, ℕ, ◌≤◌, List, length, map, Option, Some, None, Ok, Err, false, ◌∙◌, ap, subst, inl, inr}
+use Rattle.std.proofs.Common.{◌≡◌, ℕ, ◌*◌, ◌≤◌, List, length, map, Option, Some, None, Result, Ok, Err, false, refl, sym, ◌∙◌, ap, subst, inl, inr, mul-le-mul_right}
 use Rattle.std.specs.Prelude.{codes}
 use Rattle.std.specs.List.{flat_map}
 use Rattle.loc_io.specs.Streams.{Stream}
@@ -7,28 +7,31 @@ use Rattle.loc_io.specs.Meaning.{Told, holds}
 use Rattle.loc_spec_text.specs.Answered.{Answered, answered}
 use Rattle.loc_spec_text.specs.Bytes.{Text, lines}
 use Rattle.loc_spec_text.specs.Points.{ended}
+use Rattle.loc_spec_text.proofs.LineLaws.{lines-front}
 use Rattle.loc_spec_text.proofs.AnsweredLaws.{all_of, all_answered, joined}
-use Rattle.loc_spec_index.specs.Content.{Content}
+use Rattle.loc_spec_index.specs.declared.IndexFault.{IndexFault}
+use Rattle.loc_file.specs.Depths.{most_of}
+use Rattle.loc_spec_index.specs.Content.{Content, table_in}
 use Rattle.loc_indexed.specs.IndexBytes.{IsIndexFile}
 use Rattle.loc_spec_index.specs.TrueIndex.{IsIndexOf, IsTrueIndex}
 use Rattle.loc_laws_index.specs.IndexReading.{AreBytes, reading}
 use Rattle.loc_rings.specs.Values.{Feature, rings_of}
 use Rattle.loc_course.specs.Courses.{Source}
-use Rattle.loc_course.specs.Moments.{Moment}
+use Rattle.loc_course.specs.Moments.{IsToldText, Moment}
 use Rattle.loc_course.specs.Outcomes.{by_lines, by_refusal, outcome}
-use Rattle.loc_course.specs.Sentences.{NoneFailed, Sentences, Steady}
+use Rattle.loc_course.specs.Sentences.{NoneFailed, Sentences, Steady, WithinSteps}
 use Rattle.loc_course.specs.Stops.{source}
-use Rattle.loc_course.specs.Streams.{Answering, out_of}
+use Rattle.loc_course.specs.Streams.{Answering, IsToldFront, out_of}
 use Rattle.loc_course.proofs.Streamed.{of_whole}
 use Rattle.loc_maps.specs.MapCourses.{limit}
 use Rattle.loc_query.specs.Answered.{output_of}
-use Rattle.loc_indexed.specs.IndexedCourses.{answer_in, ask_course, asked_course, index_limit}
+use Rattle.loc_indexed.specs.IndexedCourses.{answer_in, ask_course, asked_course, index_in, index_limit}
 use Rattle.loc_indexed.specs.IndexTexts.{index_fault_text}
 use Rattle.loc_indexed.specs.Marked.{marked_line}
 use Rattle.loc_indexed.specs.Asks.{AreAsked, Asks, IsDone, OrMemory}
 use Rattle.loc_indexed.proofs.Behind.{ask_makes_none}
 use Rattle.loc_indexed.proofs.IndexOutcomes.{finished, index_long, index_read, memory, refused_by}
-use Rattle.loc_indexed.proofs.MarkedAnswers.{layer_lines, true_answers}
+use Rattle.loc_indexed.proofs.MarkedAnswers.{layer_lines, true_answers, true_bound}
 use Rattle.loc_indexed.proofs.ReadBack.{file_reads}
 
 module _ (told : Text → Told) (index points bytes : Text) (is : told index ≡ holds bytes) where
@@ -41,6 +44,16 @@ module _ (told : Text → Told) (index points bytes : Text) (is : told index ≡
         ∙ (ap (by_lines of_points (answer_in c)) also
         ∙ (ap (λ (a : Answered Text Text). by_refusal (out_of a) a.refusal) (of_whole of_points (answer_in c) text short)
         ∙ ap (by_refusal (out_of (answered (answer_in c) (lines text)))) refused))
+
+-- the steps of a course on told files
+asked_within : (told : Text → Told) (index points bytes text : Text) (c : Content) (each : ℕ) → told index ≡ holds bytes → told points ≡ holds text → reading bytes ≡ Ok c → most_of c (table_in c) ≡ each
+    → WithinSteps told (ask_course index points) (length (lines text) * each)
+asked_within told index points bytes text c each is also reads most other few told_so =
+    let same : other ≡ bytes = subst (λ (t : Told). IsToldText t other) is told_so in
+    subst (λ (r : Result Content IndexFault). WithinSteps told (index_in r (asked_course points)) (length (lines text) * each)) (sym (ap reading same ∙ reads)) (λ more short told_too.
+    let front = subst (λ (t : Told). IsToldFront t more) also told_too in
+    let fewer : length (lines more) ≤ length (lines text) = subst (λ (t : Text). length (lines more) ≤ length (lines t)) (sym front.1) (lines-front more front.0) in
+    subst (λ k. length (lines more) * k ≤ length (lines text) * each) (sym most) (mul-le-mul_right each fewer))
 
 module _ (index points : Text) (old new : Moment) (n n' : Stream) (status : ℕ) (s : Sentences (ask_course index points) old new n n' status) where
   none_failed : Steady old.shelf.read_faults new.shelf.read_faults → Steady old.out.faults new.out.faults → NoneFailed (ask_course index points) old new
@@ -75,6 +88,8 @@ module _ (index points : Text) (old new : Moment) (n n' : Stream) (status : ℕ)
         ];
     of_true = in_true;
     of_layer = in_layer;
+    steps = λ bytes text c is also reads. s.steps.within _ (asked_within old.shelf.told index points bytes text c _ is also reads refl);
+    steps_of_true = λ bytes text c is also small file is_true. s.steps.within _ (asked_within old.shelf.told index points bytes text c _ is also (file_reads bytes c small file) (true_bound c bytes file is_true));
     too_long = λ bytes is long steady. refused_by (ask_course index points) old new n n' status s (ended (codes "index: too long")) (index_long old.shelf.told index bytes is (asked_course points) long) steady;
     at_fault = λ bytes fault is few reads steady. refused_by (ask_course index points) old new n n' status s (ended (index_fault_text fault)) (index_read old.shelf.told index bytes is (asked_course points) few (Err fault) reads) steady;
   }

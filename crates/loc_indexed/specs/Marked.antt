@@ -6,7 +6,7 @@ use Rattle.loc_spec_plane.specs.Tables.{covers_by_marks, touches_by_marks}
 use Rattle.loc_spec_text.specs.Points.{Answer, answer_text, answer_to, ended, point_of}
 use Rattle.loc_spec_index.specs.Content.{Content, table_in}
 use Rattle.loc_place.specs.Found.{place_at}
-use Rattle.loc_treeidx.specs.Steps.{most_steps}
+use Rattle.loc_place.specs.Steps.{most_steps}
 use Rattle.loc_batch.specs.Faces.{unnumbered}
 use Rattle.loc_course.specs.Courses.{Course, answers}
 use Rattle.loc_course.specs.Stops.{source}

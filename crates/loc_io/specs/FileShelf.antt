@@ -1,4 +1,4 @@
--- What the real files mean as a shelf. The words: `file_meaning`, `file_in_making`.
+-- What the real files mean as a shelf. The words: `file_meaning`, `file_taken_up`, `file_in_making`.
 use Rattle.std.specs.Prelude.{Option, None, is_some}
 use Rattle.loc_io.specs.Meaning.{Meaning, untold}
 use Rattle.loc_io.specs.declared.file_shelf.FileShelf.{FileShelf}
@@ -16,6 +16,10 @@ file_meaning s = record {
   write_faults = s.counts.write_faults.number;
   late = s.counts.late.number;
 }
+
+-- the file that is being read
+abbrev pub file_taken_up : {R File Dir : Type 0} → FileShelf R File Dir → Option File
+file_taken_up s = s.reading
 
 -- the file that is being made
 abbrev pub file_in_making : {R File Dir : Type 0} → FileShelf R File Dir → Option File

@@ -1,7 +1,7 @@
 //! The real files as a shelf, of whose content nothing is told.
-ghost use Rattle.std.specs.Prelude.{◌≡◌, option_and_then};
-ghost use Rattle.std.specs.Io.KnownBytes.{WriteAppends};
-ghost use Rattle.loc_io.specs.Meaning.{IsFresh, Writes, untold};
+ghost use Rattle.std.specs.Prelude.{◌≡◌, option_and_then, OnErr};
+ghost use Rattle.std.specs.Io.KnownBytes.{ReadConsumes, WriteAppends};
+ghost use Rattle.loc_io.specs.Meaning.{Creates, Finishes, IsFresh, Reads, TakesUp, Writes, untold};
 
 use crate::failed::CallCounts;
 use crate::trace::Trace;
@@ -39,11 +39,16 @@ impl<R: Files + Drop> FileShelf<R> {
 }
 
 impl<R: Files + Drop> Shelf for FileShelf<R> {
-    ghost use Rattle.loc_io.specs.FileShelf.{file_meaning, file_in_making};
+    ghost use Rattle.loc_io.specs.FileShelf.{file_meaning, file_in_making, file_taken_up};
 
     ghost meaning = { file_meaning };
 
-    fn take_up(&mut self, name: &str) -> Result<(), Failed> {
+    // The file that is being made stays as it is.
+    fn take_up(&mut self, name: &str) -> Result<(), Failed>
+        ensures shelf { TakesUp name.now (file_meaning self.old) (file_meaning self.new) result }
+        ensures reading { OnErr result (file_taken_up self.new ≡ file_taken_up self.old) }
+        ensures making { file_in_making self.new ≡ file_in_making self.old }
+    {
         self.counts.note_call();
         self.trace.note(&[], name.as_bytes());
         match fs::open(&self.rt, name) {
@@ -55,7 +60,13 @@ impl<R: Files + Drop> Shelf for FileShelf<R> {
         }
     }
 
-    fn read(&mut self, into: &mut [u8]) -> Result<usize, Failed> {
+    // One call of the file, which gives what it has left.
+    fn read(&mut self, into: &mut [u8]) -> Result<usize, Failed>
+        ensures shelf { Reads (file_meaning self.old) (file_meaning self.new) into.new result }
+        ensures file { ReadConsumes (option_and_then R.File.remaining (file_taken_up self.old))
+            (option_and_then R.File.remaining (file_taken_up self.new)) result into.new }
+        ensures making { file_in_making self.new ≡ file_in_making self.old }
+    {
         self.counts.note_call();
         if let Some(file) = &mut self.reading {
             if let Ok(n) = file.read(into) {
@@ -66,7 +77,12 @@ impl<R: Files + Drop> Shelf for FileShelf<R> {
         Err(self.counts.read_faults.count_one())
     }
 
-    fn create(&mut self, name: &str) -> Result<(), Failed> {
+    // The file that is being read stays as it is.
+    fn create(&mut self, name: &str) -> Result<(), Failed>
+        ensures shelf { Creates name.now (file_meaning self.old) (file_meaning self.new) result }
+        ensures reading { file_taken_up self.new ≡ file_taken_up self.old }
+        ensures making { OnErr result (file_in_making self.new ≡ file_in_making self.old) }
+    {
         self.counts.note_call();
         match fs::create(&self.rt, name) {
             Ok(file) => {
@@ -82,6 +98,7 @@ impl<R: Files + Drop> Shelf for FileShelf<R> {
         ensures shelf { Writes piece.now (file_meaning self.old) (file_meaning self.new) result }
         ensures file { WriteAppends (option_and_then R.File.contents (file_in_making self.old))
             (option_and_then R.File.contents (file_in_making self.new)) result piece.now }
+        ensures reading { file_taken_up self.new ≡ file_taken_up self.old }
     {
         self.counts.note_call();
         if let Some(file) = &mut self.writing {
@@ -95,7 +112,10 @@ impl<R: Files + Drop> Shelf for FileShelf<R> {
     }
 
     // The file is closed where it is dropped. Nothing was held back from it.
-    fn finish(&mut self) -> Result<(), Failed> {
+    fn finish(&mut self) -> Result<(), Failed>
+        ensures shelf { Finishes (file_meaning self.old) (file_meaning self.new) result }
+        ensures reading { file_taken_up self.new ≡ file_taken_up self.old }
+    {
         self.counts.note_call();
         self.writing = None;
         Ok(())

@@ -17,7 +17,7 @@ use Rattle.loc_persist.specs.ByNumber.{AreRootsByNumber, AreRowsByNumber}
 use Rattle.loc_persist.specs.Meaning.{IsMeaning, VersionsMeaning}
 use Rattle.loc_persist.proofs.ByNumber.{rows_by_number_read}
 use Rattle.loc_status.specs.Versions.{AreVersions}
-use Rattle.loc_treeidx.proofs.Standing.{listed_count, square_rises}
+use Rattle.loc_place.proofs.ListCounts.{listed_count, square_rises}
 use Rattle.loc_cover.specs.Legends.{LegendRows}
 use Rattle.loc_write.specs.Written.{HoldsParts, IsContentOf}
 use Rattle.loc_laws_index.proofs.FlawKinds.{as_many, as_many_corners}

@@ -21,7 +21,7 @@ use Rattle.loc_laws_order.proofs.Unique.{all-at}
 use Rattle.loc_laws_rays.proofs.Covering.{any-found}
 use Rattle.loc_laws_rays.proofs.Members.{in_numbers}
 use Rattle.loc_laws_rays.proofs.Parity.{odd_many-same, never}
-use Rattle.loc_laws_dissolve.proofs.Numbered.{number_fits, at_number, number_up, pair_up}
+use Rattle.loc_laws_order.proofs.Numbered.{number_fits, at_number, number_up, pair_up}
 
 -- ---- lists
 -- a number of the list that passes

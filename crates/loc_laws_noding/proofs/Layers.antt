@@ -11,7 +11,8 @@ use Rattle.loc_spec_plane.specs.Tables.{layer_segments, layer_corners, cut_at}
 use Rattle.loc_laws_order.proofs.Booleans.{or_assoc}
 use Rattle.loc_laws_order.proofs.Sides.{before_either, same_point_refl}
 use Rattle.loc_laws_rays.proofs.Parity.{odd_many-append}
-use Rattle.loc_laws_noding.specs.Laws.{IsCutting, ends_of, goes_up, has_ends, is_good}
+use Rattle.loc_laws_order.specs.Numbered.{has_ends}
+use Rattle.loc_laws_noding.specs.Laws.{IsCutting, ends_of, goes_up, is_good}
 use Rattle.loc_laws_noding.proofs.Pieces.{pieces_cut}
 use Rattle.loc_laws_noding.proofs.Orders.{points_by_before}
 use Rattle.loc_laws_noding.proofs.SortedSet.{any-sorted_set, rising-sorted_set}

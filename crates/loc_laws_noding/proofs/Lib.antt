@@ -5,7 +5,6 @@ pub mod Layers
 pub mod Lines
 pub mod Marks
 pub mod Noded
-pub mod Numbers
 pub mod Orders
 pub mod Pieces
 pub mod RowsNoding

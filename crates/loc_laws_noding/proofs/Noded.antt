@@ -10,7 +10,8 @@ use Rattle.loc_spec_plane.specs.Rings.{Rings, segments}
 use Rattle.loc_spec_plane.specs.Tables.{Table, NoConflict, table_by, table_of, noded_table_of, whole, cut_at, edge, edge_marks, mark_of, layer_segments, layer_corners, pieces_of, number_of, numbered_ends, source_in}
 use Rattle.loc_laws_order.proofs.Tests.{same_edge_decides, touch-conflict}
 use Rattle.loc_laws_order.proofs.TableOrder.{origin_point}
-use Rattle.loc_laws_noding.specs.Laws.{IsCutting, goes_up, has_ends, is_good}
+use Rattle.loc_laws_order.specs.Numbered.{has_ends}
+use Rattle.loc_laws_noding.specs.Laws.{IsCutting, goes_up, is_good}
 use Rattle.loc_laws_noding.proofs.Layers.{any-corners, corners_rise, cutting_at, layer_good}
 use Rattle.loc_laws_noding.proofs.Orders.{edges_by_before}
 use Rattle.loc_laws_noding.proofs.Pieces.{none_inside, one_piece, whole_cut}

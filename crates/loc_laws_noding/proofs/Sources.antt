@@ -12,10 +12,11 @@ use Rattle.loc_spec_plane.specs.Tables.{Table, table_by, table_of, noded_table_o
 use Rattle.loc_laws_order.proofs.Booleans.{or_none}
 use Rattle.loc_laws_order.proofs.Tests.{same_edge_decides}
 use Rattle.loc_laws_order.proofs.TableOrder.{origin_point}
-use Rattle.loc_laws_noding.specs.Laws.{IsCutting, goes_up, has_ends}
+use Rattle.loc_laws_order.specs.Numbered.{has_ends}
+use Rattle.loc_laws_noding.specs.Laws.{IsCutting, goes_up}
 use Rattle.loc_laws_noding.proofs.Layers.{corners_rise}
 use Rattle.loc_laws_noding.proofs.Noded.{cutting_noded, map_same}
-use Rattle.loc_laws_noding.proofs.Numbers.{at_number}
+use Rattle.loc_laws_order.proofs.Numbered.{at_number}
 use Rattle.loc_laws_noding.proofs.Orders.{edges_by_before}
 use Rattle.loc_laws_noding.proofs.Pieces.{pieces_on}
 use Rattle.loc_laws_noding.proofs.SortedSet.{any-sorted_set}

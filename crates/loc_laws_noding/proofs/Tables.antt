@@ -16,11 +16,12 @@ use Rattle.loc_laws_order.proofs.Booleans.{and_swap, and_true}
 use Rattle.loc_laws_order.proofs.Sides.{same_point_refl}
 use Rattle.loc_laws_order.proofs.TableOrder.{all_from, is_end_is, origin_point}
 use Rattle.loc_laws_rays.proofs.Members.{feature_count_within}
-use Rattle.loc_laws_noding.specs.Laws.{AreEven, IsCutting, goes_up, has_ends, is_good}
+use Rattle.loc_laws_order.specs.Numbered.{ends_by_number, has_ends}
+use Rattle.loc_laws_noding.specs.Laws.{AreEven, IsCutting, goes_up, is_good}
 use Rattle.loc_laws_noding.proofs.Counting.{any_by_edges, any_by_number, any_from_odd, by_edges, odd_by_number, odd_is_any, odd_none}
 use Rattle.loc_laws_noding.proofs.Layers.{all_pieces, any-corners, corners_rise, crosses_pieces, feature_part, layer_good, odd_pieces, touches_pieces}
 use Rattle.loc_laws_noding.proofs.Marks.{all_marks_below, is_hit, mark_passes, marks_rise_from}
-use Rattle.loc_laws_noding.proofs.Numbers.{at_number, ends_by_number, number_fits, number_up, pairs_rise}
+use Rattle.loc_laws_order.proofs.Numbered.{at_number, number_fits, number_up, pairs_rise}
 use Rattle.loc_laws_noding.proofs.Orders.{edges_by_before}
 use Rattle.loc_laws_noding.proofs.SortedSet.{any-sorted_set, length-sorted_set, rising-sorted_set}
 
@@ -80,7 +81,7 @@ module _ (cut : Edge → List Edge) (layer : List Rings) where
 
   pub as_many_ends : length t.ends ≡ length pieces
   unfolding table_by
-  as_many_ends = length-map pieces (ends_by_number cs (corners_rise layer))
+  as_many_ends = length-map pieces (ends_by_number cs)
 
   pub as_many_marks : length t.marks ≡ length pieces
   unfolding table_by
@@ -102,7 +103,7 @@ module _ (cut : Edge → List Edge) (layer : List Rings) where
   -- the numbers of the ends
   row_is : (n : ℕ) (d : Edge) → n < length pieces → get_or t.ends n (0, 0) ≡ (number_of cs (get_or pieces n d).lo, number_of cs (get_or pieces n d).hi)
   unfolding table_by
-  row_is n d fits = get_or-map (ends_by_number cs (corners_rise layer)) pieces n d (0, 0) fits
+  row_is n d fits = get_or-map (ends_by_number cs) pieces n d (0, 0) fits
 
   rows_rise : (n : ℕ) → is_rising mark_before (get_or t.marks n []) ≡ true
   unfolding table_by

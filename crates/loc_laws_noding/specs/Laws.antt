@@ -1,6 +1,6 @@
 -- Laws of noding, as statements that the contracts of public functions cite. The words:
 --   goes_up, ends_of                  an edge goes from its lower end to its upper one; the ends of edges
---   is_path, has_ends                 edges that join end to end, and ends that are among points
+--   is_path                           edges that join end to end
 --   IsCut                             edges that have what a segment has
 --   is_good, IsCutting                a segment between corners, and a way to cut all of these
 --   Pieces                            what a segment between corners in order is
@@ -14,6 +14,7 @@
 --   NeverTouch, PlainIsNoded          no two of its edges touch; where no two plain edges conflict it is the plain table
 use Rattle.std.specs.Prelude.{◌≡◌, ◌≢◌, ℕ, ◌<◌, ◌≤◌, Bool, true, false, ◌&&◌, List, [], ◌∷◌, length, get_or, sum_by, IsTrue}
 use Rattle.std.specs.List.{list_any, list_all, flat_map}
+use Rattle.loc_laws_order.specs.Numbered.{has_ends}
 use Rattle.loc_spec_plane.specs.Points.{Point, Edge, before, same_point, edge_before, is_end, lies_on, inside, touch}
 use Rattle.loc_spec_plane.specs.Lists.{is_rising, odd_many}
 use Rattle.loc_spec_plane.specs.Rays.{crosses_right}
@@ -33,10 +34,6 @@ ends_of edges = flat_map (λ (e : Edge). e.lo ∷ e.hi ∷ []) edges
 abbrev pub is_path : Point → Point → List Edge → Bool
 is_path a b [] = same_point a b
 is_path a b (e ∷ es) = (same_point a e.lo && goes_up e) && is_path e.hi b es
-
--- both ends of the edge are among the points
-abbrev pub has_ends : List Point → Edge → Bool
-has_ends points e = list_any (same_point e.lo) points && list_any (same_point e.hi) points
 
 -- edges that a segment is cut into: they rise and go up between corners, and they have the ends of the segment, what lies on it and what it crosses
 pub record IsCut (corners : List Point) (s : Edge) (es : List Edge) : Type 0 where

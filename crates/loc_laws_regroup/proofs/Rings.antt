@@ -16,7 +16,7 @@ use Rattle.loc_half.specs.HalfEdgeLists.{HalfEdgeLists, AreHalfEdges, next_in}
 use Rattle.loc_half.proofs.Halves.{either_way, edge-fits, origin-down, origin-up}
 use Rattle.loc_half.proofs.Orbits.{cycle_is, next_within, placed}
 use Rattle.loc_half.proofs.Trails.{trail}
-use Rattle.loc_faces.proofs.Leaders.{member_any}
+use Rattle.loc_laws_rays.proofs.Picked.{member_any}
 use Rattle.loc_spec_groups.specs.Groups.{chosen_table, covers_upper, face_rings, group_polygons, group_table, is_kept, is_polygon, kept_edges, leads_hanging_in, leads_outer, ring_from}
 use Rattle.loc_laws_dissolve.specs.Laws.{left_covered}
 use Rattle.loc_laws_dissolve.proofs.Chosen.{length-chosen}

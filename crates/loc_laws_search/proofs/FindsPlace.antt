@@ -26,8 +26,8 @@ use Rattle.loc_place.specs.Standing.{IsBehind}
 use Rattle.loc_place.proofs.Cornerless.{lies_on_is}
 use Rattle.loc_place.proofs.Listed.{listed_alive, in_area}
 use Rattle.loc_place.proofs.Versions.{version_there}
-use Rattle.loc_treeidx.specs.Gaps.{IsLast}
-use Rattle.loc_treeidx.proofs.Descents.{last-snoc, last-passes, last_there}
+use Rattle.loc_status.specs.Lists.{IsLast}
+use Rattle.loc_status.proofs.Lasts.{last-snoc, last-passes, last_there}
 use Rattle.loc_laws_index.proofs.FlawKinds.{as_many, as_many_corners}
 use Rattle.loc_laws_search.proofs.Counted.{stands-behind, is-corner}
 use Rattle.loc_laws_search.proofs.Walking.{walk-none, walk-on, walk-left, walk-right, below-else}

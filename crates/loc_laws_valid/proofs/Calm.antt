@@ -21,11 +21,12 @@ use Rattle.loc_laws_order.proofs.Tests.{cross_decides, cross-conflict, conflict_
 use Rattle.loc_laws_rays.proofs.Covering.{any-found}
 use Rattle.loc_laws_rays.proofs.Members.{in_cover, in_numbers}
 use Rattle.loc_laws_rays.proofs.Parity.{odd_many-agree}
-use Rattle.loc_laws_noding.specs.Laws.{goes_up, has_ends, is_good}
+use Rattle.loc_laws_order.specs.Numbered.{has_ends}
+use Rattle.loc_laws_noding.specs.Laws.{goes_up, is_good}
 use Rattle.loc_laws_noding.proofs.Layers.{corners_rise, feature_part, layer_good}
 use Rattle.loc_laws_noding.proofs.Marks.{is_hit}
 use Rattle.loc_laws_noding.proofs.Noded.{conflict_is_cross, cutting_noded}
-use Rattle.loc_laws_noding.proofs.Numbers.{at_number, number_fits}
+use Rattle.loc_laws_order.proofs.Numbered.{at_number, number_fits}
 use Rattle.loc_laws_noding.proofs.Tables.{all_ends, any_of_pieces, as_many_ends, edge_is_piece, is_table, pieces, segments_part}
 use Rattle.loc_laws_dissolve.proofs.Prefixes.{one_number}
 use Rattle.loc_laws_valid.specs.Laws.{ConflictsCross, GoesThrough, HasOneRing, NoneTwice, NonePinched, NoneOutside, NoneNested, PolygonsCalm, RingsCalm, ring_of}

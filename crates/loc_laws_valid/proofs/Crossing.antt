@@ -11,7 +11,8 @@ use Rattle.loc_spec_plane.specs.Tables.{cut_at}
 use Rattle.loc_laws_order.proofs.Forms.{Before, AtMost, IsEdge, side_of, LiesOn, Cross}
 use Rattle.loc_laws_order.proofs.Sides.{before_decides, high_is_on, low_is_on, same_point-true, same_point_refl, same-from_neither}
 use Rattle.loc_laws_order.proofs.Tests.{cross_decides, is_above_decides, is_below_decides, is_on_decides, same_edge_decides, up_to_decides}
-use Rattle.loc_laws_noding.specs.Laws.{goes_up, has_ends, is_good, is_path}
+use Rattle.loc_laws_order.specs.Numbered.{has_ends}
+use Rattle.loc_laws_noding.specs.Laws.{goes_up, is_good, is_path}
 use Rattle.loc_laws_noding.proofs.Lines.{Along, along, above_along, below_along, side_between}
 use Rattle.loc_laws_noding.proofs.Pieces.{none_inside, pieces_cut, pieces_on, pieces_path}
 

@@ -7,6 +7,7 @@ pub mod Meaning
 pub mod Numbered
 pub mod Present
 pub mod Reading
+pub mod Roots
 pub mod Stored
 pub mod Use
 pub mod Viewed

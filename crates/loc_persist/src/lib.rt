@@ -7,6 +7,7 @@ mod copied;
 pub mod laws;
 mod node_row;
 mod present;
+mod roots;
 mod store;
 mod versions;
 

@@ -11,6 +11,7 @@ ghost use Rattle.loc_persist.specs.Stored.{nodes_of, IsStored};
 use crate::copied::Copied;
 use crate::node_row::{number_of, numbered};
 use crate::present::{Present, Sealed};
+use crate::roots::Roots;
 use loc_pool::{Colour, Link, Pool, Turn};
 use loc_rb::{Links, Path};
 use loc_spec_index::NodeRow;
@@ -21,7 +22,7 @@ use std::marker::Model;
 #[derive(Drop)]
 pub(crate) struct Store {
     present: Present,
-    roots: Vec<Option<Link>>,
+    roots: Roots,
     sealed_nodes: u32,
     made: u32,
     changed: u32,
@@ -34,9 +35,9 @@ impl Model for Store {
 
     ghost Value = { Stored };
 
-    ghost view = { λ s. stored s.present s.roots.items s.sealed_nodes s.made s.changed s.room };
+    ghost view = { λ s. stored s.present s.roots s.sealed_nodes s.made s.changed s.room };
 
-    ghost invariant = { λ s. IsStored (stored s.present s.roots.items s.sealed_nodes s.made s.changed s.room) s.present.pool.spare };
+    ghost invariant = { λ s. IsStored (stored s.present s.roots s.sealed_nodes s.made s.changed s.room) s.present.pool.spare };
 }
 
 impl Store {
@@ -50,7 +51,7 @@ impl Store {
                 root: None,
                 copied: Copied::new(),
             },
-            roots: Vec::new(alloc),
+            roots: Roots::new(alloc),
             sealed_nodes: 0,
             made: 0,
             changed: 0,
@@ -77,8 +78,9 @@ impl Store {
         ensures refused { OnErr result (self.new ≡ self.old) }
         ensures present { IsPresent (length self.old.roots) self.old.rows self.old.root self.old.copied }
     {
+        let nodes = self.present.pool.len();
         self.roots.push(self.present.root)?;
-        self.sealed_nodes = self.present.pool.len();
+        self.sealed_nodes = nodes;
         Ok(())
     }
 
@@ -95,7 +97,7 @@ impl Store {
         requires { version < length self.now.roots }
         ensures { slice_get self.now.roots version ≡ Some result }
     {
-        self.roots[version as usize]
+        self.roots.get(version as usize)
     }
 
     /// The child of a node on a side in a version.

@@ -3,6 +3,8 @@ pub mod Cornerless
 pub mod FoundPlace
 pub mod Halving
 pub mod Highest
+pub mod ListCounts
 pub mod Listed
 pub mod OnePlace
+pub mod SearchBounds
 pub mod Versions

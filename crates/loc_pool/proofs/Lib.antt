@@ -2,6 +2,7 @@ pub mod Cells
 pub mod Found
 pub mod Maps
 pub mod Memory
+pub mod Numbered
 pub mod Same
 pub mod Sharing
 pub mod Steps

@@ -1,37 +1,25 @@
 -- The test of two links is their equality.
-use Rattle.std.proofs.Common.{◌≡◌, Bool, true, false, ◌&&◌, ◌==◌, refl, sym, ap, ◌∙◌, eqb→eq, T, Some}
+use Rattle.std.proofs.Common.{◌≡◌, Bool, true, false, ◌==◌, refl, sym, ap, ◌∙◌, eqb→eq, T, Some}
 use Rattle.std.specs.Prelude.{◌≢◌}
 use lib.Dec.{eqb_refl}
-use denote.RawPtr.{Ptr, block_ptr, null_ptr}
 use Rattle.loc_pool.specs.declared.Link.{Link}
-use Rattle.loc_pool.specs.Same.{same_address, same}
+use Rattle.loc_pool.specs.Same.{same}
 
 true_of : (b : Bool) → T b → b ≡ true
 true_of true t = refl
 true_of false t = absurd t
 
-same_address-refl : (p : Ptr) → same_address p p ≡ true
-same_address-refl (block_ptr b o) = λ i. true_of (b == b) (eqb_refl b) i && true_of (o == o) (eqb_refl o) i
-same_address-refl null_ptr = refl
-
-both : (x y : Bool) → (x && y) ≡ true → T x × T y
-both true true e = (tt, tt)
-both true false e = cc
-both false y e = cc
-
-same_address-eq : (p q : Ptr) → same_address p q ≡ true → p ≡ q
-same_address-eq (block_ptr b o) (block_ptr c p) e = let t = both (b == c) (o == p) e in λ i. block_ptr (eqb→eq b c t.0 i) (eqb→eq o p t.1 i)
-same_address-eq (block_ptr b o) null_ptr e = cc
-same_address-eq null_ptr (block_ptr c p) e = cc
-same_address-eq null_ptr null_ptr e = refl
+of_true : (b : Bool) → b ≡ true → T b
+of_true true e = tt
+of_true false e = cc
 
 pub same-refl : (l : Link) → same l l ≡ true
 unfolding same
-same-refl l = same_address-refl l.at
+same-refl l = true_of (l.number == l.number) (eqb_refl l.number)
 
 pub same-eq : (l m : Link) → same l m ≡ true → l ≡ m
 unfolding same
-same-eq l m e = λ i. record { at = same_address-eq l.at m.at e i }
+same-eq l m e = λ i. record { number = eqb→eq l.number m.number (of_true (l.number == m.number) e) i }
 
 pub not-same : (l m : Link) → l ≢ m → same l m ≡ false
 not-same l m d = (elim (same l m) as (λ b. same l m ≡ b → b ≡ false) [ true ↦ λ e. absurd (d (same-eq l m e)) | false ↦ λ e. refl ]) refl

@@ -1,5 +1,5 @@
--- A `&` to the heap reaches each node. Assumes `Logic`.
-use mathlib.Core.List.{[], ◌∷◌}
+-- A `&` to the heap reaches each slab. Assumes `Logic`.
+use mathlib.Core.List.{List, [], ◌∷◌}
 use seplogic.Ra.Ura.{Ura}
 use base.Fraction.{full_share}
 use base.Fml.{Lft, ftrue}
@@ -10,18 +10,17 @@ use contract.BorrowLft.{⊑_static}
 use denote.RawPtr.{lies_at}
 use denote.Shares.{Shares-less}
 use denote.Struct.Lending.{Lends, lent_at, lent_at_shr_laws, Lends-lies, Lends-first, Lends-both, Lends-nothing}
-use Rattle.loc_pool.specs.declared.node.Node.{Node}
-use Rattle.loc_pool.specs.Maps.{Map}
+use Rattle.loc_pool.specs.Cells.{Cell}
 use Rattle.loc_pool.specs.Ownership.{cells_own, cells_lent, cell_own}
 use Rattle.loc_pool.proofs.Memory.{handle}
-use Rattle.loc_pool.specs.contracts.node.Node.{the_row as R}
-use Rattle.loc_pool.proofs.node.Node.TheLaws.{the_row_laws as L}
+use Rattle.loc_pool.specs.contracts.node.Slab.{the_row as R}
+use Rattle.loc_pool.proofs.node.Slab.TheLaws.{the_row_laws as L}
 
-pub cells_lent_laws : (cs : Map Node) → ShrLaws (cells_lent cs)
+pub cells_lent_laws : (cs : List Cell) → ShrLaws (cells_lent cs)
 cells_lent_laws [] = nothing_shr_laws
 cells_lent_laws (c ∷ cs) = beside_shr_laws _ _ (lent_at_shr_laws R L.shr_laws c.0.at c.1) (cells_lent_laws cs)
 
-pub Lends-cells : {M : Type 1} {𝓤 : Ura M} (𝓛 : Logic 𝓤) (l : Lft) (cs : Map Node) → Lends 𝓛 (cells_own handle cs) (cells_lent cs) l
+pub Lends-cells : {M : Type 1} {𝓤 : Ura M} (𝓛 : Logic 𝓤) (l : Lft) (cs : List Cell) → Lends 𝓛 (cells_own handle cs) (cells_lent cs) l
 Lends-cells 𝓛 l [] = Lends-nothing 𝓛 ftrue l
 Lends-cells 𝓛 l (c ∷ cs) =
     Lends-both 𝓛 (cell_own handle c) (cells_own handle cs) (lent_at R c.0.at c.1) (cells_lent cs) l

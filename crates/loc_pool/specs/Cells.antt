@@ -1,24 +1,36 @@
--- The nodes in memory by their links, and the rows that they stand for. The words: `blank_node`, `node_at`, `if_there`, `mark_of`, `extra_of`, `row_of`,
--- `rows_of`, `IsNumbered`, `IsPool`.
-use Rattle.std.specs.Prelude.{◌≡◌, ℕ, ◌+◌, ◌^◌, ◌<◌, ◌≤◌, Bool, true, false, List, [], ◌∷◌, Option, None, Some}
+-- The slabs in memory by their addresses, the nodes in them, and the rows that these stand for. The words: `Cell`, `addresses`, `nodes_of`, `IsFull`,
+-- `if_there`, `mark_of`, `extra_of`, `row_of`, `rows_from`, `IsPool`.
+use Rattle.std.specs.Prelude.{◌≡◌, ℕ, ◌+◌, ◌^◌, ◌<◌, ◌≤◌, Bool, true, false, List, [], ◌∷◌, ◌++◌, length, Option, None, Some}
 use Rattle.loc_pool.specs.declared.Link.{Link}
 use Rattle.loc_pool.specs.declared.Extra.{Extra}
 use Rattle.loc_pool.specs.declared.Turn.{Turn}
 use Rattle.loc_pool.specs.declared.Turn.TheVariants.{Left, Right}
-use Rattle.loc_pool.specs.declared.Colour.TheVariants.{Black}
+use Rattle.loc_pool.specs.declared.heap.Address.{Address}
 use Rattle.loc_pool.specs.declared.node.Node.{Node}
+use Rattle.loc_pool.specs.declared.node.Slab.{Slab}
 use Rattle.loc_pool.specs.declared.node.Mark.{Mark}
 use Rattle.loc_pool.specs.declared.node.Mark.TheVariants.{Free, LeftEnd, LeftTo, RightEnd, RightTo}
-use Rattle.loc_pool.specs.Maps.{Map, value_or, links}
-use Rattle.loc_pool.specs.Rows.{Row, AreNames, no_link}
+use Rattle.loc_pool.specs.Maps.{Map}
+use Rattle.loc_pool.specs.Rows.{Row}
 
--- the node that stands where a link has none
-abbrev pub blank_node : Node
-blank_node = record { left = no_link; right = no_link; to = no_link; item = 0; number = 0; version = 0; has_left = false; has_right = false; mark = Free; colour = Black }
+-- a slab and where it lies
+abbrev pub Cell : Type 0
+Cell = Address × Slab
 
--- the node of a link
-abbrev pub node_at : Map Node → Link → Node
-node_at = value_or blank_node
+-- where the slabs lie
+unfoldable pub addresses : List Cell → List Address
+addresses [] = []
+addresses (c ∷ cs) = c.0 ∷ addresses cs
+
+-- the nodes of all slabs
+unfoldable pub nodes_of : List Cell → List Node
+nodes_of [] = []
+nodes_of (c ∷ cs) = c.1.nodes ++ nodes_of cs
+
+-- each slab has as many nodes
+abbrev pub IsFull : List Cell → Type 0
+IsFull [] = Unit {0}
+IsFull (c ∷ cs) = (length c.1.nodes ≡ 1024) × IsFull cs
 
 -- a link that is there, or none
 abbrev pub if_there : Bool → Link → Option Link
@@ -44,21 +56,13 @@ extra_of version to RightTo = Some (record { turn = Right; version = version; to
 abbrev pub row_of : Node → Row
 row_of n = record { item = n.item; left = if_there n.has_left n.left; right = if_there n.has_right n.right; extra = extra_of n.version n.to n.mark; colour = n.colour }
 
--- the rows of the nodes
-unfoldable pub rows_of : Map Node → Map Row
-rows_of [] = []
-rows_of (c ∷ cs) = (c.0, row_of c.1) ∷ rows_of cs
+-- the rows of nodes whose links are numbered from n on
+unfoldable pub rows_from : ℕ → List Node → Map Row
+rows_from n [] = []
+rows_from n (x ∷ xs) = (record { number = n }, row_of x) ∷ rows_from (n + 1) xs
 
--- the nodes are numbered from n on
-abbrev pub IsNumbered : ℕ → Map Node → Type 0
-IsNumbered n [] = Unit {0}
-IsNumbered n (c ∷ cs) = (c.1.number ≡ n) × IsNumbered (n + 1) cs
-
--- what holds of a pool: of its nodes, the list of their links, that list's length and capacity, the number of spare blocks, and how many of them count as room
-pub record IsPool (cells : Map Node) (order : List Link) (len capacity blocks ready : ℕ) : Type 0 where
-  pub listed : links cells ≡ order
-  pub numbered : IsNumbered 1 cells
-  pub names : AreNames order
-  pub blocks_ready : ready ≤ blocks
-  pub room : len + ready ≤ capacity
+-- what holds of a pool: of all nodes in memory, how many were made, how many places are free, and how many of them count as room
+pub record IsPool (slabs : List Node) (len free ready : ℕ) : Type 0 where
+  pub places : len + free ≡ length slabs
+  pub room : ready ≤ free
   pub few : len < 2 ^ 32

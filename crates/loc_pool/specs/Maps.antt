@@ -1,5 +1,5 @@
 -- A map from links to values: the pairs in the order in which they came, of which the first counts. The words: `Map`, `has`, `value_or`, `found`, `put`,
--- `without`, `links`.
+-- `links`.
 use Rattle.std.specs.Prelude.{Bool, false, cond, ◌||◌, List, [], ◌∷◌, Option, None, Some}
 use Rattle.loc_pool.specs.declared.Link.{Link}
 use Rattle.loc_pool.specs.Same.{same}
@@ -27,11 +27,6 @@ found (c ∷ cs) l = cond (same c.0 l) (Some c.1) (found cs l)
 unfoldable pub put : {A : Type 0} → Map A → Link → A → Map A
 put [] l x = []
 put (c ∷ cs) l x = cond (same c.0 l) ((c.0, x) ∷ cs) (c ∷ put cs l x)
-
--- the map without one link
-unfoldable pub without : {A : Type 0} → Map A → Link → Map A
-without [] l = []
-without (c ∷ cs) l = cond (same c.0 l) cs (c ∷ without cs l)
 
 -- the links in the order in which they came
 unfoldable pub links : {A : Type 0} → Map A → List Link

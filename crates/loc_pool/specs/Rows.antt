@@ -1,7 +1,6 @@
 -- A pool as contracts see it: the rows of its nodes by their links, and the room for more. The words: `Row`, `Nodes`, `no_link`, `blank`, `row`, `new_row`,
 -- `plain_child`, `with_child`, `same_turn`, `child_by`, `child_at`, `stamped`, `IsFree`, `AreNames`, `IsNew`, `IsPlace`.
 use Rattle.std.specs.Prelude.{◌≡◌, ◌≢◌, ℕ, ◌-◌, ◌≤◌, ◌&&◌, ◌⊎◌, Bool, true, false, cond, nat_le, List, [], ◌∷◌, Option, None, Some, slice_get}
-use denote.RawPtr.{null_ptr}
 use Rattle.loc_pool.specs.declared.Link.{Link}
 use Rattle.loc_pool.specs.declared.Extra.{Extra}
 use Rattle.loc_pool.specs.declared.Turn.{Turn}
@@ -26,7 +25,7 @@ pub record Nodes : Type 0 where
 
 -- the default link
 abbrev pub no_link : Link
-no_link = record { at = null_ptr }
+no_link = record { number = 0 }
 
 -- the row that stands where a link has none
 abbrev pub blank : Row

@@ -1,20 +1,17 @@
-//! The owner of the nodes' memory: the one place of raw pointers. A node comes in as a box and goes out by being freed.
-ghost use Rattle.std.specs.Prelude.{◌≡◌, ◌≢◌, List, [], ◌∷◌, ◌++◌, IsTrue, false};
+//! The owner of the nodes' memory: the one place of raw pointers. A slab of nodes comes in as a box and goes out by being freed.
+ghost use Rattle.std.specs.Prelude.{◌≡◌, ◌+◌, List, [], ◌∷◌, ◌++◌, Some, take, drop, slice_get};
 ghost use Rattle.std.specs.declared.alloc.Global.{Global};
-ghost use Rattle.loc_pool.specs.declared.node.Node.{Node};
-ghost use Rattle.loc_pool.specs.Maps.{Map, has, put, without};
-ghost use Rattle.loc_pool.specs.Rows.{no_link};
-ghost use Rattle.loc_pool.specs.Cells.{node_at};
+ghost use Rattle.loc_pool.specs.Cells.{Cell};
+ghost use Rattle.loc_pool.specs.declared.node.Slab.{Slab};
 ghost use Rattle.loc_pool.specs.Ownership.{cells_own, cells_lent};
 ghost use Rattle.std_alloc.specs.Box.Ownership.{box_owns};
 
-use crate::Link;
-use crate::node::Node;
+use crate::node::Slab;
 use std::alloc::{Allocator, Global};
 use std::marker::{Model, PhantomData};
 
-/// One value and the right to free its block, on its way between a box and the heap. It is no `Drop`, and no one else can take it apart: what
-/// the heap gives out is freed.
+/// One value and the right to free its block, on its way between a box and the heap. It is no `Drop`, and no one outside the crate can take it
+/// apart: what the heap gives out is freed, or taken in again once a node is written.
 pub(crate) struct Loose<T, A: Allocator> {
     at: *mut T,
     alloc: A,
@@ -34,26 +31,32 @@ impl<T: Drop, A: Allocator> Loose<T, A> {
         Loose { at, alloc }
     }
 
-    // Makes the box again.
-    fn into_box(self) -> Box<T, A>
+    /// Makes the box again.
+    pub(crate) fn into_box(self) -> Box<T, A>
         ensures { result.value ≡ self.value }
     {
         let Loose { at, alloc } = self;
         unsafe { Box::from_raw(alloc, at) }
     }
 
-    /// The one place where a node's block is freed.
+    /// The one place where a block is freed.
     pub(crate) fn free(self) {
         let block = self.into_box();
         drop(block);
     }
 }
 
-/// The owner of the nodes' memory, by the handle of the heap that they are freed to. It takes no space. It is no `Drop`: it ends once each node is taken out.
+/// Where a slab lies.
+#[derive(Clone, Copy, Drop)]
+pub struct Address {
+    at: *mut Slab,
+}
+
+/// The owner of the nodes' memory, by the handle of the heap that it is freed to. It takes no space. It is no `Drop`: it ends once each slab is taken out.
 pub struct Heap {
     mark: PhantomData<u8>,
     ghost alloc: { Global },
-    ghost cells: { Map Node },
+    ghost cells: { List Cell },
 }
 
 impl Model for Heap {
@@ -63,56 +66,46 @@ impl Model for Heap {
 }
 
 impl Heap {
-    /// A heap of no nodes.
+    /// A heap of no slabs.
     pub(crate) fn new() -> Heap
         ensures { result.cells ≡ [] }
     {
         Heap { mark: PhantomData }
     }
 
-    /// The node of a link.
-    pub(crate) fn get(&self, at: Link) -> &Node
-        requires { IsTrue (has self.now.cells at) }
-        ensures { result.now ≡ node_at self.now.cells at }
+    /// The slab at an index, which lies at this address.
+    pub(crate) fn get(&self, at: Address, index: usize) -> &Slab
+        requires { (slab : Slab) × (slice_get self.now.cells index ≡ Some (at, slab)) }
+        ensures { slice_get self.now.cells index ≡ Some (at, result.now) }
     {
         unsafe { &*at.at }
     }
 
-    /// Writes the node of a link.
-    pub(crate) fn set(&mut self, at: Link, node: Node)
-        requires { IsTrue (has self.old.cells at) }
-        ensures { self.new.cells ≡ put self.old.cells at node }
+    // Takes a slab in, before that at an index.
+    fn own(&mut self, slab: Loose<Slab, Global>, index: usize) -> Address
+        ensures { self.new.cells ≡ take index self.old.cells ++ (result, slab.value) ∷ drop index self.old.cells }
     {
-        unsafe { *at.at = node };
+        let Loose { at, alloc: _ } = slab;
+        Address { at }
     }
 
-    // Takes a node in.
-    fn own(&mut self, node: Loose<Node, Global>) -> Link
-        ensures fresh { (has self.old.cells result ≡ false) × (result ≢ no_link) }
-        ensures cells { self.new.cells ≡ self.old.cells ++ (result, node.value) ∷ [] }
-    {
-        let Loose { at, alloc: _ } = node;
-        Link { at }
-    }
-
-    /// Takes a node out, to be freed.
-    pub(crate) fn give(&mut self, alloc: Global, at: Link) -> Loose<Node, Global>
-        requires { IsTrue (has self.old.cells at) }
-        ensures cells { self.new.cells ≡ without self.old.cells at }
-        ensures value { result.value ≡ node_at self.old.cells at }
+    /// Takes out the slab at an index, which lies at this address.
+    pub(crate) fn give(&mut self, alloc: Global, at: Address, index: usize) -> Loose<Slab, Global>
+        requires { (slab : Slab) × (slice_get self.old.cells index ≡ Some (at, slab)) }
+        ensures cells { self.new.cells ≡ take index self.old.cells ++ drop (index + 1) self.old.cells }
+        ensures value { slice_get self.old.cells index ≡ Some (at, result.value) }
     {
         Loose { at: at.at, alloc }
     }
 
-    /// Takes in the node of a box.
-    pub(crate) fn take(&mut self, block: Box<Node>) -> Link
-        ensures fresh { (has self.old.cells result ≡ false) × (result ≢ no_link) }
-        ensures cells { self.new.cells ≡ self.old.cells ++ (result, block.value) ∷ [] }
+    /// Takes in the slab of a box, before that at an index.
+    pub(crate) fn take(&mut self, block: Box<Slab>, index: usize) -> Address
+        ensures { self.new.cells ≡ take index self.old.cells ++ (result, block.value) ∷ drop index self.old.cells }
     {
-        self.own(Loose::of(block))
+        self.own(Loose::of(block), index)
     }
 
-    /// Ends the heap, once no node is left.
+    /// Ends the heap, once no slab is left.
     pub(crate) fn end(self)
         requires { self.cells ≡ [] }
     {

@@ -4,16 +4,16 @@
 ghost use Rattle.std.specs.Prelude.{◌≡◌};
 ghost use Rattle.loc_pool.specs.declared.Turn.TheVariants.{Left};
 ghost use Rattle.loc_pool.specs.Rows.{no_link};
+ghost use Rattle.loc_pool.specs.Same.{same};
 
 mod heap;
 mod node;
 mod pool;
+mod slabs;
 #[cfg(test)]
 mod tests;
 
-use node::Node;
 pub use pool::Pool;
-use std::ptr::null_mut;
 
 /// The side of a child.
 #[derive(Clone, Copy, Drop)]
@@ -29,10 +29,10 @@ pub enum Colour {
     Black,
 }
 
-/// The name of one node.
+/// The name of one node: its place in the order of making, from 1 on.
 #[derive(Clone, Copy, Drop)]
 pub struct Link {
-    at: *mut Node,
+    number: u32,
 }
 
 /// A child that counts from a version on, in place of the plain one on its side.
@@ -43,12 +43,22 @@ pub struct Extra {
     pub to: Option<Link>,
 }
 
+impl Link {
+    /// Whether this is the default link.
+    #[tactic(auto, unfolding(crate::specs::Same::same))]
+    pub fn is_default(self) -> bool
+        ensures { result ≡ same self no_link }
+    {
+        self.number == 0
+    }
+}
+
 impl Default for Link {
     /// The link of no pool.
     fn default() -> Self
         ensures { result ≡ no_link }
     {
-        Link { at: null_mut() }
+        Link { number: 0 }
     }
 }
 

@@ -1,5 +1,5 @@
-//! A node as it lies in memory.
-ghost use Rattle.std.specs.Prelude.{◌≡◌};
+//! A node as it lies in memory, and the slab of nodes that is one block.
+ghost use Rattle.std.specs.Prelude.{◌≡◌, ◌<◌, Some, length, slice_get, slice_set};
 ghost use Rattle.loc_pool.specs.declared.Link.{Link};
 ghost use Rattle.loc_pool.specs.Rows.{no_link, new_row, plain_child, with_child, child_at, stamped};
 ghost use Rattle.loc_pool.specs.Cells.{if_there, row_of, mark_of};
@@ -16,8 +16,7 @@ pub enum Mark {
     RightTo,
 }
 
-/// A row in 40 bytes, and the place in the order of making. An `Option` of a link would take 16 bytes, so whether a link is there is told
-/// apart from it.
+/// A row in 24 bytes. An `Option` of a link would take 8 bytes, so whether a link is there is told apart from it.
 #[derive(Clone, Copy, Drop)]
 pub struct Node {
     left: Link,
@@ -25,7 +24,6 @@ pub struct Node {
     /// Where the extra leads.
     to: Link,
     item: u32,
-    number: u32,
     /// The version of the extra.
     version: u32,
     has_left: bool,
@@ -34,7 +32,16 @@ pub struct Node {
     colour: Colour,
 }
 
-const _: () = prove!(size_of::<Node>() <= 40);
+const _: () = prove!(size_of::<Node>() <= 24);
+
+/// How many nodes lie in a slab.
+pub(crate) const SLAB: usize = 1024;
+
+/// Nodes that share one block of memory.
+#[derive(Drop)]
+pub struct Slab {
+    nodes: [Node; SLAB],
+}
 
 // A link where it is there.
 fn if_present(there: bool, at: Link) -> Option<Link>
@@ -57,22 +64,14 @@ fn extra_mark(turn: Turn, leads: bool) -> Mark
 
 impl Node {
     /// A node with no extra.
-    pub fn new(
-        item: u32,
-        left: Option<Link>,
-        right: Option<Link>,
-        colour: Colour,
-        number: u32,
-    ) -> Node
-        ensures row { row_of result ≡ new_row item left right colour }
-        ensures number { result.number ≡ number }
+    pub fn new(item: u32, left: Option<Link>, right: Option<Link>, colour: Colour) -> Node
+        ensures { row_of result ≡ new_row item left right colour }
     {
         Node {
             left: left.unwrap_or_default(),
             right: right.unwrap_or_default(),
             to: Link::default(),
             item,
-            number,
             version: 0,
             has_left: left.is_some(),
             has_right: right.is_some(),
@@ -86,13 +85,6 @@ impl Node {
         ensures { result ≡ (row_of self.now).item }
     {
         self.item
-    }
-
-    /// The place in the order of making.
-    pub fn number(&self) -> u32
-        ensures { result ≡ self.now.number }
-    {
-        self.number
     }
 
     /// The colour.
@@ -182,12 +174,32 @@ impl Node {
     {
         Node { colour, ..self }
     }
+}
 
-    /// The node at another place in the order of making.
-    pub fn with_number(self, number: u32) -> Node
-        ensures row { row_of result ≡ row_of self }
-        ensures number { result.number ≡ number }
+impl Slab {
+    /// A slab of nodes that no row has.
+    pub(crate) fn new() -> Slab
+        ensures { length result.nodes ≡ 1024 }
     {
-        Node { number, ..self }
+        let node = Node::new(0, None, None, Colour::Black);
+        Slab {
+            nodes: [node; SLAB],
+        }
+    }
+
+    /// The node at a place.
+    pub(crate) fn node(&self, place: usize) -> &Node
+        requires { place < 1024 }
+        ensures { slice_get self.now.nodes place ≡ Some result.now }
+    {
+        &self.nodes[place]
+    }
+
+    /// Writes the node at a place.
+    pub(crate) fn put(&mut self, place: usize, node: Node)
+        requires { place < 1024 }
+        ensures { self.new.nodes ≡ slice_set self.old.nodes place node }
+    {
+        self.nodes[place] = node;
     }
 }

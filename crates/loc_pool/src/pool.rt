@@ -1,38 +1,37 @@
-//! The pool: safe code over the heap of nodes, their links in the order of making, and blocks taken beforehand.
-ghost use Rattle.std.specs.Prelude.{◌≡◌, ◌+◌, ◌-◌, ◌^◌, ◌<◌, ◌≤◌, [], ◌∷◌, ◌++◌, IsTrue, length, max, OnErr, OnOk, vec_len};
+//! The pool: rows by their links, over the nodes in the order of making.
+ghost use Rattle.std.specs.Prelude.{◌≡◌, ◌+◌, ◌-◌, ◌^◌, ◌<◌, ◌≤◌, [], ◌∷◌, ◌++◌, IsTrue, length, max, OnErr, OnOk};
 ghost use Rattle.loc_pool.specs.Maps.{has, put, links};
 ghost use Rattle.loc_pool.specs.Rows.{row, new_row, plain_child, with_child, child_at, stamped, IsFree, IsNew, AreNames, IsPlace};
 ghost use Rattle.loc_pool.specs.Cells.{row_of};
 
-use crate::heap::Heap;
 use crate::node::Node;
+use crate::slabs::{ROOM, Slabs};
 use crate::{Colour, Extra, Link, Turn};
 use std::alloc::{AllocError, Global};
 use std::marker::Model;
 
-/// For how many nodes `reserve` takes room.
-const ROOM: usize = 640;
-
 /// Rows by their links, in the order of making, and room for more of them.
+#[derive(Drop)]
 pub struct Pool {
-    heap: Heap,
-    order: Vec<Link>,
-    blocks: Vec<Box<Node>>,
-    /// How many of the blocks count as room: after a refusal more may lie there.
-    ready: usize,
-    alloc: Global,
+    slabs: Slabs,
+    /// How many nodes were made.
+    len: u32,
+    /// How many places are free.
+    free: u32,
+    /// How many of the free places count as room.
+    ready: u32,
 }
 
 impl Model for Pool {
-    ghost use Rattle.std.specs.Prelude.{vec_len, vec_capacity};
+    ghost use Rattle.std.specs.Prelude.{take};
     ghost use Rattle.loc_pool.specs.Rows.{Nodes};
-    ghost use Rattle.loc_pool.specs.Cells.{rows_of, IsPool};
+    ghost use Rattle.loc_pool.specs.Cells.{rows_from, IsPool};
 
     ghost Value = { Nodes };
 
-    ghost view = { λ p. record { rows = rows_of p.heap.cells; spare = p.ready } };
+    ghost view = { λ p. record { rows = rows_from 1 (take p.len p.slabs); spare = p.ready } };
 
-    ghost invariant = { λ p. IsPool p.heap.cells p.order.items (vec_len p.order) (vec_capacity p.order) (vec_len p.blocks) p.ready };
+    ghost invariant = { λ p. IsPool p.slabs p.len p.free p.ready };
 }
 
 impl Pool {
@@ -41,11 +40,10 @@ impl Pool {
         ensures { result ≡ record { rows = []; spare = 0 } }
     {
         Pool {
-            heap: Heap::new(),
-            order: Vec::new(alloc),
-            blocks: Vec::new(alloc),
+            slabs: Slabs::new(alloc),
+            len: 0,
+            free: 0,
             ready: 0,
-            alloc,
         }
     }
 
@@ -54,8 +52,7 @@ impl Pool {
         ensures room { OnOk result (self.new ≡ record self.old { spare = max self.old.spare 640 }) }
         ensures refused { OnErr result (self.new ≡ self.old) }
     {
-        self.order.reserve(ROOM)?;
-        fill(self.alloc, &mut self.blocks)?;
+        self.free = self.slabs.make_room(self.free)?;
         self.ready = self.ready.max(ROOM);
         Ok(())
     }
@@ -74,13 +71,12 @@ impl Pool {
         ensures rows { self.new.rows ≡ self.old.rows ++ (result, new_row item left right colour) ∷ [] }
         ensures room { self.new.spare + 1 ≡ self.old.spare }
     {
-        let number = self.order.len() as u32 + 1;
-        let mut block = self.blocks.pop().unwrap();
-        *block = Node::new(item, left, right, colour, number);
-        let at = self.heap.take(block);
-        self.order.push(at).unwrap();
+        let node = Node::new(item, left, right, colour);
+        self.slabs.set(self.len as usize, node);
+        self.len += 1;
+        self.free -= 1;
         self.ready -= 1;
-        at
+        Link { number: self.len }
     }
 
     /// The item of a node.
@@ -156,7 +152,8 @@ impl Pool {
         requires { IsTrue (has self.now.rows at) }
         ensures { IsPlace (links self.now.rows) at result }
     {
-        self.node(at).number()
+        let _ = &self.len;
+        at.number
     }
 
     /// The number of nodes.
@@ -164,7 +161,7 @@ impl Pool {
         ensures count { result ≡ length self.now.rows }
         ensures names { AreNames (links self.now.rows) }
     {
-        self.order.len() as u32
+        self.len
     }
 
     /// The link of the node with a number.
@@ -172,58 +169,22 @@ impl Pool {
         requires { (1 ≤ number) × (number ≤ length self.now.rows) }
         ensures { IsPlace (links self.now.rows) result number }
     {
-        self.order[number as usize - 1]
+        let _ = &self.len;
+        Link { number }
     }
 
     fn node(&self, at: Link) -> &Node
         requires { IsTrue (has self.now.rows at) }
-        ensures row { row_of result.now ≡ row self.now.rows at }
-        ensures number { IsPlace (links self.now.rows) at result.now.number }
+        ensures { row_of result.now ≡ row self.now.rows at }
     {
-        self.heap.get(at)
+        self.slabs.get(at.number as usize - 1)
     }
 
-    // Writes a node's row. It keeps its number.
+    // Writes a node's row.
     fn write(&mut self, at: Link, node: Node)
         requires { IsTrue (has self.old.rows at) }
         ensures { self.new ≡ record self.old { rows = put self.old.rows at (row_of node) } }
     {
-        let number = self.heap.get(at).number();
-        self.heap.set(at, node.with_number(number));
+        self.slabs.set(at.number as usize - 1, node);
     }
-}
-
-impl Drop for Pool {
-    fn drop(self) {
-        let Pool {
-            mut heap,
-            order,
-            blocks: _,
-            ready: _,
-            alloc,
-        } = self;
-        free_all(&mut heap, alloc, &order);
-        heap.end();
-    }
-}
-
-fn free_all(heap: &mut Heap, alloc: Global, order: &[Link])
-    requires { links heap.old.cells ≡ order.now }
-    ensures { heap.new.cells ≡ [] }
-{
-    'frees: for at in order {
-        heap.give(alloc, *at).free();
-    }
-}
-
-// Takes blocks until there are enough, or there is no more memory.
-fn fill(alloc: Global, blocks: &mut Vec<Box<Node>>) -> Result<(), AllocError>
-    ensures more { vec_len blocks.old ≤ vec_len blocks.new }
-    ensures enough { OnOk result (640 ≤ vec_len blocks.new) }
-{
-    'fills: while blocks.len() < ROOM {
-        let node = Node::new(0, None, None, Colour::Black, 0);
-        blocks.push(Box::new(alloc, node)?)?;
-    }
-    Ok(())
 }

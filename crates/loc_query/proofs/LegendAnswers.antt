@@ -47,7 +47,7 @@ ids_of layer = map (λ (f : Feature). f.id) layer
 
 module _ (test : Rings → Bool) where
   -- the ids of the features from a number on that pass, by number
-  by_number : (id_at : ℕ → List ℕ) (passes : ℕ → Bool) (a : ℕ) (layer : List Feature)
+  pub by_number : (id_at : ℕ → List ℕ) (passes : ℕ → Bool) (a : ℕ) (layer : List Feature)
       → ((i : ℕ) → i < length layer → (id_at (a + i) ≡ get_or (ids_of layer) i []) × (passes (a + i) ≡ test (get_or (layer_rings layer) i [])))
       → map id_at (filter passes (range_with_len a (length layer))) ≡ ids_where test layer
   by_number id_at passes a [] same = refl

@@ -14,7 +14,7 @@ use Rattle.loc_spec_plane.specs.Tables.{Table}
 use Rattle.loc_spec_text.specs.Bytes.{Text, lines}
 use Rattle.loc_spec_text.specs.Points.{ended}
 use Rattle.loc_spec_text.specs.Spans.{met_text, numbered, span_answer, span_of}
-use Rattle.loc_treeidx.proofs.Halving.{greatest_is}
+use Rattle.loc_place.proofs.SearchBounds.{greatest_is}
 use Rattle.loc_stab.specs.Runs.{run_at}
 use Rattle.loc_stab.proofs.Ranges.{goes_stop}
 use Rattle.loc_reach.specs.SpanCourses.{line_answer, line_steps, met_output, seek_bound, span_steps, text_steps}

@@ -11,7 +11,7 @@ use Rattle.loc_spec_plane.specs.Tables.{Table}
 use Rattle.loc_spec_text.specs.Bytes.{Text, lines}
 use Rattle.loc_spec_text.specs.Points.{ended}
 use Rattle.loc_spec_text.specs.Spans.{span_answer, span_of, span_output}
-use Rattle.loc_treeidx.specs.Steps.{alive_count, greatest_power, search_bound}
+use Rattle.loc_place.specs.Steps.{alive_count, greatest_power, search_bound}
 use Rattle.loc_stab.specs.Runs.{run_at}
 use Rattle.loc_course.specs.Courses.{Course, reads, searches, writes}
 use Rattle.loc_course.specs.Outcomes.{exactly}

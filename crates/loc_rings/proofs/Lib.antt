@@ -4,3 +4,5 @@ pub mod Passes
 pub mod RingLists
 pub mod Cuts
 pub mod Points
+pub mod Flags
+mod Examples

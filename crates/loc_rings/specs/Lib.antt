@@ -2,3 +2,4 @@ pub mod Parity
 pub mod Values
 pub mod Kept
 pub mod Layers
+pub mod Flags

@@ -2,6 +2,7 @@
 
 ghost use Rattle.std.specs.Prelude.{◌≡◌, ◌^◌, ◌+◌, ◌<◌, ◌≤◌, [], ◌∷◌, ◌++◌, length, slice_get, map, sum_by, nat_le, Some, IfSome, MatchOption, IfOk, OnOk, OnErr};
 ghost use Rattle.loc_spec_text.specs.Reading.{all_rings};
+ghost use Rattle.loc_rings.specs.Flags.{flagged, unflagged};
 ghost use Rattle.loc_rings.specs.Layers.{IsLayer, point_count, layer_points};
 ghost use Rattle.loc_rings.specs.Values.{Feature as FeatureOf};
 
@@ -141,5 +142,23 @@ impl Layer {
             ids.push(feature.into_id())?;
         }
         Ok(ids)
+    }
+
+    /// The features whose flag is true, and the others, each in order.
+    pub fn parted(self, alloc: Global, keep: &[bool]) -> Result<(Layer, Layer), AllocError>
+        requires { length keep.now ≡ length self }
+        ensures kept { IfOk result (λ both. both.0 ≡ flagged keep.now self) }
+        ensures others { IfOk result (λ both. both.1 ≡ unflagged keep.now self) }
+    {
+        let mut kept = Layer::new(alloc);
+        let mut others = Layer::new(alloc);
+        for feature in self.features {
+            if keep[kept.len() + others.len()] {
+                kept.add(feature)?;
+            } else {
+                others.add(feature)?;
+            }
+        }
+        Ok((kept, others))
     }
 }

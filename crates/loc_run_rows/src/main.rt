@@ -28,13 +28,14 @@ use std::alloc::Global;
 use std::{fs, io};
 
 // The files of rows, in the order in which they are played.
-const FILES: [&str; 13] = [
+const FILES: [&str; 14] = [
     "layers.rows",
     "words.rows",
     "faces.rows",
     "spans.rows",
     "groups.rows",
     "breaches.rows",
+    "features.rows",
     "texts.rows",
     "plane.rows",
     "orders.rows",

@@ -8,7 +8,7 @@ ghost use Rattle.loc_spans.specs.Rows.{AreRanges, BeginInOrder};
 
 use crate::ranges::Range;
 use crate::search::next;
-use loc_geom::{Edge, Point, Side, Steps, is_before, side};
+use loc_geom::{Edge, Point, Side, Steps, is_before};
 use std::sync::ledger::Ledger;
 
 // Whether a row of the moment of p lies under it: None where p lies on the row. A row that ends at p and does not have p on it there is under
@@ -18,8 +18,7 @@ fn is_under<L: Ledger>(row: Edge, p: Point, steps: &mut Steps<L>) -> Option<bool
     ensures met { IsMet row p result }
     ensures counted { steps.new ≡ steps.old + 1 }
 {
-    steps.tick();
-    match side(row, p) {
+    match steps.side(row, p) {
         Side::On => None,
         Side::Above => Some(is_before(p, row.hi())),
         Side::Below => Some(false),

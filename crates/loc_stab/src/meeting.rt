@@ -9,7 +9,7 @@ ghost use Rattle.loc_laws_order.proofs.AliveAt.{IsPassed};
 ghost use Rattle.loc_spec_plane.specs.Spans.{IsSpan, met_at};
 ghost use Rattle.loc_spec_text.specs.Spans.{numbered};
 ghost use Rattle.loc_treeidx.specs.Standing.{AreVersionsOf};
-ghost use Rattle.loc_treeidx.specs.Steps.{alive_count, search_bound, version_bound};
+ghost use Rattle.loc_place.specs.Steps.{alive_count, search_bound, version_bound};
 ghost use Rattle.loc_stab.specs.Runs.{run_at};
 
 use crate::beside::{write_beginning, write_ended};

@@ -9,7 +9,7 @@ ghost use Rattle.loc_laws_stab.proofs.RunOfRest.{reaches_up};
 ghost use Rattle.loc_spec_plane.specs.Places.{IsListAt};
 ghost use Rattle.loc_spec_plane.specs.Spans.{IsSpan};
 ghost use Rattle.loc_place.specs.Planar.{IsPlanar};
-ghost use Rattle.loc_treeidx.specs.Steps.{alive_count, version_bound};
+ghost use Rattle.loc_place.specs.Steps.{alive_count, version_bound};
 ghost use Rattle.loc_stab.specs.Pending.{IsRest};
 ghost use Rattle.loc_stab.specs.Runs.{run_at};
 

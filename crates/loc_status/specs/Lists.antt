@@ -1,11 +1,17 @@
--- What becomes of the list of a status: `IsInserted` and `IsRemoved`; what stands beside an edge of it: `IsBeside`; and where an edge goes: `IsPlaceFor`.
-use Rattle.std.specs.Prelude.{◌≡◌, ℕ, ◌≤◌, Bool, List, [], ◌∷◌, ◌++◌, length, map, take, drop, Option, None, Some}
+-- What becomes of the list of a status: `IsInserted` and `IsRemoved`; what stands beside an edge of it: `IsBeside`; where an edge goes:
+-- `IsPlaceFor`; and the last of a list: `IsLast`.
+use Rattle.std.specs.Prelude.{◌≡◌, ℕ, ◌-◌, ◌<◌, ◌≤◌, Bool, List, [], ◌∷◌, ◌++◌, length, map, take, drop, Option, None, Some, slice_get}
 use Rattle.std.specs.List.{All}
 use Rattle.loc_spec_plane.specs.Tables.{Table, corner, edge}
 use Rattle.loc_spec_plane.specs.Places.{is_chain}
 use Rattle.loc_edges.specs.declared.ranks.Placing.TheVariants.{Below, Above}
 use Rattle.loc_edges.specs.Placing.{IsPlacing}
 use Rattle.loc_status.specs.declared.status.Beside.{Beside}
+
+-- the last member of a list, or none
+pub record IsLast (list : List ℕ) (last : Option ℕ) : Type 0 where
+  pub none : length list ≡ 0 → last ≡ None
+  pub some : 0 < length list → last ≡ slice_get list (length list - 1)
 
 -- the list is a chain at corner c
 abbrev pub is_chain_at : Table → ℕ → List ℕ → Bool

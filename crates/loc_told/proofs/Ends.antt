@@ -1,4 +1,4 @@
--- How a command ends that writes at once and makes no file, by what its told files come to.
+-- How a command ends that makes no file, by what its told files come to.
 use Rattle.std.proofs.Common.{◌≡◌, ℕ, Bool, Option, None, sym, subst, inl, inr}
 use Rattle.std.specs.Prelude.{IsTrue}
 use Rattle.std.specs.Io.KnownBytes.{Appends}
@@ -6,8 +6,8 @@ use Rattle.loc_io.specs.Streams.{Stream}
 use Rattle.loc_spec_text.specs.Bytes.{Text}
 use Rattle.loc_course.specs.Courses.{Course}
 use Rattle.loc_course.specs.Moments.{Moment}
-use Rattle.loc_course.specs.Outcomes.{Outcome, refusal, output, exactly, outcome}
-use Rattle.loc_course.specs.Sentences.{EndsSo, IsDoing, IsPlain, NoneFailed, OutSo, Sentences, Steady}
+use Rattle.loc_course.specs.Outcomes.{Outcome, refusal, output, partly, exactly, outcome}
+use Rattle.loc_course.specs.Sentences.{EndsSo, IsDoing, MakesNone, NoneFailed, OutSo, Sentences, Steady, Wrote}
 use Rattle.loc_course.proofs.Told.{it_exactly}
 use Rattle.loc_told.specs.Answers.{IsDone, IsRefused, OrMemory}
 
@@ -15,9 +15,9 @@ use Rattle.loc_told.specs.Answers.{IsDone, IsRefused, OrMemory}
 pub not_done : (o : Outcome) (passes : Text → Bool) (before : Option Text) (new : Moment) → o ≡ refusal passes → EndsSo o before new None → ⊥
 not_done o passes before new is ends = let none : EndsSo (refusal passes) before new None = subst (λ (x : Outcome). EndsSo x before new None) is ends in none
 
-module _ (course : Course) (plain : IsPlain course) (old new : Moment) (n n' : Stream) (status : ℕ) (s : Sentences course old new n n' status) where
+module _ (course : Course) (none : MakesNone course) (old new : Moment) (n n' : Stream) (status : ℕ) (s : Sentences course old new n n' status) where
   none_failed : Steady old.shelf.read_faults new.shelf.read_faults → Steady old.out.faults new.out.faults → NoneFailed course old new
-  none_failed reads out = record { reads = reads; out = out; files = λ name maker. absurd (plain.makes_none name maker) }
+  none_failed reads out = record { reads = reads; out = out; files = λ name maker. absurd (none name maker) }
 
   memory : status ≡ 5 → (status ≡ 5) × (new.out.written ≡ old.out.written)
   memory five = (five, s.out.memory five)
@@ -57,4 +57,12 @@ module _ (course : Course) (plain : IsPlain course) (old new : Moment) (n n' : S
   refused_by line is steady = elim (refused_so (exactly line) is steady) [
     | inl one ↦ inl (subst (λ (t : Text). IsRefused old new n n' status t) (it_exactly line one.0 one.1) one.2)
     | inr five ↦ inr five
+  ]
+
+  -- a refusal by this line behind some answers
+  pub refused_behind : (out line : Text) → outcome old.shelf.told course ≡ partly out line → Steady old.shelf.read_faults new.shelf.read_faults → Steady old.out.faults new.out.faults
+      → OrMemory old new status ((status ≡ 1) × Appends old.out.written new.out.written out × Wrote n n' line)
+  refused_behind out line is reads failed = elim (s.refuses_partly out line is (none_failed reads failed)) [
+    | inl one ↦ inl one
+    | inr five ↦ inr (memory five)
   ]

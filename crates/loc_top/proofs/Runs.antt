@@ -4,7 +4,7 @@ use Rattle.std.specs.Prelude.{IfSome, option_and_then, option_map}
 use Rattle.loc_spec_text.specs.Bytes.{Text}
 use Rattle.loc_io.specs.Meaning.{KeepsFiles}
 use Rattle.loc_io.specs.Streams.{InTime, Stream}
-use Rattle.loc_words.specs.Words.{Asked, query, check, build, ask, verify, face, gen, trial, upgrade, edges, stab, valid, dissolve}
+use Rattle.loc_words.specs.Words.{Asked, query, features, check, build, ask, verify, face, gen, trial, upgrade, edges, stab, valid, dissolve}
 use Rattle.loc_course.specs.Courses.{Course, no_memory}
 use Rattle.loc_course.specs.Following.{lacks}
 use Rattle.loc_course.specs.Moments.{Moment}
@@ -18,6 +18,7 @@ use Rattle.loc_indexed.proofs.VerifyRows.{verify_plain}
 use Rattle.loc_maps.specs.MapCourses.{layer_file}
 use Rattle.loc_maps.proofs.Checked.{check_plain}
 use Rattle.loc_query.proofs.Headlines.{query_makes_none, query_refuses_behind}
+use Rattle.loc_features.proofs.Ended.{features_makes_none, features_refuses_behind}
 use Rattle.loc_face.proofs.Plainly.{face_plain}
 use Rattle.loc_breaches.proofs.Plainly.{valid_plain}
 use Rattle.loc_groups.proofs.Plainly.{dissolve_plain}
@@ -40,6 +41,9 @@ answering : (a : Asked) → IsAnswering (made_by a) (course_by a)
 answering (query asked) =
     let file = layer_file asked.layer asked.form asked.scale in
     record { makes = λ name differ. query_makes_none asked.index asked.order asked.faces file asked.points name; line = λ line by. inl (query_refuses_behind asked.index asked.order asked.faces file asked.points line by) }
+answering (features asked) =
+    let file = layer_file asked.layer asked.form asked.scale in
+    record { makes = λ name differ. features_makes_none file asked.points name; line = λ line by. inl (features_refuses_behind file asked.points line by) }
 answering (check asked) = plain_answering None (course_by (check asked)) (check_plain (layer_file asked.layer asked.form asked.scale))
 answering (build asked) =
     let file = layer_file asked.layer asked.form asked.scale in

@@ -13,7 +13,7 @@ use Rattle.loc_io.specs.Meaning.{KeepsFiles}
 use Rattle.loc_io.specs.Streams.{InTime, Stream}
 use Rattle.loc_spec_text.specs.Points.{ended}
 use Rattle.loc_words.specs.Usage.{usage_text}
-use Rattle.loc_words.specs.Words.{Asked, query, check, build, ask, verify, face, gen, trial, upgrade, edges, stab, valid, dissolve, command_of}
+use Rattle.loc_words.specs.Words.{Asked, query, features, check, build, ask, verify, face, gen, trial, upgrade, edges, stab, valid, dissolve, command_of}
 use Rattle.loc_course.specs.Courses.{Course, no_memory}
 use Rattle.loc_course.specs.Following.{IsToldAtMost}
 use Rattle.loc_course.specs.Moments.{Moment}
@@ -25,6 +25,7 @@ use Rattle.loc_indexed.specs.IndexedCourses.{ask_course}
 use Rattle.loc_indexed.specs.Verifying.{verify_course}
 use Rattle.loc_maps.specs.MapCourses.{check_course, layer_file}
 use Rattle.loc_query.specs.QueryCourses.{query_course}
+use Rattle.loc_features.specs.FeatureCourses.{features_course}
 use Rattle.loc_face.specs.FaceCourses.{face_course}
 use Rattle.loc_breaches.specs.BreachCourses.{valid_course}
 use Rattle.loc_groups.specs.GroupCourses.{dissolve_course}
@@ -35,6 +36,7 @@ use Rattle.loc_upgrade.specs.UpgradeCourses.{edges_course, upgrade_course}
 -- the course of a command
 abbrev pub course_by : Asked → Course
 course_by (query asked) = query_course asked.index asked.order asked.faces (layer_file asked.layer asked.form asked.scale) asked.points
+course_by (features asked) = features_course (layer_file asked.layer asked.form asked.scale) asked.points
 course_by (check asked) = check_course (layer_file asked.layer asked.form asked.scale)
 course_by (build asked) = build_course (layer_file asked.layer asked.form asked.scale) asked.index
 course_by (ask asked) = ask_course asked.index asked.points

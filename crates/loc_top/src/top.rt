@@ -2,9 +2,10 @@
 
 ghost use Rattle.std.specs.Prelude.{◌≡◌, ◌≤◌, Some, map, string_bytes};
 ghost use Rattle.loc_io.specs.Streams.{InTime};
-ghost use Rattle.loc_words.specs.Words.{AskedAsk, AskedBuild, AskedDissolve, AskedEdges, AskedQuery, AskedStab, AskedUpgrade, AskedValid, AskedVerify, ask, build, command_of, dissolve, edges, query, stab, upgrade, valid, verify};
+ghost use Rattle.loc_words.specs.Words.{AskedAsk, AskedBuild, AskedDissolve, AskedEdges, AskedFeatures, AskedQuery, AskedStab, AskedUpgrade, AskedValid, AskedVerify, ask, build, command_of, dissolve, edges, features, query, stab, upgrade, valid, verify};
 ghost use Rattle.loc_breaches.specs.Judges.{Judges};
 ghost use Rattle.loc_course.specs.Moments.{moment};
+ghost use Rattle.loc_features.specs.FeaturesTold.{FeaturesTold};
 ghost use Rattle.loc_groups.specs.Dissolves.{Dissolves};
 ghost use Rattle.loc_indexed.specs.Asks.{Asks};
 ghost use Rattle.loc_indexed.specs.Builds.{Builds, Built};
@@ -19,6 +20,7 @@ ghost use Rattle.loc_top.specs.Run.{FilesOf, Ran, RefusesWords, RunSentences, co
 use loc_breaches::valid;
 use loc_course::{Scale, Stop, report, write_text};
 use loc_face::face;
+use loc_features::features;
 use loc_geom::Steps;
 use loc_groups::dissolve;
 use loc_indexed::{ask, build, verify};
@@ -61,6 +63,19 @@ fn run_course<F: Shelf, O: Sink, N: Sink, L: Ledger>(
                 asked.index,
                 asked.order,
                 asked.faces,
+                shelf,
+                out,
+                steps,
+            );
+            report(outcome, notes)
+        }
+        Ok(Command::Features(asked)) => {
+            let outcome = features(
+                alloc,
+                asked.layer,
+                asked.points,
+                asked.form,
+                Scale::new(asked.scale),
                 shelf,
                 out,
                 steps,
@@ -176,6 +191,10 @@ pub fn run<F: Shelf, O: Sink, N: Sink, L: Ledger>(
 ) -> u8
     ensures headline { (asked : AskedQuery) → command_of (map string_bytes words.now) ≡ Some (query asked)
         → Headline asked.index asked.order asked.faces (layer_file asked.layer asked.form asked.scale) asked.points
+        (moment (F.meaning shelf.old) (O.meaning out.old) steps.old)
+        (moment (F.meaning shelf.new) (O.meaning out.new) steps.new) (N.meaning notes.old) (N.meaning notes.new) result }
+    ensures features { (asked : AskedFeatures) → command_of (map string_bytes words.now) ≡ Some (features asked)
+        → FeaturesTold (layer_file asked.layer asked.form asked.scale) asked.points
         (moment (F.meaning shelf.old) (O.meaning out.old) steps.old)
         (moment (F.meaning shelf.new) (O.meaning out.new) steps.new) (N.meaning notes.old) (N.meaning notes.new) result }
     ensures asks { (asked : AskedAsk) → command_of (map string_bytes words.now) ≡ Some (ask asked)

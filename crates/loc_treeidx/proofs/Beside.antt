@@ -10,13 +10,14 @@ use Rattle.loc_spec_plane.specs.Tables.{Table, IsTable, edge, lo_of}
 use Rattle.loc_laws_order.proofs.TableOrder.{edge_up}
 use Rattle.loc_status.specs.declared.status.Beside.{Beside}
 use Rattle.loc_status.specs.declared.targets.Target.TheVariants.{Begin}
-use Rattle.loc_status.specs.Lists.{is_chain_at, GoesAbove, GoesBelow, IsBeside, IsNextBelow, IsNextAbove}
+use Rattle.loc_status.specs.Lists.{is_chain_at, GoesAbove, GoesBelow, IsBeside, IsLast, IsNextBelow, IsNextAbove}
 use Rattle.loc_status.specs.Targets.{is_passed, IsSearchEnd}
 use Rattle.loc_status.proofs.Beginning.{begins_below}
 use Rattle.loc_status.proofs.Ends.{at_seam, next_below, next_above}
 use Rattle.loc_status.proofs.Standing.{is_place_for}
-use Rattle.loc_treeidx.specs.Gaps.{IsLast, IsEnd}
-use Rattle.loc_treeidx.proofs.Descents.{above_there, below_there, last_there}
+use Rattle.loc_treeidx.specs.Gaps.{IsEnd}
+use Rattle.loc_status.proofs.Lasts.{last_there}
+use Rattle.loc_treeidx.proofs.Descents.{above_there, below_there}
 
 -- what stands beside an item between two parts of a list
 pub beside_seam : (front back : List ℕ) (e : ℕ) (beside : Beside) → IsLast front beside.below → beside.above ≡ slice_get back 0 → IsBeside e (front ++ e ∷ back) beside

@@ -23,7 +23,7 @@ use Rattle.loc_status.proofs.Standing.{chain_in_range}
 use Rattle.loc_status.specs.declared.status.Beside.{Beside}
 use Rattle.loc_status.specs.Lists.{IsBeside}
 use Rattle.loc_status.specs.Meaning as status
-use Rattle.loc_treeidx.proofs.Standing.{is_in_member}
+use Rattle.loc_place.proofs.ListCounts.{is_in_member}
 use Rattle.loc_treeidx.specs.Gaps.{IsPlaceFor, IsNode}
 use Rattle.loc_treeidx.specs.Meaning.{meaning_of}
 use Rattle.loc_treeidx.proofs.Beside.{beside_seam}

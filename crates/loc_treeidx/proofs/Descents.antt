@@ -24,14 +24,9 @@ use Rattle.loc_persist.specs.Meaning.{VersionsMeaning, IsMeaning, present_nodes}
 use Rattle.loc_persist.proofs.Trees.{present-row, present-child, present-item}
 use Rattle.loc_status.specs.Targets.{IsSearchEnd}
 use Rattle.loc_status.proofs.Ends.{at_seam}
-use Rattle.loc_treeidx.specs.Gaps.{IsLast, IsDescent, IsEnd}
-
--- the last item of a list
-pub last-snoc : (front : List ℕ) (x : ℕ) → IsLast (front ++ x ∷ []) (Some x)
-last-snoc front x =
-    let n = length-append front (x ∷ []) in
-    let at : length front ≡ length (front ++ x ∷ []) - 1 = omega (arith, n) in
-    record { none = λ empty. absurd (omega (arith, n, empty)); some = λ more. sym (ap (λ k. slice_get (front ++ x ∷ []) k) (sym at) ∙ at_seam front (x ∷ [])) }
+use Rattle.loc_status.specs.Lists.{IsLast}
+use Rattle.loc_status.proofs.Lasts.{last-snoc, last_there, search_end}
+use Rattle.loc_treeidx.specs.Gaps.{IsDescent, IsEnd}
 
 -- the item that is read at a node is that of its tree
 item-is : (n : Nodes) (at : Link) (left : Tree) (x : ℕ) (colour : Colour) (right : Tree) (item : ℕ) → Fits (live n) (node at left x colour right) → ((y : Row) → n.rows at ≡ Some y → item ≡ y.item) → item ≡ x
@@ -145,27 +140,6 @@ module _ (m : VersionsMeaning) (path : List (Link × Turn)) (next : Option Link)
 pub nearer : (path longer : List (Link × Turn)) (entry : Link × Turn) → longer ≡ path ++ entry ∷ [] → length path < 42 → 44 - length longer < 44 - length path
 nearer path longer entry is short = let e = ap length is in let n = length-append path (entry ∷ []) in omega (arith, e, n, short)
 
--- the item before the end of a front, and the first of a back, by their places in the whole list
-pub last-passes : (passes : ℕ → Bool) (front back : List ℕ) (last : Option ℕ) → IsLast front last → IfSome last (λ item. passes item ≡ true) → 0 < length front → passes (get_or (front ++ back) (length front - 1) 0) ≡ true
-last-passes passes front back last is_last pass more =
-    let less : length front - 1 < length front = omega (arith, more) in
-    subst (λ x. passes x ≡ true) (sym (get_or_append_left front back 0 (length front - 1) less)) (subst (λ o. IfSome o (λ item. passes item ≡ true)) (is_last.some more ∙ slice_get-get_or front (length front - 1) 0 less) pass)
-
-first-fails : (passes : ℕ → Bool) (front back : List ℕ) (first : Option ℕ) → first ≡ slice_get back 0 → IfSome first (λ item. passes item ≡ false) → 0 < length back → passes (get_or (front ++ back) (length front) 0) ≡ false
-first-fails passes front back first is_first fail more =
-    let here : length front + 0 ≡ length front = omega arith in
-    subst (λ k. passes (get_or (front ++ back) k 0) ≡ false) here (subst (λ x. passes x ≡ false) (sym (get_or-append-add front back 0 0)) (subst (λ o. IfSome o (λ item. passes item ≡ false)) (is_first ∙ slice_get-get_or back 0 0 more) fail))
-
--- a search by the test ends between the two
-search_end : (passes : ℕ → Bool) (front back content : List ℕ) (last first : Option ℕ) → front ++ back ≡ content → IsLast front last → first ≡ slice_get back 0 → IfSome last (λ item. passes item ≡ true) → IfSome first (λ item. passes item ≡ false) → IsSearchEnd passes content (length front)
-search_end passes front back content last first whole is_last is_first pass fail =
-    let n = length-append front back in
-    subst (λ xs. IsSearchEnd passes xs (length front)) whole (record {
-      within = omega (arith, n);
-      passed = last-passes passes front back last is_last pass;
-      reached = λ less. first-fails passes front back first is_first fail (omega (arith, n, less));
-    })
-
 -- the end of the walk
 pub descent-end : (n : Nodes) (content : List ℕ) (path : List (Link × Turn)) (lower upper : Option ℕ) → IsDescent n content path None lower upper → IsEnd n content path lower upper
 descent-end n content path lower upper d =
@@ -179,13 +153,6 @@ descent-end n content path lower upper d =
       below = d.below;
       above = d.above;
     }
-
--- what stands at the end of a front
-pub last_there : (front back : List ℕ) (last : Option ℕ) → IsLast front last → 0 < length front → last ≡ slice_get (front ++ back) (length front - 1)
-last_there front back last is_last more =
-    let less : length front - 1 < length front = omega (arith, more) in
-    let inside : length front - 1 < length (front ++ back) = omega (arith, length-append front back, less) in
-    is_last.some more ∙ (slice_get-get_or front (length front - 1) 0 less ∙ (ap Some (sym (get_or_append_left front back 0 (length front - 1) less)) ∙ sym (slice_get-get_or (front ++ back) (length front - 1) 0 inside)))
 
 module _ (n : Nodes) (content : List ℕ) (path : List (Link × Turn)) (lower upper : Option ℕ) (e : IsEnd n content path lower upper) where
   -- the items beside the gap, by their places in the list

@@ -1,7 +1,6 @@
 pub mod Beside
 pub mod Changes
 pub mod Descents
-pub mod Halving
 pub mod Heights
 pub mod Searching
 pub mod Standing

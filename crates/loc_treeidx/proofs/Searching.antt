@@ -24,8 +24,8 @@ use Rattle.loc_place.specs.Planar.{IsPlanar}
 use Rattle.loc_place.proofs.Cornerless.{lies_on_is}
 use Rattle.loc_place.proofs.Listed.{listed_alive, in_area}
 use Rattle.loc_status.proofs.Ends.{at_seam}
-use Rattle.loc_treeidx.specs.Gaps.{IsLast}
-use Rattle.loc_treeidx.proofs.Descents.{last-snoc, last-passes, last_there}
+use Rattle.loc_status.specs.Lists.{IsLast}
+use Rattle.loc_status.proofs.Lasts.{last-snoc, last-passes, last_there}
 
 -- a node of a tree that stands in a version, with the trees of its children
 pub record NodeThere (version : ℕ) (rows : Map Row) (tree : Tree) (at : Link) : Type 0 where

@@ -8,13 +8,8 @@ use Rattle.loc_rb.specs.Places.{LeadsToGap, LeadsTo, Walk}
 use Rattle.loc_persist.specs.Meaning.{VersionsMeaning, present_nodes}
 use Rattle.loc_spec_plane.specs.Tables.{Table}
 use Rattle.loc_status.specs.declared.status.Beside.{Beside}
-use Rattle.loc_status.specs.Lists.{GoesAbove, GoesBelow}
+use Rattle.loc_status.specs.Lists.{GoesAbove, GoesBelow, IsLast}
 use Rattle.loc_treeidx.specs.declared.walk.Way.{Way}
-
--- the last member of a list, or none
-pub record IsLast (list : List ℕ) (last : Option ℕ) : Type 0 where
-  pub none : length list ≡ 0 → last ≡ None
-  pub some : 0 < length list → last ≡ slice_get list (length list - 1)
 
 -- a walk down the tree that has these items, with the items just below and just above what hangs at its end
 pub record IsDescent (nodes : Nodes) (content : List ℕ) (path : List (Link × Turn)) (next : Option Link) (lower upper : Option ℕ) : Type 0 where

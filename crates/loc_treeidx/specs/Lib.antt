@@ -1,4 +1,3 @@
 pub mod Gaps
 pub mod Meaning
 pub mod Standing
-pub mod Steps

@@ -5,7 +5,7 @@ ghost use Rattle.loc_spec_plane.specs.Tables.{NoConflict};
 ghost use Rattle.loc_sweep.specs.Swept.{IsSwept};
 ghost use Rattle.loc_treeidx.specs.Meaning.{meaning_of};
 ghost use Rattle.loc_treeidx.specs.Standing.{AreVersionsOf};
-ghost use Rattle.loc_treeidx.specs.Steps.{most_steps, search_bound};
+ghost use Rattle.loc_place.specs.Steps.{most_steps, search_bound};
 
 use crate::TreeIndex;
 use loc_edges::EdgeTable;

@@ -8,7 +8,7 @@ ghost use Rattle.loc_spec_plane.specs.Places.{IsPlace};
 ghost use Rattle.loc_status.specs.Meaning.{IsFresh};
 ghost use Rattle.loc_treeidx.specs.Meaning.{meaning_of};
 ghost use Rattle.loc_treeidx.specs.Standing.{AreVersionsOf};
-ghost use Rattle.loc_treeidx.specs.Steps.{alive_count, search_bound, most_steps};
+ghost use Rattle.loc_place.specs.Steps.{alive_count, search_bound, most_steps};
 
 use crate::node::node_of;
 use crate::places::place_for;

@@ -5,7 +5,7 @@ ghost use Rattle.loc_place.specs.Standing.{IsBehind};
 ghost use Rattle.loc_spec_plane.specs.Places.{IsCornerless, IsListAt, IsPlace};
 ghost use Rattle.loc_place.specs.Planar.{IsPlanar};
 ghost use Rattle.loc_treeidx.specs.Standing.{AreVersionsOf};
-ghost use Rattle.loc_treeidx.specs.Steps.{alive_count, version_bound};
+ghost use Rattle.loc_place.specs.Steps.{alive_count, version_bound};
 
 use loc_edges::Views;
 use loc_geom::{Point, Side, Steps};

@@ -1,5 +1,5 @@
 -- The points of a generated layer, asked of a locator that finds their places.
-use Rattle.std.proofs.Common.{◌≡◌, ℕ, zero, suc, ◌+◌, ◌*◌, ◌<◌, ◌≤◌, Bool, true, false, cond, List, [], ◌∷◌, ◌++◌, length, map, filter, Option, Ok, refl, sym, ◌∙◌, ap, ap₂, subst, arith}
+use Rattle.std.proofs.Common.{◌≡◌, ℕ, zero, suc, ◌+◌, ◌*◌, ◌<◌, ◌≤◌, Bool, true, false, cond, List, [], ◌∷◌, ◌++◌, length, map, filter, Option, None, Some, Ok, refl, sym, ◌∙◌, ap, ap₂, subst, arith}
 use Rattle.std.specs.Prelude.{IsTrue}
 use Rattle.std.specs.List.{range_with_len}
 use Rattle.std.proofs.Math.Path.{fun_ext}
@@ -28,10 +28,14 @@ use Rattle.loc_gen.specs.Layers.{point_number}
 use Rattle.loc_course.specs.Courses.{Stopped, searches, writes}
 use Rattle.loc_course.specs.Following.{Follows, Moment, lacks, searches_by, writes_by}
 use Rattle.loc_course.specs.Outcomes.{exactly}
-use Rattle.loc_course.proofs.Told.{it_exactly}
+use Rattle.loc_course.proofs.Told.{exactly_it, it_exactly}
+use Rattle.loc_cover.proofs.Gathered.{any_range}
 use Rattle.loc_maps.specs.Located.{table_in}
 use Rattle.loc_maps.specs.Maps.{IsMapOf}
 use Rattle.loc_faces.specs.Subdivision.{shown_at}
+use Rattle.loc_query.specs.Chosen.{HasFewNodes, index_of, nodes_of}
+use Rattle.loc_query.specs.declared.chosen.Chosen.{Chosen}
+use Rattle.loc_query.specs.declared.chosen.Chosen.TheVariants.{Scan, Tree, Trap}
 use Rattle.loc_query.specs.Answered.{answer_at, ids_where, located}
 use Rattle.loc_query.specs.QueryCourses.{steps_by}
 use Rattle.loc_query.proofs.LegendAnswers.{answer_to_line}
@@ -123,3 +127,15 @@ module _ (layer : List Feature) (t : Table) (rows : LegendRows) (sound : IsSound
         (λ text is. subst (λ (l : Text). IsTrue (is_trial_line index kind n shift layer l)) (sym (it_exactly line text is)) passes)
         (subst (λ (s : Table). Follows (searches (n * steps_by index s) (writes (exactly line))) old new end) m.table
         (subst (λ (l : Text). Follows (searches (n * steps_by index t) (writes (exactly (ended l)))) old new end) (text_is kind nodes features) follows))
+
+-- the line of a trial passes the test by the index that was chosen, with the number of its nodes
+pub line_passes : (layer : List Feature) (kind : Kind) (n shift : ℕ) (t : Table) (chosen : Chosen) → t ≡ table_in layer → HasFewNodes t chosen
+    → IsTrue (is_trial_line (index_of chosen) kind n shift layer (ended (trial_text kind n shift layer (nodes_of chosen))))
+line_passes layer kind n shift t Scan same few = let line = ended (trial_text kind n shift layer None) in exactly_it line line refl
+line_passes layer kind n shift t (Tree versions) same few =
+    let line = λ (nodes : ℕ). ended (trial_text kind n shift layer (Some nodes)) in
+    let x = length versions.rows in
+    let e = length (table_in layer).ends in
+    let edges = ap (λ (s : Table). length s.ends) same in
+    any_range (λ nodes. exactly (line nodes) (line x)) e (23 * e + 1) x (omega (arith, edges, few.0)) (omega (arith, edges, few.1)) (exactly_it (line x) (line x) refl)
+line_passes layer kind n shift t (Trap graph) same few = let line = ended (trial_text kind n shift layer None) in exactly_it line line refl

@@ -1,18 +1,14 @@
 //! A trial: the points of a generated layer, asked of an index.
 
-ghost use Rattle.std.specs.Prelude.{◌≡◌, ◌+◌, ◌*◌, ◌≤◌, IfOk, Ok, Some, length, map};
+ghost use Rattle.std.specs.Prelude.{◌≡◌, ◌+◌, ◌*◌, ◌≤◌, IfOk, length, map};
 ghost use Rattle.loc_io.specs.Meaning.{Meaning};
 ghost use Rattle.loc_spec_plane.specs.Lists.{numbers};
-ghost use Rattle.loc_spec_asked.specs.declared.Index.TheVariants as by;
 ghost use Rattle.loc_spec_text.specs.Answered.{answered};
 ghost use Rattle.loc_batch.specs.Answering.{answer_by};
 ghost use Rattle.loc_batch.specs.Batches.{no_tally};
 ghost use Rattle.loc_batch.specs.Faces.{unnumbered};
 ghost use Rattle.loc_batch.specs.Streams.{tally_of as tally_of_answers};
 ghost use Rattle.loc_cover.specs.Legends.{FitsTable};
-ghost use Rattle.loc_place.specs.Found.{place_at};
-ghost use Rattle.loc_treeidx.specs.Standing.{AreVersionsOf};
-ghost use Rattle.loc_treeidx.specs.Steps.{most_steps};
 ghost use Rattle.loc_course.specs.Following.{Follows, moment};
 ghost use Rattle.loc_course.specs.Stops.{end_of};
 ghost use Rattle.loc_maps.specs.MapCourses.{accepted_course, pieces_course};
@@ -30,15 +26,11 @@ use loc_edges::EdgeTable;
 use loc_gen::Kind;
 use loc_geom::Steps;
 use loc_io::{Sink, SteadySink};
-use loc_maps::{Plane, judge};
+use loc_orders::GivenOrder;
 use loc_place::Locator;
+use loc_query::choose;
 use loc_rings::Layer;
-use loc_scan::Scan;
 use loc_spec_asked::Index;
-use loc_status::VecStatus;
-use loc_trapdag::{Order, TrapIndex};
-use loc_treeidx::TreeIndex;
-use loc_treeidx::laws::swept_stands;
 use std::alloc::{AllocError, Global};
 use std::sync::ledger::Ledger;
 
@@ -107,42 +99,10 @@ fn try_points<I: Locator, O: Sink, L: Ledger>(
     write_out(out, &line)
 }
 
-// The same of a tree, and the line tells the number of its nodes.
-fn try_nodes<O: Sink, L: Ledger>(
+// A trial of a layer by an index. The edges of trapezoids are added as they are shuffled from the number 1.
+fn try_layer<O: Sink, L: Ledger>(
     alloc: Global,
-    index: &TreeIndex,
-    table: &EdgeTable,
-    legend: &Legend,
-    kind: Kind,
-    n: u64,
-    shift: u64,
-    out: &mut O,
-    steps: &mut Steps<L>,
-) -> Result<(), Stop>
-    requires size { n ≤ 131072 }
-    requires stands { AreVersionsOf table.now index.now }
-    requires legend { FitsTable table.now legend.now }
-    requires always { AnswersAll (answer_by 0 (λ p. Ok (place_at table.now p)) unnumbered legend.now) }
-    ensures nodes { (shelf : Meaning) → Follows (counted_course (most_steps table.now) (answer_by 0 (λ p. Ok (place_at table.now p)) unnumbered legend.now) kind n shift table.now (Some (length index.now.rows))) (moment shelf (O.meaning out.old) steps.old) (moment shelf (O.meaning out.new) steps.new) (end_of result) }
-{
-    let nodes = index.versions().nodes();
-    try_points(
-        alloc,
-        index,
-        table,
-        legend,
-        kind,
-        n,
-        shift,
-        Some(nodes),
-        out,
-        steps,
-    )
-}
-
-// A trial by the plain look at every corner and edge. The layer is swept with a sorted list.
-fn try_scan<O: Sink, L: Ledger>(
-    alloc: Global,
+    index: Index,
     layer: Layer,
     kind: Kind,
     n: u64,
@@ -152,43 +112,13 @@ fn try_scan<O: Sink, L: Ledger>(
 ) -> Result<(), Stop>
     requires size { n ≤ 131072 }
     requires features { length layer ≤ 131072 }
-    ensures { (shelf : Meaning) → Follows (pieces_course layer (accepted_course 0 layer (tried_course by.Scan kind n shift layer))) (moment shelf (O.meaning out.old) steps.old) (moment shelf (O.meaning out.new) steps.new) (end_of result) }
+    ensures { (shelf : Meaning) → Follows (pieces_course layer (accepted_course 0 layer (tried_course index kind n shift layer))) (moment shelf (O.meaning out.old) steps.old) (moment shelf (O.meaning out.new) steps.new) (end_of result) }
 {
-    let plane: Plane<VecStatus> = judge(alloc, layer, Scale::new(0))?;
-    plane.table.law();
+    let order = GivenOrder::Shuffled(SHUFFLE);
+    let plane = choose(alloc, index, order, layer, None, Scale::new(0))?;
     plane.legend.law();
+    let nodes = plane.status.nodes();
     try_points(
-        alloc,
-        &Scan,
-        &plane.table,
-        &plane.legend,
-        kind,
-        n,
-        shift,
-        None,
-        out,
-        steps,
-    )
-}
-
-// A trial by the tree of the versions that the sweep of the layer leaves.
-fn try_tree<O: Sink, L: Ledger>(
-    alloc: Global,
-    layer: Layer,
-    kind: Kind,
-    n: u64,
-    shift: u64,
-    out: &mut O,
-    steps: &mut Steps<L>,
-) -> Result<(), Stop>
-    requires size { n ≤ 131072 }
-    requires features { length layer ≤ 131072 }
-    ensures { (shelf : Meaning) → Follows (pieces_course layer (accepted_course 0 layer (tried_course by.Tree kind n shift layer))) (moment shelf (O.meaning out.old) steps.old) (moment shelf (O.meaning out.new) steps.new) (end_of result) }
-{
-    let plane: Plane<TreeIndex> = judge(alloc, layer, Scale::new(0))?;
-    plane.legend.law();
-    swept_stands(&plane.table, &plane.status);
-    try_nodes(
         alloc,
         &plane.status,
         &plane.table,
@@ -196,38 +126,7 @@ fn try_tree<O: Sink, L: Ledger>(
         kind,
         n,
         shift,
-        out,
-        steps,
-    )
-}
-
-// A trial by the trapezoids of the edges, which are added as they are shuffled from the number 1. The layer is swept with the tree.
-fn try_traps<O: Sink, L: Ledger>(
-    alloc: Global,
-    layer: Layer,
-    kind: Kind,
-    n: u64,
-    shift: u64,
-    out: &mut O,
-    steps: &mut Steps<L>,
-) -> Result<(), Stop>
-    requires size { n ≤ 131072 }
-    requires features { length layer ≤ 131072 }
-    ensures { (shelf : Meaning) → Follows (pieces_course layer (accepted_course 0 layer (tried_course by.Trap kind n shift layer))) (moment shelf (O.meaning out.old) steps.old) (moment shelf (O.meaning out.new) steps.new) (end_of result) }
-{
-    let plane: Plane<TreeIndex> = judge(alloc, layer, Scale::new(0))?;
-    plane.legend.law();
-    let order = Order::shuffled(alloc, SHUFFLE, plane.table.edge_count())?;
-    let index = TrapIndex::build(alloc, &plane.table.ranks(), &order)?;
-    try_points(
-        alloc,
-        &index,
-        &plane.table,
-        &plane.legend,
-        kind,
-        n,
-        shift,
-        None,
+        nodes,
         out,
         steps,
     )
@@ -247,9 +146,5 @@ pub fn trial<O: Sink, L: Ledger>(
     ensures { (shelf : Meaning) → Follows (trial_course index kind n shift) (moment shelf (O.meaning out.old) steps.old) (moment shelf (O.meaning out.new) steps.new) (end_of result) }
 {
     let layer = read_back(alloc, kind, n, shift)?;
-    match index {
-        Index::Scan => try_scan(alloc, layer, kind, n, shift, out, steps),
-        Index::Tree => try_tree(alloc, layer, kind, n, shift, out, steps),
-        Index::Trap => try_traps(alloc, layer, kind, n, shift, out, steps),
-    }
+    try_layer(alloc, index, layer, kind, n, shift, out, steps)
 }

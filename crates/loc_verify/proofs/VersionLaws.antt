@@ -19,7 +19,7 @@ use Rattle.loc_spec_plane.specs.Places.{IsListAt, IsVersion, alive_at}
 use Rattle.loc_laws_order.proofs.Kept.{numbers_rise, rising_kept}
 use Rattle.loc_laws_order.proofs.TableOrder.{rises}
 use Rattle.loc_laws_rays.proofs.Members.{is_in-filter}
-use Rattle.loc_treeidx.proofs.Standing.{is_in_member, listed_count}
+use Rattle.loc_place.proofs.ListCounts.{is_in_member, listed_count}
 use Rattle.loc_spec_index.specs.declared.NodeRow.{NodeRow}
 use Rattle.loc_spec_index.specs.Nodes.{Side, Left, Right, Reads, nothing, node, child_of, is_deep, IsShallow, led_to, row_of}
 use Rattle.loc_spec_index.specs.Content.{Content, table_in, root_of}

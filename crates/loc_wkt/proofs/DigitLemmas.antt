@@ -83,11 +83,15 @@ digit_at (d ∷ ds) zero h all = digit_bounds d (and_parts (is_ascii_digit d) (l
 digit_at (d ∷ ds) (suc i) h all = digit_at ds i (omega arith) (and_parts (is_ascii_digit d) (list_all is_ascii_digit ds) all).1
 
 -- the number of digits and one more of others behind them
-pub digits_behind : (before ds : List ℕ) (i : ℕ) → i < length ds → list_all is_ascii_digit ds ≡ true
+pub digit_behind : (before ds : List ℕ) (i : ℕ) → i < length ds → (48 ≤ get_or ds i 0) × (get_or ds i 0 ≤ 57)
     → digits_value 10 (before ++ take i ds) * 10 + (get_or ds i 0 - 48) ≡ digits_value 10 (before ++ take (i + 1) ds)
-digits_behind before ds i h all = let d = digit_at ds i h all in
+digit_behind before ds i h d =
     ap (λ c. digits_value 10 (before ++ take i ds) * 10 + c) (sym (digit_number (get_or ds i 0) d.0 d.1))
     ∙ sym (ap (digits_value 10) (ap (λ t. before ++ t) (take_more ds i 0 h) ∙ sym (append_assoc before (take i ds) (get_or ds i 0 ∷ []))) ∙ digits_value_push 10 (before ++ take i ds) (get_or ds i 0))
+
+pub digits_behind : (before ds : List ℕ) (i : ℕ) → i < length ds → list_all is_ascii_digit ds ≡ true
+    → digits_value 10 (before ++ take i ds) * 10 + (get_or ds i 0 - 48) ≡ digits_value 10 (before ++ take (i + 1) ds)
+digits_behind before ds i h all = digit_behind before ds i h (digit_at ds i h all)
 
 -- one digit more of a number that is kept up to a limit
 pub capped_more : (v c limit : ℕ) → min (min v limit * 10 + c) limit ≡ min (v * 10 + c) limit

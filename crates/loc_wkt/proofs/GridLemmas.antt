@@ -4,7 +4,7 @@ use Rattle.std.specs.Prelude.{if◌then◌else◌, pos, neg_ℤ, nat_le}
 use Rattle.std.specs.Char.{is_ascii_digit}
 use Rattle.std.specs.List.{before_first, after_first, list_all, list_any, position_or_len}
 use Rattle.std.specs.Str.Parse.{digits_value}
-use Rattle.std.proofs.lemmas.Bool.{and_parts, le-leb, lt-leb}
+use Rattle.std.proofs.lemmas.Bool.{and_parts, lt-leb}
 use Rattle.std.proofs.lemmas.List.Folds.{list_all-append}
 use Rattle.loc_spec_text.specs.Number.{are_digits, exponent, fraction_digits, grid_value, has_exponent, is_exponent_mark, is_in_range, is_negative, is_number, is_on_grid, is_point, is_sign, lowered, magnitude, raised, significand, unsigned, whole_digits}
 use Rattle.loc_spec_text.proofs.NumberLaws.{off_grid, on_grid, out_of_range, zero_on_grid, ten_pos}
@@ -124,21 +124,10 @@ module _ (scale : ℕ) (text : List ℕ) (d : Decimal) (kept : IsDecimal d text)
       (p.0, ap (λ n. nat_le n (10 ^ 18)) p.1 ∙ lt-leb (kept.digits.m * 10 ^ g) (10 ^ 18) (long_past kept.digits.m g big))
 
   -- a head that is kept, moved up by few places
-  near_kept : down d ≤ up scale d → d.digits.long ≡ false → up scale d - down d ≤ 18 → (is_on_grid scale text ≡ true) × (magnitude scale text ≡ d.digits.head * 10 ^ (up scale d - down d))
+  pub near_kept : down d ≤ up scale d → d.digits.long ≡ false → up scale d - down d ≤ 18 → (is_on_grid scale text ≡ true) × (magnitude scale text ≡ d.digits.head * 10 ^ (up scale d - down d))
   near_kept h short few = let h' = subst (λ n. d.lowered + n ≤ up scale d) kept.fraction h in
       let few' = subst (λ n. up scale d - (d.lowered + n) ≤ 18) kept.fraction few in
       let head = rw short at kept.digits.size in
       let p = on_grid scale text kept.digits.m d.digits.zeros (up scale d - (d.lowered + length (fraction_digits text))) kept.digits.value
       (near (raised text) (lowered text) d.raised d.lowered d.digits.zeros (length (fraction_digits text)) scale kept.raises kept.lowers kept.zeros fits small (one_way text) h' few') in
       (p.0, p.1 ∙ ap₂ (λ a n. a * 10 ^ (up scale d - (d.lowered + n))) head.0 (sym kept.fraction))
-
-  -- a value past 10 ^ 18
-  pub large_kept : down d ≤ up scale d → d.digits.long ≡ false → up scale d - down d ≤ 18 → 10 ^ 18 < d.digits.head * 10 ^ (up scale d - down d) → (is_on_grid scale text ≡ true) × (is_in_range scale text ≡ false)
-  large_kept h short few past = let p = near_kept h short few in
-      (p.0, ap (λ n. nat_le n (10 ^ 18)) p.1 ∙ lt-leb (d.digits.head * 10 ^ (up scale d - down d)) (10 ^ 18) past)
-
-  -- a value that is not
-  pub value_kept : down d ≤ up scale d → d.digits.long ≡ false → up scale d - down d ≤ 18 → d.digits.head * 10 ^ (up scale d - down d) ≤ 10 ^ 18
-      → (is_on_grid scale text ≡ true) × (is_in_range scale text ≡ true) × ((if is_negative text then neg_ℤ (pos (d.digits.head * 10 ^ (up scale d - down d))) else pos (d.digits.head * 10 ^ (up scale d - down d))) ≡ grid_value scale text)
-  value_kept h short few fit = let p = near_kept h short few in
-      (p.0, ap (λ n. nat_le n (10 ^ 18)) p.1 ∙ le-leb (d.digits.head * 10 ^ (up scale d - down d)) (10 ^ 18) fit, ap (λ m. if is_negative text then neg_ℤ (pos m) else pos m) (sym p.1))

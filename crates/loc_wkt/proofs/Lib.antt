@@ -19,3 +19,5 @@ pub mod FirstSymbol
 pub mod DigitLemmas
 pub mod GridLemmas
 pub mod GridTexts
+pub mod ShortNumbers
+pub mod ShortGrid

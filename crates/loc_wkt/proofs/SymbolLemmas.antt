@@ -29,7 +29,8 @@ mark_of false m h k = k
 whole : (b : ℕ) (ys : List ℕ) → take (length (b ∷ ys) - 1) (drop 1 (b ∷ ys)) ≡ ys
 whole b ys = take_all (length (b ∷ ys) - 1) ys (omega arith)
 
-skipped : (text rest : List ℕ) → rest ≡ drop_while is_white text → symbols text ≡ symbols rest
+-- the white space at the front is none
+pub skipped : (text rest : List ℕ) → rest ≡ drop_while is_white text → symbols text ≡ symbols rest
 skipped text rest e = symbols-skip text ∙ ap symbols (sym e)
 
 -- nothing is left behind the white space: there is no symbol

@@ -1,7 +1,8 @@
 -- The tree of a text by its first word, and the number texts of a point line by its front.
-use Rattle.std.proofs.Common.{◌≡◌, ℕ, List, [], ◌∷◌, Bool, true, false, Option, Some, None, Result, Ok, Err, option_and_then, codes, refl, ◌∙◌, ap, ap₂}
-use Rattle.std.specs.Prelude.{if◌then◌else◌, IfErr, IfOk}
+use Rattle.std.proofs.Common.{◌≡◌, ℕ, List, [], ◌∷◌, Bool, true, false, Option, Some, None, Result, Ok, Err, option_and_then, codes, refl, sym, ◌∙◌, ap, ap₂}
+use Rattle.std.specs.Prelude.{if◌then◌else◌, IfErr, IfNone, IfOk, IfSome, is_some, not}
 use Rattle.std.specs.Str.{bytes_eq}
+use Rattle.std.proofs.lemmas.Bool.{not-false, not-true}
 use Rattle.std.proofs.lemmas.Option.{same_Some}
 use Rattle.loc_spec_text.specs.Geometry.{Symbol, PointText, Polygon, word, number, open_mark, close_mark, symbols}
 use Rattle.loc_spec_text.specs.Points.{point_texts}
@@ -95,6 +96,11 @@ plain_texts (number x ∷ number y ∷ []) e = refl
 plain_texts (number x ∷ number y ∷ q ∷ ps) e = refl
 plain_texts (word w ∷ open_mark ∷ number x ∷ number y ∷ close_mark ∷ []) e = no_point_word (bytes_eq w (codes "POINT")) (number x ∷ number y ∷ close_mark ∷ []) (x, y) e
 plain_texts _ e = refl
+
+-- by what is read of a rest, and whether that is nothing
+pub nothing_by : {X : Type 0} (rest : List Symbol) (o : Option X) (b : Bool) (first : X → Symbol) (more : X → List Symbol) → IfSome o (λ x. rest ≡ first x ∷ more x) → IfNone o (rest ≡ []) → is_some o ≡ not b → is_nothing rest ≡ b
+nothing_by rest None b first more some none h = ap is_nothing none ∙ sym (not-false b (sym h))
+nothing_by rest (Some x) b first more some none h = ap is_nothing some ∙ sym (not-true b (sym h))
 
 -- a result is what it is
 pub is_ok_of : {X F : Type 0} (r x : Result X F) → x ≡ r → IfOk r (λ y. x ≡ Ok y)

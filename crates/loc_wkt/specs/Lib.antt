@@ -3,5 +3,7 @@ pub mod TokenParts
 pub mod TokenList
 pub mod TokensLeft
 pub mod GridNumbers
+pub mod ShortNumbers
+pub mod NumberTexts
 pub mod Lists
 pub mod Passes

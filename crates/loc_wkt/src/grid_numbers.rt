@@ -1,18 +1,24 @@
 // The value of a number text on the grid of a scale, exactly, for texts and exponents of any length.
 
-ghost use Rattle.std.specs.Prelude.{◌≡◌, ◌≤◌, ◌^◌, if◌then◌else◌, length, min, true};
+ghost use Rattle.std.specs.Prelude.{◌≡◌, ◌≤◌, ◌^◌, ℕ, List, if◌then◌else◌, length, min, true};
 ghost use Rattle.std.specs.Char.{is_ascii_digit};
 ghost use Rattle.std.specs.List.{list_all};
 ghost use Rattle.std.specs.Str.Parse.{digits_value};
-ghost use Rattle.loc_spec_text.specs.Number.{is_negative as is_negative_text, is_number as is_number_text, unsigned as unsigned_text};
+ghost use Rattle.loc_spec_text.specs.Number.{is_negative as is_negative_text, is_number as is_number_text, is_on_grid, magnitude as magnitude_of, unsigned as unsigned_text};
 ghost use Rattle.loc_wkt.specs.GridNumbers.{IsBounded, IsDecimal, IsGridNumber};
+ghost use Rattle.loc_wkt.specs.NumberTexts.{text_of};
 
 mod digits;
 mod parts;
+mod short;
 
 use crate::numbers::{LIMIT, is_negative, signed, unsigned};
 use digits::{Digits, capped_value};
-pub use parts::{NumberText, is_number, number_text};
+pub(crate) use parts::long_number;
+pub use parts::{LongNumber, is_number};
+pub use short::ShortNumber;
+pub(crate) use short::short_number;
+use short::short_on_grid;
 
 /// What a number text is on the grid of a scale: its grid value, or off the grid, or on it and beyond 10^18 either way.
 #[derive(Clone, Copy, Debug, PartialEq, Eq)]
@@ -32,6 +38,13 @@ struct Decimal {
     lowered: u128,
 }
 
+/// A number text that has been read: a short one, or any other by its parts.
+#[derive(Clone, Copy)]
+pub enum NumberText<'a> {
+    Short(ShortNumber<'a>),
+    Long(LongNumber<'a>),
+}
+
 /// How far an exponent raises and lowers, of which no more than 2^66 is kept.
 fn shifts(exponent: &[u8]) -> (u128, u128)
     requires { list_all is_ascii_digit (unsigned_text exponent.now) ≡ true }
@@ -47,7 +60,7 @@ fn shifts(exponent: &[u8]) -> (u128, u128)
 }
 
 /// The parts of a number text as numbers.
-fn decimal_of(number: &NumberText<'_>) -> Decimal
+fn decimal_of(number: &LongNumber<'_>) -> Decimal
     ensures { IsDecimal result number.now.text.now }
 {
     // tells that its digits can be counted
@@ -64,8 +77,19 @@ fn decimal_of(number: &NumberText<'_>) -> Decimal
     }
 }
 
-/// What a number is on the grid of a scale, which is at most 15.
-pub(crate) fn on_grid(number: &NumberText<'_>, scale: u8) -> GridNumber
+/// A whole number on the grid, with its sign, unless it is past 10^18.
+fn ranged(magnitude: u128, negative: bool) -> GridNumber
+    ensures number { (scale : ℕ) (text : List ℕ) → is_on_grid scale text ≡ true → magnitude_of scale text ≡ magnitude → negative ≡ is_negative_text text → IsGridNumber scale text result }
+    ensures bound { IsBounded result }
+{
+    if magnitude > LIMIT as u128 {
+        return GridNumber::OutOfRange;
+    }
+    GridNumber::OnGrid(signed(magnitude as u64, negative))
+}
+
+/// What a number that is not short is on the grid of a scale, which is at most 15.
+fn long_on_grid(number: &LongNumber<'_>, scale: u8) -> GridNumber
     requires { scale ≤ 15 }
     ensures number { IsGridNumber scale number.now.text.now result }
     ensures bound { IsBounded result }
@@ -84,10 +108,19 @@ pub(crate) fn on_grid(number: &NumberText<'_>, scale: u8) -> GridNumber
         return GridNumber::OutOfRange;
     }
     let magnitude = decimal.digits.head as u128 * 10u64.pow(places as u32) as u128;
-    if magnitude > LIMIT as u128 {
-        return GridNumber::OutOfRange;
+    ranged(magnitude, is_negative(number.text))
+}
+
+/// What a number is on the grid of a scale, which is at most 15.
+pub(crate) fn on_grid(number: &NumberText<'_>, scale: u8) -> GridNumber
+    requires { scale ≤ 15 }
+    ensures number { IsGridNumber scale (text_of number.now) result }
+    ensures bound { IsBounded result }
+{
+    match number {
+        NumberText::Short(short) => short_on_grid(short, scale),
+        NumberText::Long(long) => long_on_grid(long, scale),
     }
-    GridNumber::OnGrid(signed(magnitude as u64, is_negative(number.text)))
 }
 
 /// What a number text is on the grid of a scale, which is at most 15.
@@ -97,8 +130,8 @@ pub fn grid_number(text: &[u8], scale: u8) -> GridNumber
     ensures number { IsGridNumber scale text.now result }
     ensures bound { IsBounded result }
 {
-    match number_text(text) {
-        Some(number) => on_grid(&number, scale),
+    match long_number(text) {
+        Some(number) => long_on_grid(&number, scale),
         None => unreachable!(),
     }
 }

@@ -16,9 +16,15 @@ use std::alloc::Global;
 /// Room for the points of the ring whose list begins there, exact where that is right: one more than its commas, of which there is at
 /// most one in four bytes.
 fn most_points(text: &[u8]) -> usize {
-    let bytes = text.iter().take_while(|b| **b != b')').count();
-    let commas = text[..bytes].iter().filter(|b| **b == b',').count();
-    (bytes / 4).min(commas) + 1
+    let mut commas = 0;
+    for (i, b) in text.iter().enumerate() {
+        match b {
+            b')' => return commas.min(i / 4) + 1,
+            b',' => commas += 1,
+            _ => {}
+        }
+    }
+    commas.min(text.len() / 4) + 1
 }
 
 impl Values {

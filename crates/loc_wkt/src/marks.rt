@@ -7,8 +7,9 @@ ghost use Rattle.std.specs.Str.{bytes_eq};
 ghost use Rattle.loc_spec_text.specs.Bytes.{capitals, drop_while, is_white as is_white_byte};
 ghost use Rattle.loc_spec_text.specs.Geometry.{symbol_of, symbols};
 ghost use Rattle.loc_wkt.specs.Fronts.{empty_at, goes_on_at, is_word, mark_at, number_at, open_at};
+ghost use Rattle.loc_wkt.specs.NumberTexts.{text_of};
 
-use crate::grid_numbers::{NumberText, number_text};
+use crate::grid_numbers::{NumberText, long_number, short_number};
 use crate::tokens::{is_mark, next_symbol, white_length};
 
 /// The text behind the white space at its front.
@@ -53,13 +54,17 @@ pub(crate) fn goes_on(text: &[u8]) -> Option<(bool, &[u8])>
 
 /// The number at the front of a text and what follows it.
 pub(crate) fn next_number(text: &[u8]) -> Option<(NumberText<'_>, &[u8])>
-    ensures found { MatchOption result (number_at (symbols text.now) ≡ None) (λ r. number_at (symbols text.now) ≡ Some (r.0.text.now, symbols r.1.now)) }
+    ensures found { MatchOption result (number_at (symbols text.now) ≡ None) (λ r. number_at (symbols text.now) ≡ Some (text_of r.0, symbols r.1.now)) }
     ensures shorter { IfSome result (λ r. length r.1.now < length text.now) }
-    ensures within { IfSome result (λ r. length r.0.text.now ≤ length text.now) }
+    ensures within { IfSome result (λ r. length (text_of r.0) ≤ length text.now) }
 {
+    let text = skip_white(text);
+    if let Some((number, rest)) = short_number(text) {
+        return Some((NumberText::Short(number), rest));
+    }
     let (symbol, rest) = next_symbol(text)?;
-    let number = number_text(symbol)?;
-    Some((number, rest))
+    let number = long_number(symbol)?;
+    Some((NumberText::Long(number), rest))
 }
 
 /// Whether a run is this word in any ASCII case.

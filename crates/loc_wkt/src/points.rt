@@ -7,6 +7,7 @@ ghost use Rattle.loc_spec_text.specs.Number.{grid_value as grid_value_of};
 ghost use Rattle.loc_spec_text.specs.Points.{is_grid_number, point_of, point_texts};
 ghost use Rattle.loc_spec_text.specs.Reader.{point_at};
 ghost use Rattle.loc_wkt.specs.Fronts.{is_end, point_mark_at};
+ghost use Rattle.loc_wkt.specs.NumberTexts.{text_of};
 
 use crate::grid_numbers::{GridNumber, NumberText, on_grid};
 use crate::marks::{behind_open, is_this_word, next_mark, next_number};
@@ -18,9 +19,9 @@ const MOST_BYTES: usize = 4096;
 
 /// Two numbers at the front of a text, and what follows them.
 pub(crate) fn next_pair(text: &[u8]) -> Option<(NumberText<'_>, NumberText<'_>, &[u8])>
-    ensures found { MatchOption result (point_at (symbols text.now) ≡ None) (λ r. point_at (symbols text.now) ≡ Some ((r.0.text.now, r.1.text.now), symbols r.2.now)) }
-    ensures first { IfSome result (λ r. length r.0.text.now ≤ length text.now) }
-    ensures second { IfSome result (λ r. length r.1.text.now ≤ length text.now) }
+    ensures found { MatchOption result (point_at (symbols text.now) ≡ None) (λ r. point_at (symbols text.now) ≡ Some ((text_of r.0, text_of r.1), symbols r.2.now)) }
+    ensures first { IfSome result (λ r. length (text_of r.0) ≤ length text.now) }
+    ensures second { IfSome result (λ r. length (text_of r.1) ≤ length text.now) }
 {
     let (x, rest) = next_number(text)?;
     let (y, rest) = next_number(rest)?;
@@ -52,9 +53,9 @@ fn is_close_mark(text: &[u8]) -> bool
 
 /// The numbers of a point line: two alone, or two behind the word POINT in parentheses.
 fn point_numbers(text: &[u8]) -> Option<(NumberText<'_>, NumberText<'_>)>
-    ensures found { MatchOption result (point_texts (symbols text.now) ≡ None) (λ r. point_texts (symbols text.now) ≡ Some (r.0.text.now, r.1.text.now)) }
-    ensures first { IfSome result (λ r. length r.0.text.now ≤ length text.now) }
-    ensures second { IfSome result (λ r. length r.1.text.now ≤ length text.now) }
+    ensures found { MatchOption result (point_texts (symbols text.now) ≡ None) (λ r. point_texts (symbols text.now) ≡ Some (text_of r.0, text_of r.1)) }
+    ensures first { IfSome result (λ r. length (text_of r.0) ≤ length text.now) }
+    ensures second { IfSome result (λ r. length (text_of r.1) ≤ length text.now) }
 {
     match behind_point_mark(text) {
         Some(inside) => {
@@ -79,7 +80,7 @@ fn point_numbers(text: &[u8]) -> Option<(NumberText<'_>, NumberText<'_>)>
 /// The grid value of a number, unless it is off the grid or out of range.
 pub(crate) fn grid_value(number: &NumberText<'_>, scale: u8) -> Option<i64>
     requires { scale ≤ 15 }
-    ensures value { result ≡ (if is_grid_number scale number.now.text.now then Some (grid_value_of scale number.now.text.now) else None) }
+    ensures value { result ≡ (if is_grid_number scale (text_of number.now) then Some (grid_value_of scale (text_of number.now)) else None) }
     ensures bound { IfSome result (λ value. OnGrid value) }
 {
     match on_grid(number, scale) {

@@ -5,6 +5,7 @@ ghost use Rattle.loc_spec_plane.specs.Points.{OnGrid, point_at};
 ghost use Rattle.loc_spec_plane.specs.Spans.{IsSpan};
 ghost use Rattle.loc_spec_text.specs.Geometry.{symbols};
 ghost use Rattle.loc_spec_text.specs.Spans.{span_on_grid, span_texts};
+ghost use Rattle.loc_wkt.specs.NumberTexts.{text_of};
 
 use crate::grid_numbers::NumberText;
 use crate::marks::next_number;
@@ -14,7 +15,7 @@ use loc_geom::Point;
 
 /// The numbers of a span line: three, and nothing behind them.
 fn span_numbers(text: &[u8]) -> Option<(NumberText<'_>, NumberText<'_>, NumberText<'_>)>
-    ensures { MatchOption result (span_texts (symbols text.now) ≡ None) (λ r. span_texts (symbols text.now) ≡ Some (r.0.text.now, r.1.text.now, r.2.text.now)) }
+    ensures { MatchOption result (span_texts (symbols text.now) ≡ None) (λ r. span_texts (symbols text.now) ≡ Some (text_of r.0, text_of r.1, text_of r.2)) }
 {
     let (x, low, rest) = next_pair(text)?;
     let (high, rest) = next_number(rest)?;

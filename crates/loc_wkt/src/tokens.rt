@@ -7,7 +7,7 @@ mod lengths;
 mod symbols;
 
 pub use lengths::{is_white, white_length, word_length};
-pub use symbols::{is_mark, next_symbol};
+pub use symbols::{ends_symbol, is_mark, next_symbol};
 
 /// A token and the place at which it begins.
 #[derive(Clone, Copy, Debug)]

@@ -8,6 +8,7 @@ ghost use Rattle.loc_spec_text.specs.Geometry.{symbols, two};
 ghost use Rattle.loc_spec_text.specs.Reader.{wide_more, wide_point_at};
 ghost use Rattle.loc_spec_text.specs.Reading.{all_rings, number_fault as number_fault_of, ring_fault as fault_of};
 ghost use Rattle.loc_wkt.specs.GridNumbers.{IsBounded, IsGridNumber};
+ghost use Rattle.loc_wkt.specs.NumberTexts.{text_of};
 ghost use Rattle.loc_wkt.specs.Lists.{IsFurther, IsRead};
 ghost use Rattle.loc_wkt.specs.Passes.{HasRoom, after_number, after_point, nothing_read, point_or_zero, value_or_zero, with_values};
 
@@ -127,11 +128,11 @@ impl Values {
 
     /// The grid value of the next number, or 0 where it is off the grid or out of range.
     pub(crate) fn value(&mut self, text: &NumberText<'_>) -> i64
-        requires length { length text.now.text.now ≤ 2 ^ 28 }
+        requires length { length (text_of text.now) ≤ 2 ^ 28 }
         requires scale { self.old.scale ≤ 15 }
         requires room { self.old.numbers.count < 2 ^ 28 }
-        ensures value { result ≡ value_or_zero self.old.scale text.now.text.now }
-        ensures counted { self.new ≡ after_number self.old text.now.text.now }
+        ensures value { result ≡ value_or_zero self.old.scale (text_of text.now) }
+        ensures counted { self.new ≡ after_number self.old (text_of text.now) }
         ensures bound { OnGrid result }
     {
         let number = on_grid(text, self.scale);

@@ -4,6 +4,7 @@ use Rattle.std.specs.Prelude.{List, ℕ, [], ◌∷◌, ◌++◌, codes}
 -- the usage text, a line for each command
 abbrev pub usage_text : List ℕ
 usage_text = codes "usage: locate query LAYER POINTS --scale K [--form lines|csv] [--index scan|tree|trap] [--order FILE | --shuffle N] [--faces]" ++ 10 ∷ []
+    ++ codes "       locate features LAYER POINTS --scale K [--form lines|csv]" ++ 10 ∷ []
     ++ codes "       locate check LAYER --scale K [--form lines|csv]" ++ 10 ∷ []
     ++ codes "       locate build LAYER INDEX --scale K [--form lines|csv]" ++ 10 ∷ []
     ++ codes "       locate ask INDEX POINTS" ++ 10 ∷ []

@@ -18,7 +18,7 @@ use Rattle.loc_words.specs.declared.row.OptionKind.TheVariants.{Required, Option
 use Rattle.loc_words.specs.declared.row.CommandRow.{CommandRow as Row}
 use Rattle.loc_words.specs.declared.row.OptionRow.{OptionRow as Declared}
 use Rattle.loc_words.specs.declared.command.Command.{Command}
-use Rattle.loc_words.specs.declared.command.Command.TheVariants.{Query, Check, Build, Ask, Verify, Face, Gen, Trial, Upgrade, Edges, Stab, Valid, Dissolve}
+use Rattle.loc_words.specs.declared.command.Command.TheVariants.{Query, Features, Check, Build, Ask, Verify, Face, Gen, Trial, Upgrade, Edges, Stab, Valid, Dissolve}
 
 -- what a query says
 pub record AskedQuery : Type 0 where
@@ -29,6 +29,13 @@ pub record AskedQuery : Type 0 where
   pub index : Index
   pub order : AskedOrder
   pub faces : Bool
+
+-- what a question for the features at points says
+pub record AskedFeatures : Type 0 where
+  pub layer : Text
+  pub points : Text
+  pub scale : ℕ
+  pub form : Form
 
 -- what a check says
 pub record AskedCheck : Type 0 where
@@ -103,6 +110,7 @@ pub record AskedDissolve : Type 0 where
 -- a command with its values
 pub data Asked : Type 0 where
   query : AskedQuery → Asked
+  features : AskedFeatures → Asked
   check : AskedCheck → Asked
   build : AskedBuild → Asked
   ask : AskedAsk → Asked
@@ -119,6 +127,7 @@ pub data Asked : Type 0 where
 -- what a command says
 abbrev pub asked_by : Command → Asked
 asked_by (Query q) = query (record { layer = q.layer.now; points = q.points.now; scale = q.scale; form = q.form; index = q.index; order = asked_order q.order; faces = q.faces })
+asked_by (Features f) = features (record { layer = f.layer.now; points = f.points.now; scale = f.scale; form = f.form })
 asked_by (Check c) = check (record { layer = c.layer.now; scale = c.scale; form = c.form })
 asked_by (Build b) = build (record { layer = b.layer.now; index = b.index.now; scale = b.scale; form = b.form })
 asked_by (Ask a) = ask (record { index = a.index.now; points = a.points.now })
@@ -135,6 +144,7 @@ asked_by (Dissolve d) = dissolve (record { layer = d.layer.now; scale = d.scale;
 -- the scale of a command that has one is one that coordinates can have
 abbrev pub HasScale : Command → Type 0
 HasScale (Query q) = q.scale ≤ 15
+HasScale (Features f) = f.scale ≤ 15
 HasScale (Check c) = c.scale ≤ 15
 HasScale (Build b) = b.scale ≤ 15
 HasScale (Face f) = f.scale ≤ 15
@@ -204,6 +214,10 @@ query_options = layer_options ++ record { name = codes "index"; kind = Optional 
 -- query LAYER POINTS
 abbrev pub query_row : CommandRow
 query_row = record { name = codes "query"; places = codes "layer" ∷ codes "points" ∷ []; options = query_options }
+
+-- features LAYER POINTS
+abbrev pub features_row : CommandRow
+features_row = record { name = codes "features"; places = codes "layer" ∷ codes "points" ∷ []; options = layer_options }
 
 -- check LAYER
 abbrev pub check_row : CommandRow
@@ -276,6 +290,10 @@ abbrev pub query_from : List Entry → Option Asked
 query_from given = option_and_then (λ file. option_and_then (λ points. option_map (λ by. query (record { layer = file.0; points = points; scale = file.1; form = file.2; index = by.0; order = by.1; faces = stands given (codes "faces") }))
     (order_given given)) (value_in given (codes "points"))) (layer_given given)
 
+-- the question for the features at points of what was given
+abbrev pub features_from : List Entry → Option Asked
+features_from given = option_and_then (λ file. option_map (λ points. features (record { layer = file.0; points = points; scale = file.1; form = file.2 })) (value_in given (codes "points"))) (layer_given given)
+
 -- the check of what was given
 abbrev pub check_from : List Entry → Option Asked
 check_from given = option_map (λ file. check (record { layer = file.0; scale = file.1; form = file.2 })) (layer_given given)
@@ -330,7 +348,7 @@ Making = CommandRow × (List Entry → Option Asked)
 
 -- all commands
 abbrev pub commands : List Making
-commands = (query_row, query_from) ∷ (check_row, check_from) ∷ (build_row, build_from) ∷ (ask_row, ask_from) ∷ (verify_row, verify_from) ∷ (face_row, face_from) ∷ (gen_row, gen_from) ∷ (trial_row, trial_from) ∷ (upgrade_row, upgrade_from) ∷ (edges_row, edges_from) ∷ (stab_row, stab_from) ∷ (valid_row, valid_from) ∷ (dissolve_row, dissolve_from) ∷ []
+commands = (query_row, query_from) ∷ (features_row, features_from) ∷ (check_row, check_from) ∷ (build_row, build_from) ∷ (ask_row, ask_from) ∷ (verify_row, verify_from) ∷ (face_row, face_from) ∷ (gen_row, gen_from) ∷ (trial_row, trial_from) ∷ (upgrade_row, upgrade_from) ∷ (edges_row, edges_from) ∷ (stab_row, stab_from) ∷ (valid_row, valid_from) ∷ (dissolve_row, dissolve_from) ∷ []
 
 -- the row of the command of this name
 abbrev pub row_in : List Making → Text → Option CommandRow

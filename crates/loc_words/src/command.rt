@@ -15,6 +15,8 @@ use std::alloc::{AllocError, Global};
 pub enum Command<'a> {
     /// Answers to the points of a file, against a layer.
     Query(Query<'a>),
+    /// The features at the points of a file, against a layer.
+    Features(Features<'a>),
     /// The counts of a layer.
     Check(Check<'a>),
     /// An index file of a layer.
@@ -52,6 +54,15 @@ pub struct Query<'a> {
     pub index: Index,
     pub order: EdgeOrder<'a>,
     pub faces: bool,
+}
+
+/// What a question for the features at points says. Its places are as they stand in the words.
+#[derive(Clone, Copy, Debug, PartialEq, Eq)]
+pub struct Features<'a> {
+    pub layer: &'a str,
+    pub points: &'a str,
+    pub scale: u8,
+    pub form: Form,
 }
 
 /// What a check says.
@@ -184,6 +195,12 @@ const QUERY: CommandRow<'static> = CommandRow {
     options: &[SCALE, FORM, INDEX, ORDER, SHUFFLE, FACES],
 };
 
+const FEATURES: CommandRow<'static> = CommandRow {
+    name: "features",
+    places: &["layer", "points"],
+    options: &[SCALE, FORM],
+};
+
 const CHECK: CommandRow<'static> = CommandRow {
     name: "check",
     places: &["layer"],
@@ -301,6 +318,20 @@ fn query_from<'a>(given: &Given<'a>) -> Option<Command<'a>>
         index,
         order,
         faces,
+    }))
+}
+
+fn features_from<'a>(given: &Given<'a>) -> Option<Command<'a>>
+    ensures scale { IfSome result spec.HasScale }
+    ensures value { option_map spec.asked_by result ≡ spec.features_from (given_by given.now) }
+{
+    let (layer, scale, form) = layer_given(given)?;
+    let points = given.value("points")?;
+    Some(Command::Features(Features {
+        layer,
+        points,
+        scale,
+        form,
     }))
 }
 
@@ -432,6 +463,7 @@ fn row_named(name: &str) -> Option<&'static CommandRow<'static>>
 {
     match name {
         "query" => Some(&QUERY),
+        "features" => Some(&FEATURES),
         "check" => Some(&CHECK),
         "build" => Some(&BUILD),
         "ask" => Some(&ASK),
@@ -455,6 +487,7 @@ fn command_from<'a>(name: &str, given: &Given<'a>) -> Option<Command<'a>>
 {
     match name {
         "query" => query_from(given),
+        "features" => features_from(given),
         "check" => check_from(given),
         "build" => build_from(given),
         "ask" => ask_from(given),

@@ -7,6 +7,7 @@ ghost use Rattle.loc_write.specs.Bytes.{header_bytes, id_bytes, corner_bytes, ed
 ghost use Rattle.loc_rings.specs.Values.{most_id_bytes};
 
 use arrayvec::ArrayVec;
+use byteorder::{BigEndian, ByteOrder};
 use loc_edges::Mark;
 use loc_geom::Point;
 use loc_spec_index::NodeRow;
@@ -32,7 +33,9 @@ fn add_number(row: &mut RowBytes, number: u32)
     ensures bytes { row.new.items ≡ row.old.items ++ to_be_bytes w32 number }
     ensures size { length row.new.items ≡ length row.old.items + 4 }
 {
-    add(row, &number.to_be_bytes());
+    let mut bytes = [0; 4];
+    BigEndian::write_u32(&mut bytes, number);
+    add(row, &bytes);
 }
 
 // A coordinate behind the others, in two's complement.
@@ -41,7 +44,9 @@ fn add_coordinate(row: &mut RowBytes, value: i64)
     ensures bytes { row.new.items ≡ row.old.items ++ to_be_bytes w64 (cast_unsigned w64 value) }
     ensures size { length row.new.items ≡ length row.old.items + 8 }
 {
-    add(row, &value.to_be_bytes());
+    let mut bytes = [0; 8];
+    BigEndian::write_i64(&mut bytes, value);
+    add(row, &bytes);
 }
 
 // A number of one byte behind the others.

@@ -1,47 +1,9 @@
-//! The program: real files, standard output as `out`, standard error as notes, and the status that the run answers.
+//! The program. Its lines stand in `loc_start`, which two small programs of other words share.
 #![tactic(auto)]
 
-ghost use Rattle.std.specs.Prelude.{◌≡◌, ◌<◌};
-
-use loc_io::{FileShelf, StdSink};
-use loc_top::{Steps, run};
-use std::alloc::Global;
-use std::marker::Brand;
+use loc_start::answer;
 use std::process::ExitCode;
-use std::sync::ledger::{Blank, Ledger};
-use std::{env, io};
-
-// Want of memory for the words, before a run begins.
-const NO_MEMORY: u8 = 5;
-
-// A run over real files, whose count of steps has this name.
-fn start<L: Ledger>(rt: &HostRuntime, alloc: Global, words: &[String], blank: Blank) -> u8
-    requires name { blank.name ≡ L.name }
-    requires parts { blank.parts ≡ L.parts }
-    requires some { 0 < L.parts }
-{
-    let out = rt.stdout();
-    let err = rt.stderr();
-    let mut shelf = FileShelf::new(rt);
-    let mut sink = StdSink::new(io::writer(&out));
-    let mut notes = StdSink::new(io::writer(&err));
-    let mut steps = Steps::<L>::new(blank);
-    run(alloc, words, &mut shelf, &mut sink, &mut notes, &mut steps)
-}
-
-// The words behind the program's own name. Words that are not UTF-8 are no command, as no words are.
-fn words(rt: &HostRuntime, alloc: Global) -> Option<Vec<String>> {
-    match env::args(rt) {
-        Ok(args) => args.skip(1).collect(alloc).ok(),
-        Err(error) if error.kind() == io::ErrorKind::OutOfMemory => None,
-        Err(_) => Some(Vec::new(alloc)),
-    }
-}
 
 fn main(rt: HostRuntime) -> ExitCode {
-    let alloc = rt.alloc();
-    match words(&rt, alloc) {
-        Some(words) => ExitCode::from(start::<Brand>(&rt, alloc, words.as_slice(), Blank::new(1))),
-        None => ExitCode::from(NO_MEMORY),
-    }
+    answer(&rt)
 }

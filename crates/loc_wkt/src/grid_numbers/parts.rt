@@ -84,9 +84,9 @@ fn is_digits(text: &[u8]) -> bool
     !text.is_empty() && all_digits(text)
 }
 
-/// A number text, cut into its parts once.
+/// A number text of any length, cut into its parts once.
 #[derive(Clone, Copy)]
-pub struct NumberText<'a> {
+pub struct LongNumber<'a> {
     pub text: &'a [u8],
     pub parts: NumberParts<'a>,
     ghost number: { is_number_text text.now ≡ true },
@@ -109,13 +109,13 @@ fn are_of_number(parts: &NumberParts<'_>) -> bool
 }
 
 /// The number that a text is: a sign or none, digits with at most one point, and an exponent or none.
-pub fn number_text(text: &[u8]) -> Option<NumberText<'_>>
+pub fn long_number(text: &[u8]) -> Option<LongNumber<'_>>
     ensures none { IfNone result (is_number_text text.now ≡ false) }
     ensures same { IfSome result (λ number. number.text.now ≡ text.now) }
 {
     let parts = parts(text);
     if are_of_number(&parts) {
-        Some(NumberText { text, parts })
+        Some(LongNumber { text, parts })
     } else {
         None
     }
@@ -125,5 +125,5 @@ pub fn number_text(text: &[u8]) -> Option<NumberText<'_>>
 pub fn is_number(text: &[u8]) -> bool
     ensures { result ≡ is_number_text text.now }
 {
-    number_text(text).is_some()
+    long_number(text).is_some()
 }

@@ -3,7 +3,7 @@
 ghost use Rattle.std.specs.Prelude.{◌≡◌, ◌∷◌, [], ◌<◌, ◌≤◌, length, take, drop, slice_index, false, IfSome, IfNone};
 ghost use Rattle.std.specs.List.{position_or_len};
 ghost use Rattle.loc_spec_text.specs.Bytes.{is_white as is_white_byte};
-ghost use Rattle.loc_spec_text.specs.Geometry.{is_break as is_break_byte, is_mark as is_mark_byte, symbol_of, symbols};
+ghost use Rattle.loc_spec_text.specs.Geometry.{ends_symbol as ends_symbol_before, is_break as is_break_byte, is_mark as is_mark_byte, symbol_of, symbols};
 
 use super::lengths::{is_white, white_length};
 
@@ -19,6 +19,16 @@ fn is_break(b: u8) -> bool
     ensures { result ≡ is_break_byte b }
 {
     is_white(b) || is_mark(b)
+}
+
+/// Whether no symbol goes on into a text.
+pub fn ends_symbol(text: &[u8]) -> bool
+    ensures { result ≡ ends_symbol_before text.now }
+{
+    match text {
+        [] => true,
+        [b, ..] => is_break(*b),
+    }
 }
 
 /// The number of bytes before the first white space or mark.

@@ -1,4 +1,4 @@
-use Rattle.std.proofs.Common.{ap, map}
+use Rattle.std.proofs.Common.{ap}
 use Rattle.std.specs.List.{flat_map}
 use Rattle.loc_spec_text.specs.Points.{quoted_byte}
 use Rattle.loc_spec_groups.specs.GroupTexts.{polygons_text}

@@ -1,4 +1,4 @@
-use Rattle.std.proofs.Common.{◌++◌, refl, arith}
+use Rattle.std.proofs.Common.{refl, arith}
 use Rattle.std.specs.List.{flat_map}
 use Rattle.loc_spec_groups.specs.GroupTexts.{group_row}
 use Rattle.std.proofs.lemmas.Result.{err_from_is_err_and}

@@ -1,4 +1,4 @@
-use Rattle.loc_file.specs.Rows.{corner_row}
+use Rattle.loc_spec_index.specs.IndexFile.{corner_row}
 use Rattle.loc_file.proofs.Loops.{AreKept}
 use Rattle.loc_file.proofs.corners.read_corners.Given as goal
 

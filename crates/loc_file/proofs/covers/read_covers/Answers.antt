@@ -1,6 +1,6 @@
 use Rattle.std.proofs.Common.{map, ap, ◌∙◌, arith}
 use Rattle.std.specs.Prelude.{None}
-use Rattle.loc_file.specs.Rows.{cover_row}
+use Rattle.loc_spec_index.specs.IndexFile.{cover_row}
 use Rattle.loc_file.proofs.Steps.{handed, unheld, stop-along, row-along}
 use Rattle.std.specs.List.{last_or}
 use Rattle.std.proofs.lemmas.List.{map-append}

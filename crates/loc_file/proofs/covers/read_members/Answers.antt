@@ -1,7 +1,8 @@
 use Rattle.std.proofs.Common.{rules, ap, ◌∙◌, arith}
 use Rattle.std.specs.Prelude.{None}
-use Rattle.loc_file.specs.Readings.{stop}
-use Rattle.loc_file.specs.Rows.{number_row}
+use Rattle.std.specs.Int.{w32}
+use Rattle.loc_spec_index.specs.IndexFile.{number}
+use Rattle.loc_file.specs.Readings.{stop, one}
 use Rattle.loc_file.proofs.Steps.{handed, unheld, fault-first}
 use Rattle.loc_file.proofs.Loops.{alone-more, alone-stop, alone-all, alone-none}
 use Rattle.std.specs.List.{last_or}
@@ -10,20 +11,20 @@ use Rattle.loc_file.proofs.Orders.{rising-more}
 use Rattle.loc_file.proofs.covers.read_members.Goals as goal
 
 pub loop-row-init : goal.loop-row-init
-loop-row-init c = record { rows = alone-none (number_row c.args.features) _ _ c.new-members.ensures.items; last_is = search rules; rising = search rules }
+loop-row-init c = record { rows = alone-none (one (number w32 c.args.features)) _ _ c.new-members.ensures.items; last_is = search rules; rising = search rules }
 
 pub returns-in_err-member-clause-err : goal.returns-in_err-member-clause-err
-returns-in_err-member-clause-err c = handed c.from_residual.result _ _ c.from_residual.ensures.1 (alone-stop (number_row c.args.features) _ _ _ c.loop-row.invariant.rows c.loop-row-test.true (stop 0 _ tt (fault-first _ _ (c.in_err-member.ensures.err 0))))
+returns-in_err-member-clause-err c = handed c.from_residual.result _ _ c.from_residual.ensures.1 (alone-stop (one (number w32 c.args.features)) _ _ _ c.loop-row.invariant.rows c.loop-row-test.true (stop 0 _ tt (fault-first _ _ (c.in_err-member.ensures.err 0))))
 
 pub returns-in_err-keep-clause-err : goal.returns-in_err-keep-clause-err
 returns-in_err-keep-clause-err c = unheld _ _ _ c.from_residual-in_err-keep.result _ c.from_residual-in_err-keep.ensures.1 c.in_err-keep.ensures.err
 
 pub loop-row-preserved : goal.loop-row-preserved
 loop-row-preserved c = record {
-  rows = alone-more (number_row c.args.features) _ _ _ _ c.loop-row.invariant.rows c.in_ok-member.ensures.ok c.in_ok-keep.ensures.ok;
+  rows = alone-more (one (number w32 c.args.features)) _ _ _ _ c.loop-row.invariant.rows c.in_ok-member.ensures.ok c.in_ok-keep.ensures.ok;
   last_is = ap (last_or None) c.in_ok-keep.ensures.ok ∙ last-is None c.loop-row.members.items c.in_ok-member.member;
   rising = rising-more c.in_ok-member.member c.loop-row.members.items _ _ _ _ c.loop-row.invariant.last_is c.loop-row.invariant.rising c.is_still-rises.ensures c.in_ok-keep.ensures.ok;
 }
 
 pub returns-clause-ok : goal.returns-clause-ok
-returns-clause-ok c = alone-all (number_row c.args.features) _ _ _ c.loop-row.invariant.rows (omega arith)
+returns-clause-ok c = alone-all (one (number w32 c.args.features)) _ _ _ c.loop-row.invariant.rows (omega arith)

@@ -1,4 +1,4 @@
-use Rattle.std.proofs.Common.{sym, ◌∙◌, subst, arith}
+use Rattle.std.proofs.Common.{sym, subst, arith}
 use Rattle.loc_spec_index.specs.declared.IndexFault.TheVariants as fault
 use Rattle.loc_spec_index.specs.IndexFile.{IsFileOf}
 use Rattle.loc_file.specs.Keeping.{FileOf}

@@ -1,5 +1,5 @@
 use Rattle.std.proofs.Common.{◌≡◌, map, take}
-use Rattle.loc_file.specs.Rows.{told_source}
+use Rattle.loc_file.specs.Told.{told_source}
 use Rattle.loc_file.proofs.held.sources_of.Given as goal
 
 -- the sources of the edges before stand there

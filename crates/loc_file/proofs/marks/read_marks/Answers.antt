@@ -1,5 +1,5 @@
 use Rattle.std.proofs.Common.{arith}
-use Rattle.loc_file.specs.Rows.{mark_row}
+use Rattle.loc_spec_index.specs.IndexFile.{mark_row}
 use Rattle.loc_file.proofs.Steps.{handed, unheld}
 use Rattle.loc_file.proofs.Loops.{kept-more, kept-stop, kept-all, kept-none}
 use Rattle.loc_file.proofs.marks.read_marks.Goals as goal

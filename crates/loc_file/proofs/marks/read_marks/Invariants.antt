@@ -1,4 +1,4 @@
-use Rattle.loc_file.specs.Rows.{mark_row}
+use Rattle.loc_spec_index.specs.IndexFile.{mark_row}
 use Rattle.loc_file.proofs.Loops.{AreKept}
 use Rattle.loc_file.proofs.marks.read_marks.Given as goal
 

@@ -3,8 +3,8 @@ use Rattle.std.specs.Prelude.{IfOk}
 use Rattle.std.specs.List.{flat_map}
 use Rattle.loc_page.proofs.Pages.{put_same}
 use Rattle.loc_spec_text.specs.Spans.{numbered}
-use Rattle.loc_treeidx.specs.Steps.{alive_count}
-use Rattle.loc_treeidx.proofs.Standing.{listed_count, square_rises}
+use Rattle.loc_place.specs.Steps.{alive_count}
+use Rattle.loc_place.proofs.ListCounts.{listed_count, square_rises}
 use Rattle.loc_stab.proofs.Alive.{sought_rest, sought_run}
 use Rattle.loc_stab.proofs.run.write_alive.Goals as goal
 

@@ -10,6 +10,8 @@ use Rattle.loc_indexed.proofs.Outcomes.{asks}
 use Rattle.loc_indexed.proofs.VerifyRows.{verifies}
 use Rattle.loc_query.specs.QueryCourses.{query_course}
 use Rattle.loc_query.proofs.Headlines.{headline}
+use Rattle.loc_features.specs.FeatureCourses.{features_course}
+use Rattle.loc_features.proofs.Ended.{features_told}
 use Rattle.loc_breaches.specs.BreachCourses.{valid_course}
 use Rattle.loc_breaches.proofs.Answered.{judges}
 use Rattle.loc_groups.specs.GroupCourses.{dissolve_course}
@@ -28,6 +30,11 @@ returns-clause-headline g c asked is =
     let file = layer_file asked.layer asked.form asked.scale in
     let course = query_course asked.index asked.order asked.faces file asked.points in
     headline asked.index asked.order asked.faces file asked.points _ _ _ _ _ (sentences_of _ _ _ _ c.run_course.result _ c.run_course.ensures.ran course (ap (option_map course_by) is))
+
+pub returns-clause-features : goal.returns-clause-features
+returns-clause-features g c asked is =
+    let file = layer_file asked.layer asked.form asked.scale in
+    features_told file asked.points _ _ _ _ _ (sentences_of _ _ _ _ c.run_course.result _ c.run_course.ensures.ran (features_course file asked.points) (ap (option_map course_by) is))
 
 pub returns-clause-asks : goal.returns-clause-asks
 returns-clause-asks g c asked is =

@@ -1,6 +1,6 @@
 use Rattle.std.proofs.Common.{length}
-use Rattle.loc_treeidx.specs.Steps.{search_bound}
-use Rattle.loc_treeidx.proofs.Halving.{greatest_is, most_within}
+use Rattle.loc_place.specs.Steps.{search_bound}
+use Rattle.loc_place.proofs.SearchBounds.{greatest_is, most_within}
 use Rattle.loc_treeidx.proofs.laws.most_is_greatest.Goals as goal
 
 pub returns-clause-most : goal.returns-clause-most

@@ -1,6 +1,7 @@
 use Rattle.std.proofs.Common.{[], ◌-◌, length, get_or, arith}
-use Rattle.loc_treeidx.specs.Steps.{alive_count}
-use Rattle.loc_treeidx.proofs.Standing.{version_behind, listed_count, square_rises}
+use Rattle.loc_place.specs.Steps.{alive_count}
+use Rattle.loc_treeidx.proofs.Standing.{version_behind}
+use Rattle.loc_place.proofs.ListCounts.{listed_count, square_rises}
 use Rattle.loc_treeidx.proofs.version.search_behind.Goals as goal
 
 pub search_version-requires-clause-alive : goal.search_version-requires-clause-alive

@@ -1,10 +1,11 @@
 use Rattle.std.proofs.Common.{◌≡◌, ◌∙◌, ap, sym, None, Some, rules}
-use Rattle.loc_spec_text.specs.Geometry.{symbols}
+use Rattle.loc_spec_text.specs.Geometry.{symbol_of, symbols}
 use Rattle.loc_spec_text.specs.Reader.{point_at}
 use Rattle.std.specs.Prelude.{if◌then◌else◌}
 use Rattle.loc_wkt.specs.Fronts.{is_end, point_mark_at}
 use Rattle.loc_wkt.proofs.FrontLemmas.{at_none}
-use Rattle.loc_wkt.proofs.TagLemmas.{is_nothing, marked_texts, pair_then, plain_texts}
+use Rattle.loc_wkt.proofs.TagLemmas.{is_nothing, marked_texts, nothing_by, pair_then, plain_texts}
+use Rattle.loc_wkt.specs.NumberTexts.{text_of}
 use Rattle.loc_wkt.proofs.points.point_numbers.Goals as goal
 
 pub returns-in_err-x-in-Some-clause-found : goal.returns-in_err-x-in-Some-clause-found
@@ -18,8 +19,18 @@ returns-in_err-x-in-None-clause-found c = let none : point_at (symbols c.args.te
 
 pub returns-then-is_close_mark-clause-found : goal.returns-then-is_close_mark-clause-found
 returns-then-is_close_mark-clause-found c = marked_texts (symbols c.args.text.now) (symbols c.in-Some.inside.now) c.in-Some.ensures.found ∙ ap (pair_then is_end) c.in_ok-x-in-Some.ensures.found
-    ∙ ap (λ b. if b then Some (c.in_ok-x-in-Some.x.text.now, c.in_ok-x-in-Some.y.text.now) else None) (sym c.is_close_mark.ensures ∙ c.if-is_close_mark.true)
+    ∙ ap (λ b. if b then Some (text_of c.in_ok-x-in-Some.x, text_of c.in_ok-x-in-Some.y) else None) (sym c.is_close_mark.ensures ∙ c.if-is_close_mark.true)
 
 pub returns-else-is_close_mark-clause-found : goal.returns-else-is_close_mark-clause-found
 returns-else-is_close_mark-clause-found c = marked_texts (symbols c.args.text.now) (symbols c.in-Some.inside.now) c.in-Some.ensures.found ∙ ap (pair_then is_end) c.in_ok-x-in-Some.ensures.found
-    ∙ ap (λ b. if b then Some (c.in_ok-x-in-Some.x.text.now, c.in_ok-x-in-Some.y.text.now) else None) (sym c.is_close_mark.ensures ∙ c.if-is_close_mark.false)
+    ∙ ap (λ b. if b then Some (text_of c.in_ok-x-in-Some.x, text_of c.in_ok-x-in-Some.y) else None) (sym c.is_close_mark.ensures ∙ c.if-is_close_mark.false)
+
+pub returns-then-is_none-clause-found : goal.returns-then-is_none-clause-found
+returns-then-is_none-clause-found c = plain_texts (symbols c.args.text.now) c.in-None.ensures.found ∙ ap (pair_then is_nothing) c.in_ok-x-in-None.ensures.found
+    ∙ ap (λ b. if b then Some (text_of c.in_ok-x-in-None.x, text_of c.in_ok-x-in-None.y) else None)
+    (nothing_by (symbols c.in_ok-x-in-None.rest.now) c.next_symbol.result c.is_none.result (λ x. symbol_of x.0.now) (λ x. symbols x.1.now) c.next_symbol.ensures.found c.next_symbol.ensures.none c.is_none.ensures ∙ c.if-is_none.true)
+
+pub returns-else-is_none-clause-found : goal.returns-else-is_none-clause-found
+returns-else-is_none-clause-found c = plain_texts (symbols c.args.text.now) c.in-None.ensures.found ∙ ap (pair_then is_nothing) c.in_ok-x-in-None.ensures.found
+    ∙ ap (λ b. if b then Some (text_of c.in_ok-x-in-None.x, text_of c.in_ok-x-in-None.y) else None)
+    (nothing_by (symbols c.in_ok-x-in-None.rest.now) c.next_symbol.result c.is_none.result (λ x. symbol_of x.0.now) (λ x. symbols x.1.now) c.next_symbol.ensures.found c.next_symbol.ensures.none c.is_none.ensures ∙ c.if-is_none.false)

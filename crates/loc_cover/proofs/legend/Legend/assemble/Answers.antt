@@ -1,4 +1,4 @@
-use Rattle.std.proofs.Common.{◌≡◌, ℕ, ◌<◌, ◌≤◌, [], length, get_or, map, refl, sym, ◌∙◌, subst, arith}
+use Rattle.std.proofs.Common.{◌≡◌, ℕ, ◌<◌, ◌≤◌, [], length, get_or, refl, sym, ◌∙◌, ap, subst, arith}
 use Rattle.std.specs.Prelude.{All, IsTrue, nat_lt}
 use Rattle.std.proofs.lemmas.List.{length-map}
 use Rattle.loc_spec_plane.specs.Lists.{IsRisingListOf, is_rising}
@@ -15,11 +15,11 @@ invariant_of-result c =
     let rows = c.in_ok-on_corner.on_corner in
     let edge_rows = c.in_ok-on_edge.on_edge in
     let lists = c.args.lists in
-    let ids : length (map (λ id. id.items) c.args.ids.items) ≡ length c.args.ids.items = length-map c.args.ids.items (λ id. id.items) in
+    let ids : length c.in_ok-ids.ids ≡ length c.args.ids.items = ap length c.in_ok-ids.ensures ∙ length-map c.args.ids.items (λ id. id.items) in
     let corners : length c.in_ok-on_corner.on_corner ≡ length t.corners = c.in_ok-on_corner.ensures.as_many in
     let edges : length c.in_ok-on_edge.on_edge ≡ length t.ends = c.in_ok-on_edge.ensures.as_many in
-    let many : feature_count c.args.table.now ≤ length (map (λ id. id.items) c.args.ids.items) = omega (arith, c.requires.features, ids) in
-    let most = length (map (λ id. id.items) c.args.ids.items) in
+    let many : feature_count c.args.table.now ≤ length c.in_ok-ids.ids = omega (arith, c.requires.features, ids) in
+    let most = length c.in_ok-ids.ids in
     let corner_rows : (n : ℕ) → n < length c.in_ok-on_corner.on_corner → IsRisingListOf nat_lt (has_at c.args.table.now n) (get_or c.in_ok-on_corner.on_corner n []) = λ n fits. c.in_ok-on_corner.ensures.each n (omega (arith, corners)) in
     let marked_rows : (n : ℕ) → n < length c.in_ok-on_edge.on_edge → IsRisingListOf nat_lt (λ f. has c.args.table.now f n) (get_or c.in_ok-on_edge.on_edge n []) = λ n fits. c.in_ok-on_edge.ensures.each n (omega (arith, edges)) in
     record {

@@ -9,7 +9,7 @@ use Rattle.loc_persist.proofs.store.StoreLinks.colour.Goals as goal
 
 pub colour-requires : goal.colour-requires
 colour-requires c =
-    let i = c.self.inside in let k = subst (λ (s : Stored). HasRow (nodes_of s) c.args.at) (sym c.self.view_is) c.requires in (row-is (length i.roots.items) i.present.pool.rows c.args.at k.0 k.1).0
+    let i = c.self.inside in let k = subst (λ (s : Stored). HasRow (nodes_of s) c.args.at) (sym c.self.view_is) c.requires in (row-is (length i.roots) i.present.pool.rows c.args.at k.0 k.1).0
 
 pub returns : goal.returns
 returns c x e =

@@ -1,18 +1,19 @@
-use Rattle.std.proofs.Common.{◌≡◌, true, sym, ap, ◌∙◌, subst}
-use Rattle.loc_pool.specs.Maps.{has, links}
-use Rattle.loc_pool.specs.Rows.{row, IsPlace}
-use Rattle.loc_pool.specs.Cells.{row_of}
-use Rattle.loc_pool.proofs.Cells.{has-rows_of, row-rows_of, links-rows_of, numbered-place}
+use Rattle.std.proofs.Common.{◌≡◌, true, sym, ap, ◌∙◌, arith, take}
+use Rattle.loc_pool.specs.Maps.{has}
+use Rattle.loc_pool.specs.Rows.{row}
+use Rattle.loc_pool.specs.Cells.{rows_from}
+use Rattle.loc_pool.proofs.Numbered.{made-within, made-row}
 use Rattle.loc_pool.proofs.pool.Pool.node.Goals as goal
 
+pub overflow_sub-at : goal.overflow_sub-at
+overflow_sub-at c = (made-within _ c.self.inside.len c.args.at (ap (λ v. has v.rows c.args.at) c.self.view_is ∙ c.requires)).0
+
 pub get-requires : goal.get-requires
-get-requires c = sym (has-rows_of _ _) ∙ ap (λ v. has v.rows c.args.at) c.self.view_is ∙ c.requires
+get-requires c =
+    let w = made-within c.self.inside.slabs c.self.inside.len c.args.at (ap (λ v. has v.rows c.args.at) c.self.view_is ∙ c.requires) in let places = c.self.invariant.places in
+    omega (arith, w.0, w.1, places)
 
-pub returns-clause-row : goal.returns-clause-row
-returns-clause-row c = ap row_of c.get.ensures ∙ row-rows_of _ _ ∙ ap (λ v. row v.rows c.args.at) c.self.view_is
-
-pub returns-clause-number : goal.returns-clause-number
-returns-clause-number c =
-    let held : has c.self.inside.heap.cells c.args.at ≡ true = sym (has-rows_of _ _) ∙ ap (λ v. has v.rows c.args.at) c.self.view_is ∙ c.requires in
-    subst (λ ls. IsPlace ls c.args.at c.get.result.now.number) (sym (links-rows_of _) ∙ ap (λ v. links v.rows) c.self.view_is)
-    (subst (λ n. IsPlace (links c.self.inside.heap.cells) c.args.at n.number) (sym c.get.ensures) (numbered-place _ _ c.self.invariant.numbered held))
+pub returns : goal.returns
+returns c =
+    let h : has (rows_from 1 (take c.self.inside.len c.self.inside.slabs)) c.args.at ≡ true = ap (λ v. has v.rows c.args.at) c.self.view_is ∙ c.requires in
+    sym (made-row c.self.inside.slabs c.self.inside.len c.args.at _ h c.get.ensures) ∙ ap (λ v. row v.rows c.args.at) c.self.view_is

@@ -2,9 +2,9 @@ use Rattle.std.proofs.Common.{length, ap, arith}
 use Rattle.std.specs.Prelude.{Ok}
 use Rattle.loc_place.proofs.FoundPlace.{place_is_found}
 use Rattle.loc_spec_plane.specs.declared.Place.TheVariants.{Corner}
-use Rattle.loc_treeidx.specs.Steps.{alive_count}
-use Rattle.loc_treeidx.proofs.Halving.{both_within, within_most}
-use Rattle.loc_treeidx.proofs.Standing.{alive_few}
+use Rattle.loc_place.specs.Steps.{alive_count}
+use Rattle.loc_place.proofs.SearchBounds.{both_within, within_most}
+use Rattle.loc_place.proofs.ListCounts.{alive_few}
 use Rattle.loc_treeidx.proofs.tree_index.TreeIndexLocator.locate.Goals as goal
 
 pub returns-in-OnCorner-clause-found : goal.returns-in-OnCorner-clause-found

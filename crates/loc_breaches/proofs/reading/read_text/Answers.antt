@@ -1,5 +1,0 @@
-use Rattle.loc_breaches.proofs.Courses.{refuses_read}
-use Rattle.loc_breaches.proofs.reading.read_text.Goals as goal
-
-pub returns-in-Err : goal.returns-in-Err
-returns-in-Err c next m = rw c.layer_stop_of.ensures (refuses_read c.args.form _ c.in-Err.fault next m (rw c.decimals.ensures.value at c.in-Err.ensures.err))

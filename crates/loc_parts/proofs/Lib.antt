@@ -1,0 +1,6 @@
+pub mod Faulted
+pub mod Flagged
+pub mod Numbered
+pub mod Settled
+pub mod Resting
+mod Answered

@@ -1,0 +1,34 @@
+-- Why a layer has no plane. The words: `HasConflict`, `IsFaultOf`, `IsRefusedBy`.
+use Rattle.std.specs.Prelude.{ℕ, ◌<◌, List, length, IsTrue}
+use Rattle.loc_spec_plane.specs.Covers.{cover_sum}
+use Rattle.loc_spec_plane.specs.Points.{conflict}
+use Rattle.loc_spec_plane.specs.Tables.{Table, NoConflict, edge, piece_count}
+use Rattle.loc_rings.specs.Values.{Feature}
+use Rattle.loc_edges.specs.Layers.{layer_rings}
+use Rattle.loc_node.specs.Pieces.{most_pieces}
+use Rattle.loc_cover.specs.Legends.{most_members}
+use Rattle.loc_maps.specs.Located.{table_in}
+use Rattle.loc_parts.specs.declared.fault.PlaneFault.{PlaneFault}
+use Rattle.loc_parts.specs.declared.fault.PlaneFault.TheVariants as f
+
+-- two edges of the table conflict
+pub record HasConflict (t : Table) : Type 0 where
+  pub first : ℕ
+  pub second : ℕ
+  pub in_order : first < second
+  pub in_range : second < length t.ends
+  pub conflict : IsTrue (conflict (edge t first) (edge t second))
+
+-- what a fault says of the table that is judged; want of memory may come at any time
+abbrev pub IsFaultOf : Table → PlaneFault → Type 0
+IsFaultOf t f.Conflict = HasConflict t
+IsFaultOf t f.Covers = NoConflict t × (most_members < cover_sum t)
+IsFaultOf t f.Pieces = ⊥
+IsFaultOf t f.NoMemory = Unit {0}
+
+-- why a layer has no plane; want of memory may come at any time
+abbrev pub IsRefusedBy : List Feature → PlaneFault → Type 0
+IsRefusedBy layer f.Conflict = HasConflict (table_in layer)
+IsRefusedBy layer f.Covers = most_members < cover_sum (table_in layer)
+IsRefusedBy layer f.Pieces = most_pieces < piece_count (layer_rings layer)
+IsRefusedBy layer f.NoMemory = Unit {0}

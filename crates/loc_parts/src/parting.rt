@@ -1,0 +1,126 @@
+//! The parts of a layer.
+
+ghost use Rattle.std.specs.Prelude.{◌≡◌, ◌+◌, ◌≤◌, ◌∷◌, ◌^◌, [], ℕ, IfOk, List, length};
+ghost use Rattle.loc_spec_plane.specs.Lists.{numbers};
+ghost use Rattle.loc_sweep.specs.Swept.{IsSwept};
+ghost use Rattle.loc_treeidx.specs.Meaning.{meaning_of};
+ghost use Rattle.loc_rings.specs.Values.{Feature};
+ghost use Rattle.loc_maps.specs.Maps.{IsMapOf};
+ghost use Rattle.loc_parts.specs.Parts.{IsParted, IsPartedBut, IsRestOf};
+
+use crate::aside::{Fate, aside};
+use crate::fault::PlaneFault;
+use crate::judging::judged_layer;
+use crate::parts::{Left, Part, Parted};
+use crate::placing::{leave, settle};
+use crate::rest::{Rest, parted_by};
+use loc_maps::Plane;
+use loc_rings::Layer;
+use loc_treeidx::TreeIndex;
+use std::alloc::{AllocError, Global};
+
+// How many parts a layer may have.
+const MOST_PARTS: usize = 16;
+
+// A pass that keeps less than this part of the features is the last.
+const LEAST_KEPT: usize = 32;
+
+// The numbers below a count.
+fn numbers_below(alloc: Global, count: usize) -> Result<Vec<u32>, AllocError>
+    requires { count ≤ 2 ^ 18 }
+    ensures { IfOk result (λ made. made.items ≡ numbers count) }
+{
+    let mut made = Vec::with_capacity(alloc, count)?;
+    for n in 0..count {
+        made.push(n as u32)?;
+    }
+    Ok(made)
+}
+
+// A layer that is accepted, as one part.
+fn one_part(alloc: Global, layer: Layer, plane: Plane<TreeIndex>) -> Result<Parted, AllocError>
+    requires map { IsMapOf layer plane.table plane.legend }
+    requires swept { IsSwept plane.table (meaning_of plane.status) }
+    ensures { IfOk result (IsParted layer) }
+{
+    let numbers = numbers_below(alloc, layer.features().len())?;
+    let mut parts = Vec::new(alloc);
+    parts.push(Part { numbers, plane })?;
+    Ok(Parted {
+        parts,
+        left: Vec::new(alloc),
+        names: layer.into_ids(alloc)?,
+    })
+}
+
+// Whether each feature has this fate.
+fn with_fate(alloc: Global, fates: &[Fate], fate: Fate) -> Result<Vec<bool>, AllocError>
+    ensures { IfOk result (λ flags. length flags.items ≡ length fates.now) }
+{
+    let mut flags = Vec::with_capacity(alloc, fates.len())?;
+    for one in fates {
+        flags.push(*one == fate)?;
+    }
+    Ok(flags)
+}
+
+// One pass over features that are in no part yet: those that are kept become a part, those that are crossed are left, and the others wait. It
+// tells how many were kept.
+fn pass(
+    alloc: Global,
+    parts: &mut Vec<Part>,
+    left: &mut Vec<Left>,
+    rest: Rest,
+) -> Result<(Rest, usize), AllocError>
+    requires { length rest.numbers.items ≡ length rest.features }
+    ensures few { IfOk result (λ _. length parts.new.items ≤ length parts.old.items + 1) }
+    ensures rest { (layer : List Feature) → IsRestOf layer rest.numbers.items rest.features → IfOk result (λ later. IsRestOf layer later.0.numbers.items later.0.features) }
+    ensures parted { (layer : List Feature) (rests : List (List ℕ)) → IsRestOf layer rest.numbers.items rest.features → IsPartedBut layer (rest.numbers.items ∷ rests) parts.old.items left.old.items → IfOk result (λ later. IsPartedBut layer (later.0.numbers.items ∷ rests) parts.new.items left.new.items) }
+{
+    let fates = aside(alloc, &rest.features)?;
+    let keep = with_fate(alloc, &fates, Fate::Kept)?;
+    let (kept, others) = rest.parted(alloc, &keep)?;
+    let (_, fates) = parted_by(alloc, &fates, &keep)?;
+    let crossed = with_fate(alloc, &fates, Fate::Crossed)?;
+    let (crossed, later) = others.parted(alloc, &crossed)?;
+    let count = kept.numbers.len();
+    settle(alloc, parts, left, kept)?;
+    leave(alloc, left, crossed)?;
+    Ok((later, count))
+}
+
+// A layer in parts by at most sixteen passes.
+fn in_parts(alloc: Global, layer: Layer) -> Result<Parted, AllocError>
+    ensures { IfOk result (IsParted layer) }
+{
+    let names = layer.ids(alloc)?;
+    let mut parts = Vec::new(alloc);
+    let mut left = Vec::new(alloc);
+    let mut rest = Rest {
+        numbers: numbers_below(alloc, layer.features().len())?,
+        features: layer,
+    };
+    for _turn in 0..MOST_PARTS {
+        let (later, kept) = pass(alloc, &mut parts, &mut left, rest)?;
+        rest = later;
+        if kept < rest.numbers.len() / LEAST_KEPT || rest.numbers.is_empty() {
+            break;
+        }
+    }
+    leave(alloc, &mut left, rest)?;
+    Ok(Parted { parts, left, names })
+}
+
+impl Parted {
+    /// The parts of a layer: at most sixteen, each accepted for itself, and what is left. Every feature of the layer is in a part or left, and
+    /// these have no others.
+    pub fn make(alloc: Global, layer: Layer) -> Result<Parted, AllocError>
+        ensures { IfOk result (IsParted layer) }
+    {
+        match judged_layer(alloc, &layer) {
+            Ok(plane) => one_part(alloc, layer, plane),
+            Err(PlaneFault::NoMemory) => Err(AllocError),
+            Err(_) => in_parts(alloc, layer),
+        }
+    }
+}
