@@ -12,12 +12,10 @@ use crate::{FeedFault, Tally};
 use loc_geom::{Point, Steps};
 use loc_io::Sink;
 use loc_page::Page;
+use loc_spec_text::MOST_FEATURES;
 use std::alloc::{AllocError, Global};
 use std::marker::Model;
 use std::sync::ledger::Ledger;
-
-// How many features a list has room for.
-const MOST_FEATURES: usize = 262_144;
 
 // The features of a list in order, each once. The list keeps its room.
 fn sort_features(list: &mut Vec<u32>)

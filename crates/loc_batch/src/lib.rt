@@ -15,7 +15,9 @@ mod tally;
 mod whole;
 
 pub use answerer::{Answerer, Lists};
-pub use answers::{put_doubled, put_quoted, write_answer};
+pub use answers::{
+    above, is_among, list_at, list_of, on_corner, on_edge, put_doubled, put_quoted, write_answer,
+};
 pub use batch::Batch;
 pub use faces::{FaceNumbers, Unnumbered};
 pub use faults::{BatchFault, FeedFault};

@@ -12,8 +12,7 @@ use Rattle.loc_spec_text.specs.Bytes.{Text, or_else}
 use Rattle.loc_spec_valid.specs.Breaches.{feature_rings, first_pair, first_point_ring, is_pinch, is_twice, ring_numbers, ring_table}
 use Rattle.loc_laws_valid.specs.Laws.{NonePinched, NoneTwice}
 use Rattle.loc_rings.specs.Values.{Feature}
-use Rattle.loc_cover.specs.Legends.{most_members}
-use Rattle.loc_node.specs.Pieces.{most_pieces}
+use Rattle.loc_spec_text.specs.Limits.{most_members, most_pieces}
 use Rattle.loc_valid.specs.Judged.{HasFewPieces, HasManyCovers, HasManyPieces, IsUnpinched}
 use Rattle.loc_maps.specs.LineTexts.{covers_text, pieces_text}
 use Rattle.loc_breaches.specs.BreachCourses.{crossings, first_refusal, has_many_covers_of, has_many_pieces_of, is_empty, is_unpinched, refusal_of}

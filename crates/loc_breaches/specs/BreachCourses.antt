@@ -15,8 +15,7 @@ use Rattle.loc_spec_text.specs.Points.{ended}
 use Rattle.loc_spec_valid.specs.Breaches.{Breach, IsBreachOf, crossing, feature_rings, first_pair, first_point_ring, is_crossing, is_pinch, is_twice, later_breach, point_ring, ring_numbers, ring_table}
 use Rattle.loc_spec_valid.specs.BreachTexts.{breach_line}
 use Rattle.loc_rings.specs.Values.{Feature}
-use Rattle.loc_cover.specs.Legends.{most_members}
-use Rattle.loc_node.specs.Pieces.{most_pieces}
+use Rattle.loc_spec_text.specs.Limits.{most_members, most_pieces}
 use Rattle.loc_faces.specs.Subdivision.{face_at, next_at}
 use Rattle.loc_course.specs.Courses.{Course, Stopped, no_memory, refused, refuses, unread, unwritten, writes}
 use Rattle.loc_course.specs.Outcomes.{exactly}

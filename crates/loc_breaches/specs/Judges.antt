@@ -15,7 +15,8 @@ use Rattle.loc_valid.specs.Judged.{HasManyCovers, HasManyPieces}
 use Rattle.loc_course.specs.Moments.{Moment}
 use Rattle.loc_course.specs.Sentences.{Steady}
 use Rattle.loc_maps.specs.LineTexts.{covers_text, layer_fault_text, pieces_text}
-use Rattle.loc_maps.specs.MapCourses.{IsRead, LayerFile, limit}
+use Rattle.loc_maps.specs.MapCourses.{IsRead, LayerFile}
+use Rattle.loc_spec_text.specs.Limits.{most_text}
 use Rattle.loc_told.specs.Answers.{IsRefused, OrMemory}
 use Rattle.loc_breaches.specs.BreachCourses.{AreLines}
 
@@ -41,10 +42,10 @@ pub record Judges (file : LayerFile) (old new : Moment) (n n' : Stream) (status 
       → Steady old.shelf.read_faults new.shelf.read_faults → Steady old.out.faults new.out.faults
       → OrMemory old new status ((status ≡ 0) × ((text : Text) × AreLines file.scale features text × Appends old.out.written new.out.written text))
   -- Else, unless a read failed, the status is 1, nothing is on out, and the line on notes is that of the cause: the layer is too long,
-  pub layer_long : (layer : Text) → old.shelf.told file.name ≡ holds layer → limit < length layer → Steady old.shelf.read_faults new.shelf.read_faults
+  pub layer_long : (layer : Text) → old.shelf.told file.name ≡ holds layer → most_text < length layer → Steady old.shelf.read_faults new.shelf.read_faults
       → OrMemory old new status (IsRefused old new n n' status (ended (codes "layer: too long")))
   -- or is at fault,
-  pub layer_fault : (layer : Text) (fault : LayerFault) → old.shelf.told file.name ≡ holds layer → length layer ≤ limit → layer_of file.form file.scale layer ≡ Err fault → Steady old.shelf.read_faults new.shelf.read_faults
+  pub layer_fault : (layer : Text) (fault : LayerFault) → old.shelf.told file.name ≡ holds layer → length layer ≤ most_text → layer_of file.form file.scale layer ≡ Err fault → Steady old.shelf.read_faults new.shelf.read_faults
       → OrMemory old new status (IsRefused old new n n' status (ended (layer_fault_text file.form fault)))
   -- or the pieces of the first feature that is not judged are past the limit,
   pub pieces : (layer : Text) (features : List Feature) (feature : Feature) → old.shelf.told file.name ≡ holds layer → IsRead file layer features → IsFirst features feature → HasManyPieces feature.polygons

@@ -1,6 +1,7 @@
 //! The features of a layer judged, from the bytes in to the bytes out.
 
-ghost use Rattle.std.specs.Prelude.{◌≡◌, ◌≤◌, ◌^◌, None, IfErr, IfOk, ℕ};
+ghost use Rattle.std.specs.Prelude.{◌≡◌, ◌≤◌, None, IfErr, IfOk, ℕ};
+ghost use Rattle.loc_spec_text.specs.Limits.{most_points};
 ghost use Rattle.loc_spec_valid.specs.Breaches.{IsBreachOf};
 ghost use Rattle.loc_rings.specs.Layers.{point_count};
 ghost use Rattle.loc_faces.specs.Subdivision.{face_at, next_at};
@@ -12,17 +13,17 @@ ghost use Rattle.loc_maps.specs.MapCourses.{layer_file};
 ghost use Rattle.loc_breaches.specs.BreachCourses.{AreLines, IsRefusedBy, are_lines, judged_course, refusal_of, valid_course};
 
 use crate::lines::push_line;
-use loc_course::{Scale, Stop, write_out};
+use loc_course::{Stop, write_out};
 use loc_io::{Shelf, Sink};
 use loc_maps::{covers_line, pieces_line, read_features_file};
 use loc_rings::{Feature, Layer};
-use loc_spec_text::Form;
+use loc_spec_text::{Form, Scale};
 use loc_valid::{Breach, ValidFault, judge};
 use std::alloc::Global;
 
 // The first breach of a feature, or why the command stops.
 fn judged(alloc: Global, feature: &Feature) -> Result<Option<Breach>, Stop>
-    requires few { point_count feature.now ≤ 2 ^ 20 }
+    requires few { point_count feature.now ≤ most_points }
     ensures breach { IfOk result (λ breach. IsBreachOf next_at face_at feature.now.polygons (told breach)) }
     ensures judged { IfOk result (λ _. refusal_of feature.now.polygons ≡ None) }
     ensures refused { IfErr result (λ stop. IsRefusedBy (refusal_of feature.now.polygons) (stopped stop)) }

@@ -15,7 +15,7 @@ use Rattle.std.specs.Ordering.{MatchOrdering, is_eq, match_ordering, nat_cmp}
 use Rattle.loc_spec_plane.specs.Lists.{is_rising, sorted_set, with_member}
 use Rattle.loc_spec_plane.specs.Covers.{list_before}
 use Rattle.loc_edges.proofs.SortedSet.{rising-sorted_set}
-use Rattle.loc_cover.specs.Legends.{most_members}
+use Rattle.loc_spec_text.specs.Limits.{most_members}
 use Rattle.loc_cover.specs.Stores.{StoreRows, IsStore, is_among, lists_in, lists_of}
 use Rattle.loc_laws_order.proofs.Sets.{all_joined}
 use Rattle.loc_cover.proofs.Exchanging.{all_below, all_parts}

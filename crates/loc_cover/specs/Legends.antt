@@ -1,5 +1,6 @@
--- What a legend holds and says of a place: `LegendRows`, `covering` and `touching`; what every legend owes: `IsSound`; what it owes to a table: `FitsTable`, and `IsTrueLegend`; and when a table has none: `most_members`, `IsFew` and `IsRefused`.
-use Rattle.std.specs.Prelude.{◌≡◌, ℕ, ◌<◌, ◌≤◌, ◌^◌, nat_lt, List, [], length, get_or, filter, not, sum_by, All, Option, Some, None, IsTrue}
+-- What a legend holds and says of a place: `LegendRows`, `covering` and `touching`; what every legend owes: `IsSound`; what it owes to a table: `FitsTable`, and `IsTrueLegend`; and when a table has none: `IsFew` and `IsRefused`.
+use Rattle.std.specs.Prelude.{◌≡◌, ℕ, ◌<◌, ◌≤◌, nat_lt, List, [], length, get_or, filter, not, sum_by, All, Option, Some, None, IsTrue}
+use Rattle.loc_spec_text.specs.Limits.{most_features, most_members, most_pieces}
 use Rattle.loc_spec_plane.specs.Lists.{IsRisingListOf, is_in, is_rising}
 use Rattle.loc_spec_plane.specs.declared.Place.{Place}
 use Rattle.loc_spec_plane.specs.declared.Place.TheVariants.{Corner, Border, Area}
@@ -43,10 +44,6 @@ touching rows (Area floor) = []
 abbrev pub AreNamed : LegendRows → List ℕ → Type 0
 AreNamed rows fs = All (λ f. f < length rows.ids) fs
 
--- how many members the distinct cover lists may have together
-abbrev pub most_members : ℕ
-most_members = 16777216
-
 -- the lists rise, and so does each of them; there are no more of them than edges, and they have few members together
 pub record AreLists (edges : ℕ) (lists : List (List ℕ)) : Type 0 where
   pub rise : IsTrue (is_rising list_before lists)
@@ -56,8 +53,8 @@ pub record AreLists (edges : ℕ) (lists : List (List ℕ)) : Type 0 where
 
 -- each number in the rows is that of another row or of an id, and the rows are few and in order
 pub record IsSound (rows : LegendRows) : Type 0 where
-  pub few_features : length rows.ids ≤ 2 ^ 18
-  pub few_edges : length rows.on_edge ≤ 2 ^ 21
+  pub few_features : length rows.ids ≤ most_features
+  pub few_edges : length rows.on_edge ≤ most_pieces
   pub lists : AreLists (length rows.on_edge) rows.lists
   pub as_many_floors : length rows.floors ≡ length rows.on_corner
   pub as_many_above : length rows.above ≡ length rows.on_edge

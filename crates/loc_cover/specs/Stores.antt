@@ -5,7 +5,7 @@ use Rattle.std.specs.Cmp.Lexicographic.{slice_cmp}
 use Rattle.std.specs.Ordering.{is_eq, nat_cmp}
 use Rattle.loc_spec_plane.specs.Lists.{is_in, is_rising, sorted_set}
 use Rattle.loc_spec_plane.specs.Covers.{list_before}
-use Rattle.loc_cover.specs.Legends.{most_members}
+use Rattle.loc_spec_text.specs.Limits.{most_members}
 use Rattle.loc_cover.specs.declared.fault.LegendFault.{LegendFault}
 use Rattle.loc_cover.specs.declared.fault.LegendFault.TheVariants.{ManyCovers, NoMemory}
 

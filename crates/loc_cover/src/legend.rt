@@ -1,6 +1,7 @@
 // The legend of a table.
 
-ghost use Rattle.std.specs.Prelude.{◌≡◌, ◌<◌, ◌≤◌, ◌^◌, All, IfSome, Some, length, map, slice_get, IfOk, IfErr};
+ghost use Rattle.std.specs.Prelude.{◌≡◌, ◌<◌, ◌≤◌, All, IfSome, Some, length, map, slice_get, IfOk, IfErr};
+ghost use Rattle.loc_spec_text.specs.Limits.{most_features};
 ghost use Rattle.loc_spec_plane.specs.Tables.{AllEnds, AllEven, NoConflict};
 ghost use Rattle.loc_spec_plane.specs.Covers.{feature_count};
 ghost use Rattle.loc_rings.specs.Values.{Feature as FeatureOf};
@@ -100,7 +101,7 @@ impl Legend {
         table: &EdgeTable,
         floors: &Floors,
     ) -> Result<Legend, LegendFault>
-        requires few_features { length ids.items ≤ 2 ^ 18 }
+        requires few_features { length ids.items ≤ most_features }
         requires all_ends { AllEnds table.now }
         requires all_even { AllEven table.now }
         requires apart { NoConflict table.now }
@@ -112,6 +113,8 @@ impl Legend {
         ensures few { IfOk result (λ _. IsFew table.now) }
         ensures refused { IfErr result (IsRefused table.now) }
     {
+        // the ids of their own are let go before anything else is made
+        let ids = flat(alloc, ids)?;
         let (covers, cover_of) = cover_rows(alloc, table, floors.of_edge())?;
         let floors = Vec::from_slice(alloc, floors.of_corner())?;
         Ok(Legend::assemble(alloc, table, ids, covers, cover_of, floors)?)
@@ -127,7 +130,7 @@ impl Legend {
         cover_of: Vec<u32>,
         floors: Vec<Option<u32>>,
     ) -> Result<Legend, AllocError>
-        requires few_features { length ids.items ≤ 2 ^ 18 }
+        requires few_features { length ids.items ≤ most_features }
         requires features { feature_count table.now ≤ length ids.items }
         requires covers { AreLists (length table.now.ends) (map (λ list. list.items) covers.items) }
         requires covers_named { All (All (λ f. f < length ids.items)) (map (λ list. list.items) covers.items) }
@@ -141,6 +144,7 @@ impl Legend {
         ensures floors { IfOk result (λ rows. rows.floors ≡ floors.items) }
         ensures fits { IfOk result (FitsTable table.now) }
     {
+        let ids = flat(alloc, ids)?;
         let lists = flat(alloc, covers)?;
         Legend::assemble(alloc, table, ids, lists, cover_of, floors)
     }
@@ -149,27 +153,26 @@ impl Legend {
     fn assemble(
         alloc: Global,
         table: &EdgeTable,
-        ids: Vec<Vec<u8>>,
+        ids: Rows<u8>,
         lists: Rows<u32>,
         above: Vec<u32>,
         floors: Vec<Option<u32>>,
     ) -> Result<Legend, AllocError>
-        requires few_features { length ids.items ≤ 2 ^ 18 }
-        requires features { feature_count table.now ≤ length ids.items }
+        requires few_features { length ids ≤ most_features }
+        requires features { feature_count table.now ≤ length ids }
         requires lists { AreLists (length table.now.ends) lists }
-        requires lists_named { All (All (λ f. f < length ids.items)) lists }
+        requires lists_named { All (All (λ f. f < length ids)) lists }
         requires as_many_edges { length above.items ≡ length table.now.ends }
         requires above_in_range { All (λ n. n < length lists) above.items }
         requires as_many_corners { length floors.items ≡ length table.now.corners }
         requires floors_in_range { All (λ floor. IfSome floor (λ e. e < length table.now.ends)) floors.items }
-        ensures ids { IfOk result (λ rows. rows.ids ≡ map (λ id. id.items) ids.items) }
+        ensures ids { IfOk result (λ rows. rows.ids ≡ ids) }
         ensures lists { IfOk result (λ rows. rows.lists ≡ lists) }
         ensures above { IfOk result (λ rows. rows.above ≡ above.items) }
         ensures floors { IfOk result (λ rows. rows.floors ≡ floors.items) }
         ensures fits { IfOk result (FitsTable table.now) }
     {
         table.law();
-        let ids = flat(alloc, ids)?;
         let on_corner = touching_corners(alloc, table)?;
         let on_edge = touching_edges(alloc, table)?;
         Ok(Legend {

@@ -1,18 +1,16 @@
 // The distinct lists that were found so far.
 
 ghost use Rattle.std.specs.Prelude.{◌≡◌, ◌≢◌, ℕ, ◌+◌, ◌<◌, ◌≤◌, ◌^◌, ◌++◌, [], ◌∷◌, false, length, get_or, Some, None, IfOk, IfErr, IfSome, OnOk, OnErr};
-ghost use Rattle.loc_cover.specs.Legends.{most_members};
+ghost use Rattle.loc_spec_text.specs.Limits.{most_members};
 ghost use Rattle.loc_cover.specs.Stores.{GainsAtMost, IsAt, IsStore, IsPast, is_among, lists_of, short_list};
 
 use crate::LegendFault;
 use bumpalo::Bump;
 use loc_edges::Rows;
+use loc_spec_text::MOST_MEMBERS;
 use std::alloc::{AllocError, Global};
 use std::collections::BTreeMap;
 use std::marker::Model;
-
-// How many members the distinct lists may have together.
-const MOST_MEMBERS: usize = 16_777_216;
 
 // Each list stands once in an arena. The rows have it by its number, and the numbers are in the lexicographic order of their lists. Those of
 // lists of at most one feature are noted apart too: that of the empty list, and then that of the list of each feature alone.

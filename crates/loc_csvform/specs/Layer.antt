@@ -1,6 +1,6 @@
 -- The layer of a text in either form, or its one fault. The words: `Row`, `RowRead`, `LayerRead`, `line_row`, `is_row_line`, `line_rows`, `column`, `field`,
 -- `row_id`, `row_of`, `csv_row`, `rows_under`, `csv_rows`, `rows_of`, `text_reading`, `with_feature`, `with_row`, `features_from`, `layer_of`.
-use Rattle.std.specs.Prelude.{ℕ, ◌+◌, ◌^◌, Bool, not, List, [], ◌∷◌, ◌++◌, map, length, codes, filter, nat_lt, nat_le, ◌==◌, if◌then◌else◌, Option, Some, None, option_map, unwrap_or, Result, Ok, Err, position, slice_index_or}
+use Rattle.std.specs.Prelude.{ℕ, ◌+◌, Bool, not, List, [], ◌∷◌, ◌++◌, map, length, codes, filter, nat_lt, nat_le, ◌==◌, if◌then◌else◌, Option, Some, None, option_map, unwrap_or, Result, Ok, Err, position, slice_index_or}
 use Rattle.std.specs.Fmt.{decimal}
 use Rattle.std.specs.List.{enumerate_from}
 use Rattle.std.specs.Str.{is_utf8}
@@ -10,7 +10,8 @@ use Rattle.loc_spec_text.specs.declared.Form.TheVariants as form
 use Rattle.loc_spec_text.specs.declared.TextFault.{TextFault}
 use Rattle.loc_spec_text.specs.Bytes.{is_blank, lines, same_word, result_and_then}
 use Rattle.loc_spec_text.specs.Reading.{Polygons, reading}
-use Rattle.loc_rings.specs.Values.{Feature, most_id_bytes}
+use Rattle.loc_rings.specs.Values.{Feature}
+use Rattle.loc_spec_text.specs.Limits.{most_features, most_id_bytes, most_points}
 use Rattle.loc_rings.specs.Layers.{point_count, layer_points}
 use Rattle.loc_csvform.specs.declared.faults.LayerFault.{LayerFault}
 use Rattle.loc_csvform.specs.declared.faults.LayerFault.TheVariants.{NoColumn, Ragged, BadText, LongId, Text, ManyFeatures, ManyPoints}
@@ -88,8 +89,8 @@ text_reading read text = if is_blank text then Ok [] else read text
 -- the features with one more, unless it is one too many, or its ring points are
 abbrev pub with_feature : ℕ → List Feature → Feature → LayerRead
 with_feature n features feature =
-    if nat_le (2 ^ 18) (length features) then Err (ManyFeatures n)
-    else if nat_lt (2 ^ 20) (layer_points features + point_count feature) then Err (ManyPoints n)
+    if nat_le most_features (length features) then Err (ManyFeatures n)
+    else if nat_lt most_points (layer_points features + point_count feature) then Err (ManyPoints n)
     else Ok (features ++ feature ∷ [])
 
 -- the features with that of one more row, by what its text reads as

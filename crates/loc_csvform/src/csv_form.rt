@@ -1,6 +1,6 @@
 // A layer text in form csv.
 
-ghost use Rattle.std.specs.Prelude.{◌≡◌, ◌≤◌, ◌^◌, [], ◌∷◌, ℕ, List, All, codes, length, map, true, Some, None, Ok, IfOk, IfErr, IfSome, OnOk, MatchOption};
+ghost use Rattle.std.specs.Prelude.{◌≡◌, ◌≤◌, [], ◌∷◌, ℕ, List, All, codes, length, map, true, Some, None, Ok, IfOk, IfErr, IfSome, OnOk, MatchOption};
 ghost use Rattle.std.specs.Char.{is_ascii_alphabetic};
 ghost use Rattle.std.specs.List.{enumerate_from, list_all};
 ghost use Rattle.std.specs.Str.{is_utf8};
@@ -11,7 +11,7 @@ ghost use Rattle.loc_spec_text.specs.Reading.{reading};
 ghost use Rattle.loc_csvform.specs.Faults.{IsFaultOf};
 ghost use Rattle.loc_csvform.specs.Layer.{column, csv_row, features_from, layer_of, row_id, row_of};
 ghost use Rattle.loc_csvform.specs.Records.{IsReading, bytes_of, records_of};
-ghost use Rattle.loc_rings.specs.Values.{most_id_bytes};
+ghost use Rattle.loc_spec_text.specs.Limits.{most_id_bytes, most_text};
 
 use crate::LayerFault;
 use crate::records::{field, next_record, reader_of};
@@ -19,6 +19,7 @@ use crate::rows::add_row;
 use csv::{ByteRecord, Reader};
 use itoa::Buffer;
 use loc_rings::Layer;
+use loc_spec_text::{MOST_ID_BYTES, Scale};
 use std::alloc::Global;
 
 /// What a header says: how many columns there are, and which are the geometry column and the id column.
@@ -88,9 +89,6 @@ fn is_text(bytes: &[u8]) -> bool
     str::from_utf8(bytes).is_ok()
 }
 
-// The most bytes of an id.
-const MOST_ID_BYTES: usize = 200;
-
 // The id of a row, or what is wrong with it.
 fn read_id(
     alloc: Global,
@@ -120,10 +118,9 @@ fn add_record(
     columns: &Columns,
     row: u32,
     fields: &ByteRecord,
-    scale: u8,
+    scale: Scale,
 ) -> Result<(), LayerFault>
-    requires scale { scale ≤ 15 }
-    requires sizes { All (λ field. length field ≤ 2 ^ 28) (fields_of fields.now) }
+    requires sizes { All (λ field. length field ≤ most_text) (fields_of fields.now) }
     ensures ok { OnOk result (features_from (reading scale) (csv_row columns.now.count columns.now.wkt columns.now.id (row, fields_of fields.now) ∷ []) layer.old ≡ Ok layer.new) }
     ensures err { IfErr result (IsFaultOf (features_from (reading scale) (csv_row columns.now.count columns.now.wkt columns.now.id (row, fields_of fields.now) ∷ []) layer.old)) }
 {
@@ -141,11 +138,10 @@ fn read_rows(
     reader: &mut Reader<&[u8]>,
     fields: &mut ByteRecord,
     columns: &Columns,
-    scale: u8,
+    scale: Scale,
 ) -> Result<Layer, LayerFault>
-    requires scale { scale ≤ 15 }
     requires reading { IsReading reader.old }
-    requires size { length (bytes_of reader.old) ≤ 2 ^ 28 }
+    requires size { length (bytes_of reader.old) ≤ most_text }
     ensures ok { IfOk result (λ layer. features_from (reading scale) (map (csv_row columns.now.count columns.now.wkt columns.now.id) (enumerate_from 1 (records_of reader.old))) [] ≡ Ok layer) }
     ensures err { IfErr result (IsFaultOf (features_from (reading scale) (map (csv_row columns.now.count columns.now.wkt columns.now.id) (enumerate_from 1 (records_of reader.old))) [])) }
 {
@@ -159,9 +155,8 @@ fn read_rows(
 }
 
 /// The layer of a text in form csv, whose first record is the header.
-pub(crate) fn read_csv(alloc: Global, text: &[u8], scale: u8) -> Result<Layer, LayerFault>
-    requires scale { scale ≤ 15 }
-    requires size { length text.now ≤ 2 ^ 28 }
+pub(crate) fn read_csv(alloc: Global, text: &[u8], scale: Scale) -> Result<Layer, LayerFault>
+    requires size { length text.now ≤ most_text }
     ensures ok { IfOk result (λ layer. layer_of form.Csv scale text.now ≡ Ok layer) }
     ensures err { IfErr result (IsFaultOf (layer_of form.Csv scale text.now)) }
 {

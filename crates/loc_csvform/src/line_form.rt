@@ -1,16 +1,17 @@
 // A layer text in form lines.
 
-ghost use Rattle.std.specs.Prelude.{◌≡◌, ◌≤◌, ◌^◌, [], length, Ok, IfOk, IfErr};
+ghost use Rattle.std.specs.Prelude.{◌≡◌, ◌≤◌, [], length, Ok, IfOk, IfErr};
 ghost use Rattle.std.specs.Fmt.{decimal};
 ghost use Rattle.loc_spec_text.specs.Reading.{reading};
 ghost use Rattle.loc_csvform.specs.Layer.{features_from, line_rows};
 ghost use Rattle.loc_csvform.specs.Faults.{IsFaultOf};
-ghost use Rattle.loc_rings.specs.Values.{most_id_bytes};
+ghost use Rattle.loc_spec_text.specs.Limits.{most_id_bytes, most_text};
 
 use crate::LayerFault;
 use crate::rows::add_row;
 use itoa::Buffer;
 use loc_rings::Layer;
+use loc_spec_text::Scale;
 use loc_wkt::{is_blank, next_line};
 use std::alloc::{AllocError, Global};
 
@@ -24,9 +25,8 @@ fn id_of(alloc: Global, row: u32) -> Result<Vec<u8>, AllocError>
 }
 
 /// The layer of a text in form lines: each line that is not blank is a row, and its number from 1 is the feature's id.
-pub(crate) fn read_lines(alloc: Global, text: &[u8], scale: u8) -> Result<Layer, LayerFault>
-    requires scale { scale ≤ 15 }
-    requires size { length text.now ≤ 2 ^ 28 }
+pub(crate) fn read_lines(alloc: Global, text: &[u8], scale: Scale) -> Result<Layer, LayerFault>
+    requires size { length text.now ≤ most_text }
     ensures ok { IfOk result (λ layer. features_from (reading scale) (line_rows text.now) [] ≡ Ok layer) }
     ensures err { IfErr result (IsFaultOf (features_from (reading scale) (line_rows text.now) [])) }
 {

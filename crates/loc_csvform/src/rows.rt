@@ -1,28 +1,27 @@
 // A row of a layer text, in either form: how its feature joins the layer.
 
-ghost use Rattle.std.specs.Prelude.{◌≡◌, ◌≢◌, ◌≤◌, ◌^◌, length, Ok, Err, IfOk, IfErr, OnOk};
+ghost use Rattle.std.specs.Prelude.{◌≡◌, ◌≢◌, ◌≤◌, length, Ok, Err, IfOk, IfErr, OnOk};
 ghost use Rattle.loc_spec_text.specs.Reading.{reading};
 ghost use Rattle.loc_csvform.specs.Layer.{text_reading, with_feature, with_row};
 ghost use Rattle.loc_csvform.specs.Faults.{IsFaultOf};
-ghost use Rattle.loc_rings.specs.Values.{most_id_bytes};
+ghost use Rattle.loc_spec_text.specs.Limits.{most_id_bytes, most_text};
 
 use crate::LayerFault;
 use loc_rings::{Feature, Layer, Rings};
-use loc_spec_text::TextFault;
+use loc_spec_text::{Scale, TextFault};
 use loc_wkt::{is_blank, read_geometry};
 use std::alloc::Global;
 
 // The polygons of a geometry text, of which one of white space alone has none.
-fn read_text(alloc: Global, text: &[u8], scale: u8) -> Result<Rings, TextFault>
-    requires scale { scale ≤ 15 }
-    requires size { length text.now ≤ 2 ^ 28 }
+fn read_text(alloc: Global, text: &[u8], scale: Scale) -> Result<Rings, TextFault>
+    requires size { length text.now ≤ most_text }
     ensures ok { IfOk result (λ rings. text_reading (reading scale) text.now ≡ Ok rings) }
     ensures err { IfErr result (λ fault. fault ≢ TextFault.NoMemory → text_reading (reading scale) text.now ≡ Err fault) }
 {
     if is_blank(text) {
         return Ok(Rings::new(alloc));
     }
-    read_geometry(alloc, text, scale)
+    read_geometry(alloc, text, scale.decimals())
 }
 
 // Appends a feature, unless it is one too many or its points are.
@@ -47,10 +46,9 @@ pub(crate) fn add_row(
     row: u32,
     id: Vec<u8>,
     text: &[u8],
-    scale: u8,
+    scale: Scale,
 ) -> Result<(), LayerFault>
-    requires scale { scale ≤ 15 }
-    requires size { length text.now ≤ 2 ^ 28 }
+    requires size { length text.now ≤ most_text }
     requires short { length id.items ≤ most_id_bytes }
     ensures ok { OnOk result (with_row layer.old (record { number = row; id = id.items; text = text.now }) (text_reading (reading scale) text.now) ≡ Ok layer.new) }
     ensures err { IfErr result (IsFaultOf (with_row layer.old (record { number = row; id = id.items; text = text.now }) (text_reading (reading scale) text.now))) }

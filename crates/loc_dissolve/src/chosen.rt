@@ -1,6 +1,7 @@
 // The table of the edges that a group keeps.
 
-ghost use Rattle.std.specs.Prelude.{◌≡◌, ◌<◌, ◌≤◌, ◌^◌, ℕ, All, IsTrue, length, map, true, IfOk};
+ghost use Rattle.std.specs.Prelude.{◌≡◌, ◌<◌, ◌≤◌, ℕ, All, IsTrue, length, map, true, IfOk};
+ghost use Rattle.loc_spec_text.specs.Limits.{most_points};
 ghost use Rattle.loc_spec_plane.specs.Points.{Edge as EdgeOf, before};
 ghost use Rattle.loc_spec_plane.specs.Lists.{is_rising, numbers};
 ghost use Rattle.loc_spec_plane.specs.Tables.{AllEnds, AllEven, NoConflict, edge as edge_of, number_of};
@@ -26,7 +27,7 @@ fn edges_by_points(alloc: Global, table: &EdgeTable, kept: &[u32]) -> Result<Vec
 // The place of a point among corners in order, 0 where it is none of them.
 fn corner_number(corners: &[Point], p: Point) -> u32
     requires in_order { IsTrue (is_rising before corners.now) }
-    requires few { length corners.now ≤ 2 ^ 20 }
+    requires few { length corners.now ≤ most_points }
     ensures { result ≡ number_of corners.now p }
 {
     match corners.binary_search(&p) {
@@ -42,7 +43,7 @@ fn numbered_ends(
     edges: &[Edge],
 ) -> Result<Vec<(u32, u32)>, AllocError>
     requires in_order { IsTrue (is_rising before corners.now) }
-    requires few { length corners.now ≤ 2 ^ 20 }
+    requires few { length corners.now ≤ most_points }
     ensures { IfOk result (λ ends. ends.items ≡ map (λ (e : EdgeOf). (number_of corners.now e.lo, number_of corners.now e.hi)) edges.now) }
 {
     let mut ends = Vec::with_capacity(alloc, edges.len())?;

@@ -1,7 +1,8 @@
 // The groups of a layer, dissolved.
 
-ghost use Rattle.std.specs.Prelude.{◌≡◌, ◌*◌, ◌<◌, ◌≤◌, ◌^◌, ◌==◌, ◌&&◌, ℕ, All, false, get_or, length, IfOk};
+ghost use Rattle.std.specs.Prelude.{◌≡◌, ◌*◌, ◌<◌, ◌≤◌, ◌==◌, ◌&&◌, ℕ, All, false, get_or, length, IfOk};
 ghost use Rattle.std.specs.List.{list_any};
+ghost use Rattle.loc_spec_text.specs.Limits.{most_pieces};
 ghost use Rattle.loc_spec_plane.specs.Lists.{numbers};
 ghost use Rattle.loc_spec_plane.specs.Tables.{AllEnds, AllEven, NoConflict, noded_table_of};
 ghost use Rattle.loc_spec_plane.specs.Covers.{feature_count};
@@ -64,7 +65,7 @@ fn covered_faces(
     requires fits { FitsTable table.now legend.now }
     requires members { AreMembers groups.now legend.now.lists members.now }
     requires kept { All (λ e. e < length table.now.ends) kept.now }
-    requires few { length kept.now ≤ 2 ^ 21 }
+    requires few { length kept.now ≤ most_pieces }
     requires halves { 2 * length kept.now ≤ length faces.now.of_half }
     requires within { (h : ℕ) → face_in faces.now h < faces.now.count }
     ensures as_many { IfOk result (λ covered. length covered.items ≡ faces.now.count) }

@@ -1,6 +1,7 @@
 // The distinct ids of a layer.
 
-ghost use Rattle.std.specs.Prelude.{◌≤◌, ◌^◌, length, IfOk};
+ghost use Rattle.std.specs.Prelude.{◌≤◌, length, IfOk};
+ghost use Rattle.loc_spec_text.specs.Limits.{most_features};
 ghost use Rattle.loc_dissolve.specs.Grouping.{AreGroups, ids_of};
 
 use loc_rings::Feature;
@@ -12,7 +13,7 @@ pub(crate) fn group_ids(
     alloc: Global,
     features: &[Feature],
 ) -> Result<(Vec<u32>, Vec<u32>), AllocError>
-    requires { length features.now ≤ 2 ^ 18 }
+    requires { length features.now ≤ most_features }
     ensures { IfOk result (λ made. AreGroups (ids_of features.now) made.0.items made.1.items) }
 {
     let mut firsts = Vec::new(alloc);

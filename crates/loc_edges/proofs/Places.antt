@@ -39,14 +39,18 @@ module _ {X : Type 0} {R : X → X → Ordering} {comes_before : X → X → Boo
   searchable : IsNonDecreasingBy (λ y. ordering_index (R y x)) xs
   searchable = searchable_from_sorted order.total (λ y. y) xs x (λ k d low lt. false_from_ne_true _ (λ h. order.asym _ _ (rises comes_before d xs k (k + 1) up (omega arith) lt) (from_less order _ _ (is_less _ h))))
 
-  -- what is found is x, and stands there first
+  -- where x stands it stands first
+  position_of_member : (i : ℕ) → i < length xs → ((d : X) → get_or xs i d ≡ x) → position_or_len (E x) xs ≡ i
+  position_of_member i fits here = position_or_len_is (E x) xs i x (omega arith)
+      (λ k lt. other_before (get_or xs k x) (subst (λ z. comes_before (get_or xs k x) z ≡ true) (here x) (rises comes_before x xs k i up lt fits)))
+      (λ _. (exact x (get_or xs i x)).1 (sym (here x)))
+
+  -- what is found is x
   pub found_there : (i : ℕ) → IsBinarySearchResult (λ y. R y x) xs (Ok i) → (d : X) → get_or xs i d ≡ x
   found_there i h d = tie (get_or xs i d) (h d)
 
   pub position_of_found : (i : ℕ) → i < length xs → IsBinarySearchResult (λ y. R y x) xs (Ok i) → position_or_len (E x) xs ≡ i
-  position_of_found i fits h = position_or_len_is (E x) xs i x (omega arith)
-      (λ k lt. other_before (get_or xs k x) (subst (λ z. comes_before (get_or xs k x) z ≡ true) (found_there i h x) (rises comes_before x xs k i up lt fits)))
-      (λ _. (exact x (get_or xs i x)).1 (sym (found_there i h x)))
+  position_of_found i fits h = position_of_member i fits (found_there i h)
 
   -- where nothing is found no member is x
   pub not_there : (i : ℕ) → IsBinarySearchResult (λ y. R y x) xs (Err i) → (k : ℕ) → k < length xs → E x (get_or xs k x) ≡ false
@@ -56,11 +60,14 @@ module _ {X : Type 0} {R : X → X → Ordering} {comes_before : X → X → Boo
   ]
 
   -- the place of x by the definition, or 0
-  pub place_if_found : (i : ℕ) → i < length xs → IsBinarySearchResult (λ y. R y x) xs (Ok i) → i ≡ unwrap_or (position (E x) xs) 0
-  place_if_found i fits h =
-      let here : position_or_len (E x) xs ≡ i = position_of_found i fits h in
+  pub place_of_member : (i : ℕ) → i < length xs → ((d : X) → get_or xs i d ≡ x) → i ≡ unwrap_or (position (E x) xs) 0
+  place_of_member i fits here =
+      let there : position_or_len (E x) xs ≡ i = position_of_member i fits here in
       let within : nat_lt (position_or_len (E x) xs) (length xs) ≡ true = lt-ltb (position_or_len (E x) xs) (length xs) (omega arith) in
-      sym (ap (λ o. unwrap_or o 0) (cond-true _ _ _ within) ∙ here)
+      sym (ap (λ o. unwrap_or o 0) (cond-true _ _ _ within) ∙ there)
+
+  pub place_if_found : (i : ℕ) → i < length xs → IsBinarySearchResult (λ y. R y x) xs (Ok i) → i ≡ unwrap_or (position (E x) xs) 0
+  place_if_found i fits h = place_of_member i fits (found_there i h)
 
   pub place_if_not : (i : ℕ) → IsBinarySearchResult (λ y. R y x) xs (Err i) → 0 ≡ unwrap_or (position (E x) xs) 0
   place_if_not i h =

@@ -1,8 +1,9 @@
--- Segments with the numbers of their features. The words: `tagged_by`, `tagged_from`, `tagged_pieces`, `segments_in`, `features_of`, `with_mark`, `marks_of`.
+-- Segments with the numbers of their features. The words: `tagged_by`, `tagged_from`, `tagged_pieces`, `segments_in`, `features_of`, `with_mark`, `marks_of`, `marks_in`.
 use Rattle.std.specs.Prelude.{ℕ, ◌==◌, not, true, List, [], ◌∷◌, map, filter, if◌then◌else◌}
 use Rattle.std.specs.List.{flat_map, enumerate_from}
 use Rattle.loc_spec_plane.specs.declared.Mark.{Mark}
-use Rattle.loc_spec_plane.specs.Points.{Edge, same_edge}
+use Rattle.loc_spec_plane.specs.Lists.{sorted_set}
+use Rattle.loc_spec_plane.specs.Points.{Edge, edge_before, same_edge}
 use Rattle.loc_spec_plane.specs.Rings.{Rings, segments}
 
 -- the segments of a feature
@@ -34,3 +35,7 @@ with_mark f (m ∷ ms) = if m.feature == f then record { feature = m.feature; od
 abbrev pub marks_of : List ℕ → List Mark
 marks_of [] = []
 marks_of (f ∷ fs) = with_mark f (marks_of fs)
+
+-- the marks of each edge, in the order of the edges
+abbrev pub marks_in : List (Edge × ℕ) → List (List Mark)
+marks_in tagged = map marks_of (map (features_of tagged) (sorted_set edge_before (segments_in tagged)))

@@ -4,7 +4,7 @@ ghost use Rattle.std.specs.Prelude.{◌≡◌, ◌<◌, ◌^◌, ◌++◌, [], �
 ghost use Rattle.std.specs.List.Sorted.{IsSortedBy};
 ghost use Rattle.loc_spec_plane.specs.Points.{Edge as EdgeOf, edge_before};
 ghost use Rattle.loc_spec_plane.specs.Lists.{sorted_set};
-ghost use Rattle.loc_edges.specs.Tagged.{features_of, marks_of, segments_in};
+ghost use Rattle.loc_edges.specs.Tagged.{marks_in, marks_of, segments_in};
 
 use crate::grouped::feature_rows;
 use crate::rows::Rows;
@@ -59,8 +59,9 @@ pub(crate) fn edge_marks(
 ) -> Result<Rows<Mark>, AllocError>
     requires in_order { IsSortedBy edge_before (segments_in tagged.items) }
     requires few { All (λ (t : EdgeOf × ℕ). t.1 < 2 ^ 20) tagged.items }
-    ensures { IfOk result (λ rows. rows ≡ map marks_of (map (features_of tagged.items) (sorted_set edge_before (segments_in tagged.items)))) }
+    ensures { IfOk result (λ rows. rows ≡ marks_in tagged.items) }
 {
     let features = feature_rows(alloc, &tagged)?;
+    drop(tagged);
     mark_rows(alloc, &features)
 }

@@ -1,9 +1,9 @@
 // What an index sees of a table while it is built: edges against edges and corners, by number, without points to look for and without a
 // count.
 
-ghost use Rattle.std.specs.Prelude.{◌≡◌, ◌≢◌, ◌<◌, IsTrue, length};
-ghost use Rattle.loc_spec_plane.specs.Points.{touch};
-ghost use Rattle.loc_spec_plane.specs.Places.{alive_at, lower_of};
+ghost use Rattle.std.specs.Prelude.{◌≡◌, ◌≢◌, ◌<◌, ◌==◌, if◌then◌else◌, IsTrue, length};
+ghost use Rattle.loc_spec_plane.specs.Points.{is_above, same_point, touch};
+ghost use Rattle.loc_spec_plane.specs.Places.{alive_at, lower as lower_edge, lower_of};
 ghost use Rattle.loc_spec_plane.specs.Tables.{IsTable, corner as corner_of, edge as edge_of, lo_of, hi_of};
 ghost use Rattle.loc_geom.specs.Answers.{IsSide};
 ghost use Rattle.loc_edges.specs.Placing.{deciding_end, IsPlacing, OnHits};
@@ -51,6 +51,34 @@ fn end_to_place(a: Edge, b: Edge) -> Point
     if a.lo() == b.lo() { b.hi() } else { b.lo() }
 }
 
+// Whether a point is above the line through an edge.
+fn has_above(edge: Edge, p: Point) -> bool
+    ensures { result ≡ is_above edge p }
+{
+    match side(edge, p) {
+        Side::Below | Side::On => false,
+        Side::Above => true,
+    }
+}
+
+// Whether edge b begins above edge a, by the side of the end that decides.
+fn begins_above(a: Edge, b: Edge) -> bool
+    ensures { result ≡ is_above a (deciding_end a b) }
+{
+    has_above(a, end_to_place(a, b))
+}
+
+// Whether edge b ends above edge a: by the side of its upper end, or where both end at one point by which of them is lower.
+fn ends_above(a: Edge, b: Edge) -> bool
+    ensures { result ≡ (if same_point b.hi a.hi then lower_edge a b else is_above a b.hi) }
+{
+    if b.hi() == a.hi() {
+        lower(a, b)
+    } else {
+        has_above(a, b.hi())
+    }
+}
+
 impl<'t> Ranks<'t> {
     /// What is true of every table, as a call that does no work: its rows stand in order, and it has few corners and edges.
     pub fn law(&self)
@@ -86,6 +114,25 @@ impl<'t> Ranks<'t> {
         ensures { result ≡ lower_of self.now a b }
     {
         lower(self.table.edge(a), self.table.edge(b))
+    }
+
+    /// Whether edge b begins above edge a: by the side of its lower end, or where both begin at one corner by that of its upper end.
+    pub fn begins_above(&self, a: u32, b: u32) -> bool
+        requires first_in_range { a < length self.now.ends }
+        requires second_in_range { b < length self.now.ends }
+        ensures { result ≡ is_above (edge_of self.now a) (deciding_end (edge_of self.now a) (edge_of self.now b)) }
+    {
+        begins_above(self.table.edge(a), self.table.edge(b))
+    }
+
+    /// Whether edge b ends above edge a: by the side of its upper end, or where both end at one corner by which of them is lower.
+    pub fn ends_above(&self, a: u32, b: u32) -> bool
+        requires first_in_range { a < length self.now.ends }
+        requires second_in_range { b < length self.now.ends }
+        ensures { result ≡ (if hi_of self.now a == hi_of self.now b then lower_of self.now a b else is_above (edge_of self.now a) (edge_of self.now b).hi) }
+    {
+        self.law();
+        ends_above(self.table.edge(a), self.table.edge(b))
     }
 
     /// The side of a corner against the line through an edge.

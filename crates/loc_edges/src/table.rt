@@ -1,6 +1,8 @@
 // The table of a layer: its corners, its edges and their marks, by number.
 
 ghost use Rattle.std.specs.Prelude.{◌≡◌, ℕ, ◌<◌, ◌≤◌, ◌^◌, ◌==◌, [], List, IsTrue, Some, All, filter, get_or, length, slice_get, IfOk};
+ghost use Rattle.std.specs.Option.{option_map_or};
+ghost use Rattle.loc_spec_text.specs.Limits.{most_pieces, most_points};
 ghost use Rattle.loc_spec_plane.specs.Lists.{is_rising};
 ghost use Rattle.loc_spec_plane.specs.Points.{Point as PointOf, Edge as EdgeOf, before};
 ghost use Rattle.loc_spec_plane.specs.Covers.{feature_count};
@@ -11,6 +13,7 @@ ghost use Rattle.loc_edges.specs.Kept.{AreEdges};
 ghost use Rattle.loc_edges.specs.Layers.{AreOfLayer, layer_rings};
 ghost use Rattle.loc_edges.specs.Parts.{GoesUpBelow, edge_mark_before, table_of_parts, table_with};
 ghost use Rattle.loc_edges.specs.Small.{IsSmallTable};
+ghost use Rattle.loc_edges.specs.Tagged.{marks_in};
 
 use crate::grouped::distinct_edges;
 use crate::marks::edge_marks;
@@ -33,20 +36,22 @@ pub struct EdgeTable {
     edges: Vec<Edge>,
     ends: Vec<(u32, u32)>,
     marks: Rows<Mark>,
-    sources: Vec<(u32, u32)>,
+    // None where each edge is its own source.
+    sources: Option<Vec<(u32, u32)>>,
     firsts: Vec<u32>,
     ending: Rows<u32>,
 }
 
 impl Model for EdgeTable {
+    ghost use Rattle.std.specs.Option.{option_map_or};
     ghost use Rattle.loc_spec_plane.specs.Tables.{Table};
     ghost use Rattle.loc_edges.specs.Kept.{IsKept};
 
     ghost Value = { Table };
 
-    ghost view = { λ t. record { corners = t.corners.items; ends = t.ends.items; marks = t.marks; sources = t.sources.items } };
+    ghost view = { λ t. record { corners = t.corners.items; ends = t.ends.items; marks = t.marks; sources = option_map_or (λ kept. kept.items) t.sources t.ends.items } };
 
-    ghost invariant = { λ t. IsKept t.edges.items t.firsts.items t.ending (record { corners = t.corners.items; ends = t.ends.items; marks = t.marks; sources = t.sources.items }) };
+    ghost invariant = { λ t. IsKept t.edges.items t.firsts.items t.ending (record { corners = t.corners.items; ends = t.ends.items; marks = t.marks; sources = option_map_or (λ kept. kept.items) t.sources t.ends.items }) };
 }
 
 impl EdgeTable {
@@ -64,10 +69,11 @@ impl EdgeTable {
         let features = layer.features();
         let tagged = sorted_segments(alloc, features)?;
         let edges = distinct_edges(alloc, &tagged)?;
+        // the segments are let go before anything else is made
+        let marks = edge_marks(alloc, tagged)?;
         let corners = corners_between(alloc, &edges)?;
         let ends = numbered_ends(alloc, &corners, &edges)?;
-        let sources = Vec::from_slice(alloc, &ends)?;
-        EdgeTable::of_tagged(alloc, corners, edges, ends, sources, tagged)
+        EdgeTable::of_marks(alloc, corners, edges, ends, None, marks)
     }
 
     /// The table of a layer whose segments are cut, from its corners, its edges, their ends and their sources by corner numbers, and the pieces in
@@ -81,12 +87,29 @@ impl EdgeTable {
         tagged: Vec<(Edge, usize)>,
     ) -> Result<EdgeTable, AllocError>
         requires of_layer { (cut : EdgeOf → List EdgeOf) × ((layer : List Rings) × AreOfLayer cut layer corners.items edges.items ends.items sources.items tagged.items) }
-        requires few_corners { length corners.items ≤ 2 ^ 20 }
-        requires few_edges { length edges.items ≤ 2 ^ 21 }
+        requires few_corners { length corners.items ≤ most_points }
+        requires few_edges { length edges.items ≤ most_pieces }
         requires few_features { All (λ (t : EdgeOf × ℕ). t.1 < 2 ^ 20) tagged.items }
         ensures { IfOk result (λ table. (cut : EdgeOf → List EdgeOf) (layer : List Rings) → AreOfLayer cut layer corners.items edges.items ends.items sources.items tagged.items → table ≡ table_by cut layer) }
     {
         let marks = edge_marks(alloc, tagged)?;
+        EdgeTable::of_marks(alloc, corners, edges, ends, Some(sources), marks)
+    }
+
+    // The same from the marks that these pieces leave, and from the sources, where they are not the edges themselves.
+    fn of_marks(
+        alloc: Global,
+        corners: Vec<Point>,
+        edges: Vec<Edge>,
+        ends: Vec<(u32, u32)>,
+        sources: Option<Vec<(u32, u32)>>,
+        marks: Rows<Mark>,
+    ) -> Result<EdgeTable, AllocError>
+        requires of_layer { (cut : EdgeOf → List EdgeOf) × ((layer : List Rings) × ((tagged : List (EdgeOf × ℕ)) × (AreOfLayer cut layer corners.items edges.items ends.items (option_map_or (λ kept. kept.items) sources ends.items) tagged × (marks ≡ marks_in tagged)))) }
+        requires few_corners { length corners.items ≤ most_points }
+        requires few_edges { length edges.items ≤ most_pieces }
+        ensures { IfOk result (λ table. (cut : EdgeOf → List EdgeOf) (layer : List Rings) (tagged : List (EdgeOf × ℕ)) → AreOfLayer cut layer corners.items edges.items ends.items (option_map_or (λ kept. kept.items) sources ends.items) tagged → marks ≡ marks_in tagged → table ≡ table_by cut layer) }
+    {
         EdgeTable::assemble(alloc, corners, edges, ends, marks, sources)
     }
 
@@ -99,10 +122,10 @@ impl EdgeTable {
         sources: Vec<(u32, u32)>,
     ) -> Result<EdgeTable, AllocError>
         requires corners_rise { IsTrue (is_rising before corners.items) }
-        requires few_corners { length corners.items ≤ 2 ^ 20 }
+        requires few_corners { length corners.items ≤ most_points }
         requires edges_rise { IsTrue (is_rising pair_before ends.items) }
         requires edges_go_up { All (GoesUpBelow (length corners.items)) ends.items }
-        requires few_edges { length ends.items ≤ 2 ^ 21 }
+        requires few_edges { length ends.items ≤ most_pieces }
         requires marks_rise { IsTrue (is_rising edge_mark_before marks.items) }
         requires marks_on_edges { All (λ mark. mark.0 < length ends.items) marks.items }
         requires sources_fit { length sources.items ≡ length ends.items }
@@ -112,7 +135,7 @@ impl EdgeTable {
     {
         let edges = edges_between(alloc, &corners, &ends)?;
         let rows = Rows::by_key(alloc, &marks, ends.len())?;
-        EdgeTable::assemble(alloc, corners, edges, ends, rows, sources)
+        EdgeTable::assemble(alloc, corners, edges, ends, rows, Some(sources))
     }
 
     // The table of these rows, with what begins and what ends at each corner.
@@ -122,12 +145,12 @@ impl EdgeTable {
         edges: Vec<Edge>,
         ends: Vec<(u32, u32)>,
         marks: Rows<Mark>,
-        sources: Vec<(u32, u32)>,
+        sources: Option<Vec<(u32, u32)>>,
     ) -> Result<EdgeTable, AllocError>
-        requires in_order { IsTable (table_with corners.items ends.items marks sources.items) }
-        requires small { IsSmallTable (table_with corners.items ends.items marks sources.items) }
-        requires edges { AreEdges (table_with corners.items ends.items marks sources.items) edges.items }
-        ensures { IfOk result (λ table. table ≡ table_with corners.items ends.items marks sources.items) }
+        requires in_order { IsTable (table_with corners.items ends.items marks (option_map_or (λ kept. kept.items) sources ends.items)) }
+        requires small { IsSmallTable (table_with corners.items ends.items marks (option_map_or (λ kept. kept.items) sources ends.items)) }
+        requires edges { AreEdges (table_with corners.items ends.items marks (option_map_or (λ kept. kept.items) sources ends.items)) edges.items }
+        ensures { IfOk result (λ table. table ≡ table_with corners.items ends.items marks (option_map_or (λ kept. kept.items) sources ends.items)) }
     {
         let count = corners.len() as u32;
         let firsts = first_edges(alloc, &ends, count)?;
@@ -154,7 +177,7 @@ impl EdgeTable {
     /// How many corners there are.
     pub fn corner_count(&self) -> u32
         ensures value { result ≡ length self.now.corners }
-        ensures within { result ≤ 2 ^ 20 }
+        ensures within { result ≤ most_points }
     {
         self.corners.len() as u32
     }
@@ -162,7 +185,7 @@ impl EdgeTable {
     /// How many edges there are.
     pub fn edge_count(&self) -> u32
         ensures value { result ≡ length self.now.ends }
-        ensures within { result ≤ 2 ^ 21 }
+        ensures within { result ≤ most_pieces }
     {
         self.ends.len() as u32
     }
@@ -210,7 +233,10 @@ impl EdgeTable {
         ensures goes_up { result.0 < result.1 }
         ensures in_range { result.1 < length self.now.corners }
     {
-        self.sources[n as usize]
+        match &self.sources {
+            Some(sources) => sources[n as usize],
+            None => self.ends[n as usize],
+        }
     }
 
     /// The edges whose lower end is the corner: from the first number on and before the second.

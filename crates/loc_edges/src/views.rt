@@ -1,7 +1,8 @@
 // What an index sees of a table while it is asked for a point: points against edges and corners, each test counted, and no coordinates.
 
-ghost use Rattle.std.specs.Prelude.{◌≡◌, ◌+◌, ◌<◌, ◌≤◌, ◌^◌, ◌==◌, IsTrue, filter, length};
+ghost use Rattle.std.specs.Prelude.{◌≡◌, ◌+◌, ◌<◌, ◌≤◌, ◌==◌, IsTrue, filter, length};
 ghost use Rattle.std.specs.Ordering.{MatchOrdering};
+ghost use Rattle.loc_spec_text.specs.Limits.{most_pieces, most_points};
 ghost use Rattle.loc_spec_plane.specs.Points.{before, same_point};
 ghost use Rattle.loc_spec_plane.specs.Places.{lower_of};
 ghost use Rattle.loc_spec_plane.specs.Tables.{IsTable, corner as corner_of, edge as edge_of, lo_of, hi_of, edge_numbers};
@@ -55,7 +56,7 @@ impl<'t, L: Ledger> Views<'t, L> {
     /// How many corners there are.
     pub fn corner_count(&self) -> u32
         ensures value { result ≡ length self.now.corners }
-        ensures within { result ≤ 2 ^ 20 }
+        ensures within { result ≤ most_points }
     {
         self.table.corner_count()
     }
@@ -63,7 +64,7 @@ impl<'t, L: Ledger> Views<'t, L> {
     /// How many edges there are.
     pub fn edge_count(&self) -> u32
         ensures value { result ≡ length self.now.ends }
-        ensures within { result ≤ 2 ^ 21 }
+        ensures within { result ≤ most_pieces }
     {
         self.table.edge_count()
     }

@@ -16,14 +16,14 @@ ghost use Rattle.loc_maps.specs.MapCourses.{layer_file};
 ghost use Rattle.loc_face.specs.FaceCourses.{face_course, place_course, point_course, text_above};
 
 use crate::lines::numbered_line;
-use loc_course::{Line, Scale, Stop};
+use loc_course::{Line, Stop};
 use loc_faces::{Faces, write_face};
 use loc_geom::{Point, Steps};
 use loc_half::HalfEdges;
 use loc_io::{Shelf, Sink};
 use loc_maps::{Plane, judge, read_layer_file};
 use loc_place::{Locator, Place};
-use loc_spec_text::Form;
+use loc_spec_text::{Form, Scale};
 use loc_treeidx::TreeIndex;
 use loc_treeidx::laws::swept_stands;
 use loc_wkt::read_point;

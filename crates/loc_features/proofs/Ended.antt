@@ -21,7 +21,8 @@ use Rattle.loc_course.specs.Streams.{Answering, IsToldFront, answered_long, out_
 use Rattle.loc_course.proofs.Streamed.{long_or_short, of_whole}
 use Rattle.loc_told.proofs.Ends.{done_by, grown, refused_behind, refused_by}
 use Rattle.loc_maps.specs.LineTexts.{layer_fault_text}
-use Rattle.loc_maps.specs.MapCourses.{IsRead, LayerFile, limit, read_in}
+use Rattle.loc_maps.specs.MapCourses.{IsRead, LayerFile, read_in}
+use Rattle.loc_spec_text.specs.Limits.{most_text}
 use Rattle.loc_maps.proofs.Judged.{read_all}
 use Rattle.loc_maps.proofs.ReadRows.{layer_line, layer_long, layer_reads, was_read}
 use Rattle.loc_features.specs.FeatureCourses.{features_course, features_points, features_steps}
@@ -48,7 +49,7 @@ features_refuses_behind file points line = features_all (λ c. MayRefuseBehind c
 module _ (told : Text → Told) (file : LayerFile) (points layer text : Text) (is : told file.name ≡ holds layer) (also : told points ≡ holds text) where
   module _ (features : List Feature) (r : IsRead file layer features) where
     abbrev of_points : Source
-    of_points = source points limit (ended (codes "points: too long"))
+    of_points = source points most_text (ended (codes "points: too long"))
 
     abbrev answering : Answering
     answering line = Ok (features_line file.scale features line)
@@ -57,15 +58,15 @@ module _ (told : Text → Told) (file : LayerFile) (points layer text : Text) (i
     comes_to = layer_reads told file (features_points file.scale points) layer is features r ∙ ap (by_lines of_points answering) also
 
     -- points that are too long come to the first answers, and others to all
-    behind_long : limit < length text → outcome told (features_course file points) ≡ partly (features_within limit file.scale features text) (ended (codes "points: too long"))
+    behind_long : most_text < length text → outcome told (features_course file points) ≡ partly (features_within most_text file.scale features text) (ended (codes "points: too long"))
     behind_long more =
-        let first = ended_lines (take limit text) in
-        let is_long = cond-true (nat_lt limit (length text)) (answered_long of_points.too_long (answered answering first)) (answered answering (lines text)) ((Decides-ltb limit (length text)).1 more) in
+        let first = ended_lines (take most_text text) in
+        let is_long = cond-true (nat_lt most_text (length text)) (answered_long of_points.too_long (answered answering first)) (answered answering (lines text)) ((Decides-ltb most_text (length text)).1 more) in
         comes_to
         ∙ (ap (λ (a : Answered Text Text). by_refusal (out_of a) a.refusal) (is_long ∙ ap (answered_long of_points.too_long) (all_answered (features_line file.scale features) first))
         ∙ ap (λ out. partly out of_points.too_long) (joined (features_line file.scale features) first))
 
-    all_lines : length text ≤ limit → outcome told (features_course file points) ≡ output (exactly (features_output file.scale features text))
+    all_lines : length text ≤ most_text → outcome told (features_course file points) ≡ output (exactly (features_output file.scale features text))
     unfolding features_output
     all_lines less =
         comes_to
@@ -74,13 +75,13 @@ module _ (told : Text → Told) (file : LayerFile) (points layer text : Text) (i
 
   -- where the command was done, its layer reads and its points are not too long
   abbrev WasDone : Type 0
-  WasDone = (features : List Feature) × IsRead file layer features × (length text ≤ limit)
+  WasDone = (features : List Feature) × IsRead file layer features × (length text ≤ most_text)
 
   was_done : (before : Option Text) (new : Moment) → EndsSo (outcome told (features_course file points)) before new None → WasDone
   was_done before new ends =
       let read = was_read told file (features_points file.scale points) layer is before new ends in
-      elim (long_or_short limit text) [
-        | inl long ↦ (let never : EndsSo (partly (features_within limit file.scale read.0 text) (ended (codes "points: too long"))) before new None = subst (λ o. EndsSo o before new None) (behind_long read.0 read.1 long.0) ends in absurd never)
+      elim (long_or_short most_text text) [
+        | inl long ↦ (let never : EndsSo (partly (features_within most_text file.scale read.0 text) (ended (codes "points: too long"))) before new None = subst (λ o. EndsSo o before new None) (behind_long read.0 read.1 long.0) ends in absurd never)
         | inr short ↦ (read.0, read.1, short.0)
       ]
 
@@ -113,6 +114,6 @@ features_told file points old new n n' status s =
       layer_fault = λ layer fault is few reads steady.
           refused_by course none old new n n' status s (ended (layer_fault_text file.form fault)) (layer_line told file (features_points file.scale points) layer is fault few reads) steady;
       points_long = λ layer text features is also r long reads out.
-          refused_behind course none old new n n' status s (features_within limit file.scale features text) (ended (codes "points: too long")) (behind_long told file points layer text is also features r long) reads out;
+          refused_behind course none old new n n' status s (features_within most_text file.scale features text) (ended (codes "points: too long")) (behind_long told file points layer text is also features r long) reads out;
       steps = λ layer text is also. s.steps.within _ (steps_within told file points layer text is also _ (omega arith));
     }

@@ -3,3 +3,5 @@ pub mod Ended
 mod Examples
 mod Named
 mod Naming
+mod Placed
+mod Together

@@ -1,29 +1,33 @@
--- Members of a list that are named while it is gone through.
-use Rattle.std.proofs.Common.{◌≡◌, ℕ, zero, suc, ◌+◌, ◌-◌, ◌<◌, ◌≤◌, Bool, true, false, not, ◌&&◌, List, [], ◌∷◌, ◌++◌, length, map, filter, take, get_or, refl, sym, ◌∙◌, ap, subst, arith, append-nil, cond, length-append, length-take}
+-- Members of a list that are named while it is gone through: boxes about features with some numbers of a layer.
+use Rattle.std.proofs.Common.{◌≡◌, ℕ, zero, suc, ◌+◌, ◌-◌, ◌<◌, ◌≤◌, Bool, true, false, not, ◌&&◌, List, [], ◌∷◌, ◌++◌, length, map, filter, take, get_or, refl, sym, ◌∙◌, ap, subst, arith, append-nil, append_assoc, cond, length-append, length-take, inl, inr}
 use Rattle.std.specs.Prelude.{◌==◌, Option, Some, None, nat_lt, sum_by}
 use Rattle.std.specs.List.{list_any, range_with_len}
-use Rattle.std.proofs.lemmas.Bool.{cond-true, cond-false}
+use Rattle.std.proofs.lemmas.Bool.{cases_Bool, cond-true, cond-false, eqb-true, true≢false}
 use Rattle.std.proofs.lemmas.List.{length-map, map-append, take-take, take_all, take_more}
 use Rattle.std.proofs.lemmas.List.Elements.{filter-append}
 use Rattle.std.proofs.lemmas.List.FromFn.{length-range_with_len}
 use Rattle.std.proofs.lemmas.List.Filters.{sum_by-filter_both}
 use Rattle.std.proofs.lemmas.List.Sorted.{length_permutation, list_any-IsPermutation, sum_by-IsPermutation}
+use Rattle.std.proofs.lemmas.Simd.{map-map}
 use Rattle.std.proofs.lemmas.List.Sums.{sum_by-cons, sum_by-take-le, sum_by_more}
-use Rattle.loc_spec_plane.specs.Lists.{is_in, numbers, odd_many, sorted_set}
+use Rattle.loc_spec_plane.specs.Lists.{is_in, numbers, odd_many}
 use Rattle.loc_spec_plane.specs.Rays.{crosses_right}
 use Rattle.loc_spec_plane.specs.Points.{Edge, Point, lies_on}
 use Rattle.loc_spec_plane.specs.Rings.{Rings, segments, touches, covers}
 use Rattle.loc_spec_plane.specs.Tables.{layer_segments}
 use Rattle.loc_laws_order.proofs.Kept.{is_in-filter}
-use Rattle.loc_laws_any.specs.Unions.{passing}
-use Rattle.loc_laws_any.proofs.Joining.{joined}
+use Rattle.loc_laws_order.proofs.Sets.{any_weaker}
+use Rattle.loc_laws_rays.proofs.Picked.{member_any}
+use Rattle.loc_laws_any.specs.Unions.{by_place, part_of, passing}
+use Rattle.loc_laws_any.proofs.Joining.{part_answers}
+use Rattle.loc_cover.proofs.Lexicographic.{any_map}
 use Rattle.loc_batch.specs.Lists.{ListsState}
 use Rattle.loc_spans.specs.Around.{is_some}
 use Rattle.loc_spans.specs.Boxes.{BoxedState, IsBoxed, IsIdle, Kept, feature_of, has_segments, rings_at}
 use Rattle.loc_spans.specs.Parity.{IsAnswer}
-use Rattle.loc_features.specs.Gathered.{NamesAll, noted, segment_count}
+use Rattle.loc_features.specs.Gathered.{NamesAll, noted, number_of, segment_count, segments_at}
 
-few_kept : {X : Type 0} (test : X → Bool) (xs : List X) → length (filter test xs) ≤ length xs
+pub few_kept : {X : Type 0} (test : X → Bool) (xs : List X) → length (filter test xs) ≤ length xs
 few_kept test [] = omega arith
 few_kept test (x ∷ xs) = by (test x) (few_kept test xs)
   where
@@ -63,39 +67,48 @@ sum_map : {X : Type 0} (w : ℕ → ℕ) (f : X → ℕ) (xs : List X) → sum_b
 sum_map w f [] = refl
 sum_map w f (x ∷ xs) = sum_by-cons (λ y. w (f y)) x xs ∙ (ap (λ n. w (f x) + n) (sum_map w f xs) ∙ sym (sum_by-cons w (f x) (map f xs)))
 
--- there are few boxes
-pub few_boxes : (layer : List Rings) (b : BoxedState) → IsBoxed layer b → length b.boxes ≤ 262144
+-- there are no more boxes than features
+pub few_boxes : (layer : List Rings) (b : BoxedState) → IsBoxed layer b → length b.boxes ≤ length layer
 few_boxes layer b is =
     let less = few_kept (has_segments layer) (numbers (length layer)) in
-    omega (arith, is.few, less, length-range_with_len 0 (length layer), length_permutation _ _ is.named, length-map b.boxes feature_of)
+    omega (arith, less, length-range_with_len 0 (length layer), length_permutation _ _ is.named, length-map b.boxes feature_of)
 
 -- what touches a point does not cover it
 not_covered : (rings : Rings) (p : Point) → touches rings p ≡ true → covers rings p ≡ false
 not_covered rings p on = ap (λ t. not t && odd_many (λ s. crosses_right s p) (segments rings)) on
 
-module _ (layer : List Rings) (b : BoxedState) (p : Point) where
+module _ (part : List Rings) (b : BoxedState) (ns : List ℕ) (p : Point) (before : ListsState) where
+  -- at first
+  pub names_none : NamesAll part b ns p 0 before before
+  names_none = record { touching = sym (append-nil before.touching); covering = sym (append-nil before.covering) }
+
   -- up to the next box
-  pub names_up_to : (from to : ℕ) (d : Kept) (l : ListsState) → NamesAll layer b p from l → from ≤ to → to ≤ length b.boxes → IsIdle layer b.boxes p from to → NamesAll layer b p to l
+  pub names_up_to : (from to : ℕ) (d : Kept) (l : ListsState) → NamesAll part b ns p from before l → from ≤ to → to ≤ length b.boxes → IsIdle part b.boxes p from to → NamesAll part b ns p to before l
   names_up_to from to d l names le fits idle =
       let same : from + (to - from) ≡ to = omega arith in
-      subst (λ n. NamesAll layer b p n l) same (record {
-        touching = names.touching ∙ sym (skips (λ box. touches (rings_at layer box) p) feature_of b.boxes from (to - from) d (omega (arith, le, fits)) (λ i low lt. (idle i d low (omega (arith, lt, le)) (omega (arith, lt, le, fits))).0));
-        covering = names.covering ∙ sym (skips (λ box. covers (rings_at layer box) p) feature_of b.boxes from (to - from) d (omega (arith, le, fits)) (λ i low lt. (idle i d low (omega (arith, lt, le)) (omega (arith, lt, le, fits))).1));
+      subst (λ n. NamesAll part b ns p n before l) same (record {
+        touching = names.touching ∙ ap (λ ms. before.touching ++ ms) (sym (skips (λ box. touches (rings_at part box) p) (number_of ns) b.boxes from (to - from) d (omega (arith, le, fits)) (λ i low lt. (idle i d low (omega (arith, lt, le)) (omega (arith, lt, le, fits))).0)));
+        covering = names.covering ∙ ap (λ ms. before.covering ++ ms) (sym (skips (λ box. covers (rings_at part box) p) (number_of ns) b.boxes from (to - from) d (omega (arith, le, fits)) (λ i low lt. (idle i d low (omega (arith, lt, le)) (omega (arith, lt, le, fits))).1)));
       })
 
+  -- a member behind others, where a list before them stands in front
+  behind : (xs named more : List ℕ) (f g : ℕ) → f ≡ g → more ≡ named ++ g ∷ [] → (xs ++ named) ++ f ∷ [] ≡ xs ++ more
+  behind xs named more f g same is = append_assoc xs named (f ∷ []) ∙ ap (λ ms. xs ++ ms) (ap (λ n. named ++ n ∷ []) same ∙ sym is)
+
   -- and that box, by its answer
-  pub names_more : (k f : ℕ) (d : Kept) (l : ListsState) (parity : Option Bool) → NamesAll layer b p k l → k < length b.boxes → f ≡ feature_of (get_or b.boxes k d) → IsAnswer (rings_at layer (get_or b.boxes k d)) p parity → NamesAll layer b p (k + 1) (noted l f parity)
+  pub names_more : (k f : ℕ) (d : Kept) (l : ListsState) (parity : Option Bool) → NamesAll part b ns p k before l → k < length b.boxes → f ≡ number_of ns (get_or b.boxes k d) → IsAnswer (rings_at part (get_or b.boxes k d)) p parity
+      → NamesAll part b ns p (k + 1) before (noted l f parity)
   names_more k f d l None names lt is on = record {
-    touching = ap (λ ns. ns ++ f ∷ []) names.touching ∙ (ap (λ n. map feature_of (filter (λ box. touches (rings_at layer box) p) (take k b.boxes)) ++ n ∷ []) is ∙ sym (passes (λ box. touches (rings_at layer box) p) feature_of b.boxes k d lt on));
-    covering = names.covering ∙ sym (fails (λ box. covers (rings_at layer box) p) feature_of b.boxes k d lt (not_covered (rings_at layer (get_or b.boxes k d)) p on));
+    touching = ap (λ ms. ms ++ f ∷ []) names.touching ∙ behind before.touching _ _ f (number_of ns (get_or b.boxes k d)) is (passes (λ box. touches (rings_at part box) p) (number_of ns) b.boxes k d lt on);
+    covering = names.covering ∙ ap (λ ms. before.covering ++ ms) (sym (fails (λ box. covers (rings_at part box) p) (number_of ns) b.boxes k d lt (not_covered (rings_at part (get_or b.boxes k d)) p on)));
   }
   names_more k f d l (Some true) names lt is inside = record {
-    touching = names.touching ∙ sym (fails (λ box. touches (rings_at layer box) p) feature_of b.boxes k d lt inside.0);
-    covering = ap (λ ns. ns ++ f ∷ []) names.covering ∙ (ap (λ n. map feature_of (filter (λ box. covers (rings_at layer box) p) (take k b.boxes)) ++ n ∷ []) is ∙ sym (passes (λ box. covers (rings_at layer box) p) feature_of b.boxes k d lt inside.1));
+    touching = names.touching ∙ ap (λ ms. before.touching ++ ms) (sym (fails (λ box. touches (rings_at part box) p) (number_of ns) b.boxes k d lt inside.0));
+    covering = ap (λ ms. ms ++ f ∷ []) names.covering ∙ behind before.covering _ _ f (number_of ns (get_or b.boxes k d)) is (passes (λ box. covers (rings_at part box) p) (number_of ns) b.boxes k d lt inside.1);
   }
   names_more k f d l (Some false) names lt is outside = record {
-    touching = names.touching ∙ sym (fails (λ box. touches (rings_at layer box) p) feature_of b.boxes k d lt outside.0);
-    covering = names.covering ∙ sym (fails (λ box. covers (rings_at layer box) p) feature_of b.boxes k d lt outside.1);
+    touching = names.touching ∙ ap (λ ms. before.touching ++ ms) (sym (fails (λ box. touches (rings_at part box) p) (number_of ns) b.boxes k d lt outside.0));
+    covering = names.covering ∙ ap (λ ms. before.covering ++ ms) (sym (fails (λ box. covers (rings_at part box) p) (number_of ns) b.boxes k d lt outside.1));
   }
 
 -- the segments of the boxes up to a further one
@@ -136,7 +149,7 @@ module _ (test : Rings → Bool) (none : (rings : Rings) → is_some (segments r
   abbrev passes_at : ℕ → Bool
   passes_at f = test (get_or layer f [])
 
-  pub alike : (n : ℕ) → is_in n (map feature_of (filter (λ box. test (rings_at layer box)) (take (length b.boxes) b.boxes))) ≡ is_in n (passing test layer)
+  alike : (n : ℕ) → is_in n (map feature_of (filter (λ box. test (rings_at layer box)) (take (length b.boxes) b.boxes))) ≡ is_in n (passing test layer)
   alike n =
       ap (λ boxes. is_in n (map feature_of (filter (λ box. test (rings_at layer box)) boxes))) (take_all (length b.boxes) b.boxes (omega arith))
       ∙ (ap (is_in n) (filter_map passes_at feature_of b.boxes)
@@ -144,9 +157,37 @@ module _ (test : Rings → Bool) (none : (rings : Rings) → is_some (segments r
       ∙ (ap (λ c. c && passes_at n) (sym (list_any-IsPermutation (λ m. m == n) (filter (has_segments layer) (numbers (length layer))) (map feature_of b.boxes) is.named) ∙ is_in-filter (has_segments layer) n (numbers (length layer)))
       ∙ (and_kept (is_in n (numbers (length layer))) (has_segments layer n) (passes_at n) (none (get_or layer n [])) ∙ sym (is_in-filter passes_at n (numbers (length layer)))))))
 
-  -- the named features, in order and each once
-  pub named_pass : (named : List ℕ) → named ≡ map feature_of (filter (λ box. test (rings_at layer box)) (take (length b.boxes) b.boxes)) → sorted_set nat_lt named ≡ passing test layer
-  named_pass named same = joined test layer named (λ n. ap (is_in n) same ∙ alike n)
+-- what some member of a list passes, some member of one with the same members passes
+members_pass : (p : ℕ → Bool) (xs ys : List ℕ) → ((k : ℕ) → is_in k xs ≡ is_in k ys) → list_any p xs ≡ true → list_any p ys ≡ true
+members_pass p xs ys alike some =
+    let found = member_any p xs some in
+    any_weaker (λ m. m == found.0) p (λ m same. ap p (eqb-true m found.0 same) ∙ found.2) ys (sym (alike found.0) ∙ found.1)
+
+any_alike : (p : ℕ → Bool) (xs ys : List ℕ) → ((k : ℕ) → is_in k xs ≡ is_in k ys) → list_any p xs ≡ list_any p ys
+any_alike p xs ys alike = elim (cases_Bool (list_any p xs)) [
+  | inl some ↦ some ∙ sym (members_pass p xs ys alike some)
+  | inr none ↦ none ∙ sym (elim (cases_Bool (list_any p ys)) [
+    | inl some ↦ absurd (true≢false (sym (members_pass p ys xs (λ k. sym (alike k)) some) ∙ none))
+    | inr none_too ↦ none_too
+  ])
+]
+
+-- lists with the same members have the same images
+alike_map : (g : ℕ → ℕ) (n : ℕ) (xs ys : List ℕ) → ((k : ℕ) → is_in k xs ≡ is_in k ys) → is_in n (map g xs) ≡ is_in n (map g ys)
+alike_map g n xs ys alike = any_map (λ m. m == n) g xs ∙ (any_alike (λ k. g k == n) xs ys alike ∙ sym (any_map (λ m. m == n) g ys))
+
+-- by their numbers in the layer these are the features of the part that pass
+pub numbered : (test : Rings → Bool) (none : (rings : Rings) → is_some (segments rings) ≡ false → test rings ≡ false) (layer : List Rings) (ns : List ℕ) (b : BoxedState) → IsBoxed (part_of ns layer) b → (n : ℕ)
+    → is_in n (map (number_of ns) (filter (λ box. test (rings_at (part_of ns layer) box)) (take (length b.boxes) b.boxes))) ≡ (is_in n ns && test (get_or layer n []))
+numbered test none layer ns b is n =
+    let named : List Kept = filter (λ box. test (rings_at (part_of ns layer) box)) (take (length b.boxes) b.boxes) in
+    ap (is_in n) (sym (map-map (λ k. get_or ns k 0) feature_of named))
+    ∙ (alike_map (λ k. get_or ns k 0) n (map feature_of named) (passing test (part_of ns layer)) (alike test none (part_of ns layer) b is)
+    ∙ (ap (is_in n) (part_answers test layer ns) ∙ is_in-filter (λ m. test (get_or layer m [])) n ns))
+
+-- and no more than there are numbers
+pub few_numbered : (test : Kept → Bool) (layer : List Rings) (ns : List ℕ) (b : BoxedState) → IsBoxed (part_of ns layer) b → length (map (number_of ns) (filter test (take (length b.boxes) b.boxes))) ≤ length ns
+few_numbered test layer ns b is = omega (arith, few_named test (number_of ns) b.boxes (length b.boxes) (omega arith), few_boxes (part_of ns layer) b is, length-map ns (λ n. get_or layer n []))
 
 -- ---- the segments of all boxes
 all_counted : (w : ℕ → ℕ) (a : ℕ) (layer : List Rings) → ((i : ℕ) → i < length layer → w (a + i) ≡ length (segments (get_or layer i []))) → sum_by w (range_with_len a (length layer)) ≡ length (layer_segments layer)
@@ -158,7 +199,7 @@ all_counted w a (rings ∷ layer) each =
     omega (arith, sum_by-cons w a (range_with_len (a + 1) (length layer)), first, rest, length-append (segments rings) (layer_segments layer))
 
 -- they are no more than those of the layer
-pub few_segments : (layer : List Rings) (b : BoxedState) → IsBoxed layer b → sum_by (segment_count b) b.boxes ≤ length (layer_segments layer)
+few_segments : (layer : List Rings) (b : BoxedState) → IsBoxed layer b → sum_by (segment_count b) b.boxes ≤ length (layer_segments layer)
 few_segments layer b is =
     let w : ℕ → ℕ = λ f. length (get_or b.segments f []) in
     let all : List ℕ = numbers (length layer) in
@@ -167,3 +208,16 @@ few_segments layer b is =
     let split = sum_by-filter_both (has_segments layer) (λ f. not (has_segments layer f)) (λ f. refl) w all in
     let whole = all_counted w 0 layer (λ i lt. (let same : 0 + i ≡ i = omega arith in ap w same ∙ length_permutation _ _ (is.kept.moved i lt))) in
     omega (arith, by_feature, moved, split, whole)
+
+-- the segments of a part are those of its features
+part_segments : (layer : List Rings) (ns : List ℕ) → length (layer_segments (part_of ns layer)) ≡ sum_by (segments_at layer) ns
+part_segments layer [] = refl
+part_segments layer (n ∷ ns) = omega (arith, sum_by-cons (segments_at layer) n ns, part_segments layer ns, length-append (segments (get_or layer n [])) (layer_segments (part_of ns layer)))
+
+-- so the boxes of a part have no more
+pub few_counted : (layer : List Rings) (ns : List ℕ) (b : BoxedState) → IsBoxed (part_of ns layer) b → sum_by (segment_count b) b.boxes ≤ sum_by (segments_at layer) ns
+few_counted layer ns b is = omega (arith, few_segments (part_of ns layer) b is, part_segments layer ns)
+
+-- all features of a layer have its segments
+pub all_segments : (layer : List Rings) → sum_by (segments_at layer) (numbers (length layer)) ≡ length (layer_segments layer)
+all_segments layer = all_counted (segments_at layer) 0 layer (λ i lt. (let same : 0 + i ≡ i = omega arith in ap (segments_at layer) same))

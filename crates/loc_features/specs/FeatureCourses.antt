@@ -10,7 +10,8 @@ use Rattle.loc_rings.specs.Values.{Feature}
 use Rattle.loc_edges.specs.Layers.{layer_rings}
 use Rattle.loc_course.specs.Courses.{Course, answers}
 use Rattle.loc_course.specs.Stops.{source}
-use Rattle.loc_maps.specs.MapCourses.{LayerFile, limit, read_course}
+use Rattle.loc_maps.specs.MapCourses.{LayerFile, read_course}
+use Rattle.loc_spec_text.specs.Limits.{most_text}
 use Rattle.loc_features.specs.Features.{features_line}
 
 -- the most steps of a line: 1,008, and one for each segment of the layer
@@ -19,7 +20,7 @@ features_steps layer = 1008 + length (layer_segments (layer_rings layer))
 
 -- the points' file is read in pieces, and its lines are answered in a layer
 abbrev pub features_points : ℕ → Text → List Feature → Course
-features_points scale points layer = answers (source points limit (ended (codes "points: too long"))) (features_steps layer) (λ line. Ok (features_line scale layer line))
+features_points scale points layer = answers (source points most_text (ended (codes "points: too long"))) (features_steps layer) (λ line. Ok (features_line scale layer line))
 
 -- The layer's file is read whole and then the points, and the lines are answered. No layer that reads is refused.
 abbrev pub features_course : LayerFile → Text → Course

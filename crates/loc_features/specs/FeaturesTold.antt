@@ -15,7 +15,8 @@ use Rattle.loc_csvform.specs.declared.faults.LayerFault.{LayerFault}
 use Rattle.loc_course.specs.Moments.{Moment}
 use Rattle.loc_course.specs.Sentences.{Steady, Wrote}
 use Rattle.loc_maps.specs.LineTexts.{layer_fault_text}
-use Rattle.loc_maps.specs.MapCourses.{IsRead, LayerFile, limit}
+use Rattle.loc_maps.specs.MapCourses.{IsRead, LayerFile}
+use Rattle.loc_spec_text.specs.Limits.{most_text}
 use Rattle.loc_told.specs.Answers.{IsDone, IsRefused, OrMemory}
 use Rattle.loc_features.specs.FeatureCourses.{features_steps}
 use Rattle.loc_features.specs.Features.{features_line, features_output}
@@ -34,20 +35,20 @@ pub record FeaturesTold (file : LayerFile) (points : Text) (old new : Moment) (n
   -- With status 0 the layer reads, the points are within the limit, and out has grown by exactly one line for each line of the points: the features that
   -- touch its point and those that cover it, by name, in the order of the layer; `unread` where it reads as no point.
   pub done : (layer text : Text) → old.shelf.told file.name ≡ holds layer → old.shelf.told points ≡ holds text → status ≡ 0
-      → (features : List Feature) × IsRead file layer features × (length text ≤ limit) × Appends old.out.written new.out.written (features_output file.scale features text)
+      → (features : List Feature) × IsRead file layer features × (length text ≤ most_text) × Appends old.out.written new.out.written (features_output file.scale features text)
   -- The status is 0 for every layer that reads and points within the limit, unless a read or a write failed.
-  pub answers : (layer text : Text) (features : List Feature) → old.shelf.told file.name ≡ holds layer → old.shelf.told points ≡ holds text → IsRead file layer features → length text ≤ limit
+  pub answers : (layer text : Text) (features : List Feature) → old.shelf.told file.name ≡ holds layer → old.shelf.told points ≡ holds text → IsRead file layer features → length text ≤ most_text
       → Steady old.shelf.read_faults new.shelf.read_faults → Steady old.out.faults new.out.faults → OrMemory old new status (IsDone old new status (features_output file.scale features text))
   -- Else, unless a read failed, it is 1, nothing is on out, and the line on notes is that of the cause: the layer is too long,
-  pub layer_long : (layer : Text) → old.shelf.told file.name ≡ holds layer → limit < length layer → Steady old.shelf.read_faults new.shelf.read_faults
+  pub layer_long : (layer : Text) → old.shelf.told file.name ≡ holds layer → most_text < length layer → Steady old.shelf.read_faults new.shelf.read_faults
       → OrMemory old new status (IsRefused old new n n' status (ended (codes "layer: too long")))
   -- or is at fault,
-  pub layer_fault : (layer : Text) (fault : LayerFault) → old.shelf.told file.name ≡ holds layer → length layer ≤ limit → layer_of file.form file.scale layer ≡ Err fault → Steady old.shelf.read_faults new.shelf.read_faults
+  pub layer_fault : (layer : Text) (fault : LayerFault) → old.shelf.told file.name ≡ holds layer → length layer ≤ most_text → layer_of file.form file.scale layer ≡ Err fault → Steady old.shelf.read_faults new.shelf.read_faults
       → OrMemory old new status (IsRefused old new n n' status (ended (layer_fault_text file.form fault)))
   -- or it reads and the points are too long: then the lines that end within the limit are answered, unless a write failed.
-  pub points_long : (layer text : Text) (features : List Feature) → old.shelf.told file.name ≡ holds layer → old.shelf.told points ≡ holds text → IsRead file layer features → limit < length text
+  pub points_long : (layer text : Text) (features : List Feature) → old.shelf.told file.name ≡ holds layer → old.shelf.told points ≡ holds text → IsRead file layer features → most_text < length text
       → Steady old.shelf.read_faults new.shelf.read_faults → Steady old.out.faults new.out.faults
-      → OrMemory old new status ((status ≡ 1) × Appends old.out.written new.out.written (features_within limit file.scale features text) × Wrote n n' (ended (codes "points: too long")))
+      → OrMemory old new status ((status ≡ 1) × Appends old.out.written new.out.written (features_within most_text file.scale features text) × Wrote n n' (ended (codes "points: too long")))
   -- For each line of the points at most 1,008 steps were counted, and one for each segment of the layer.
   pub steps : (layer text : Text) → old.shelf.told file.name ≡ holds layer → old.shelf.told points ≡ holds text
       → new.steps ≤ old.steps + length (lines text) * steps_in (layer_of file.form file.scale layer)

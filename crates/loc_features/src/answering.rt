@@ -3,20 +3,22 @@
 ghost use Rattle.std.specs.Prelude.{◌≡◌, ◌+◌, ◌<◌, ◌≤◌, ◌++◌, [], All, get_or, length};
 ghost use Rattle.loc_spec_text.specs.Points.{ended, ids_text, quoted};
 ghost use Rattle.loc_batch.specs.Desks.{PutsAnswer};
-ghost use Rattle.loc_edges.specs.Layers.{layer_rings};
 ghost use Rattle.loc_page.specs.Puts.{PutsText};
-ghost use Rattle.loc_spans.specs.Boxes.{IsBoxed};
-ghost use Rattle.loc_features.specs.FeatureCourses.{features_steps};
+ghost use Rattle.loc_spec_plane.specs.Tables.{layer_segments};
+ghost use Rattle.loc_edges.specs.Layers.{layer_rings};
+ghost use Rattle.loc_parts.specs.Parts.{IsParted};
+ghost use Rattle.loc_features.specs.Places.{AreAt};
 ghost use Rattle.loc_features.specs.Features.{features_text};
 ghost use Rattle.loc_features.specs.Told.{counted, ids_of, names_in, told_at, told_lists};
 
-use crate::gathering::name_at;
+use crate::placing::{Found, find_in};
+use crate::whole::name_at;
 use loc_batch::{Answerer, FeedFault, Lists, Tally, put_quoted};
 use loc_geom::{Point, Steps};
 use loc_io::{Sink, WriteFault};
 use loc_page::Page;
+use loc_parts::Parted;
 use loc_rings::Layer;
-use loc_spans::Boxed;
 use std::sync::ledger::Ledger;
 
 // The id of a feature.
@@ -122,67 +124,76 @@ fn put_told<O: Sink>(
     Ok(())
 }
 
-// The answer to a point, put and counted.
-fn answer_point<O: Sink, L: Ledger>(
-    boxed: &Boxed,
+// The answer to a point that was found, put and counted.
+fn answer_found<O: Sink, L: Ledger>(
+    parted: &Parted,
     layer: &Layer,
-    p: Point,
+    found: &Found,
     lists: &mut Lists,
     tally: &mut Tally,
     page: &mut Page,
     sink: &mut O,
     steps: &mut Steps<L>,
 ) -> Result<(), FeedFault>
-    requires boxed { IsBoxed (layer_rings layer.now) boxed.now }
-    ensures puts { PutsAnswer (told_at layer.now p) tally.old tally.new (O.meaning sink.old) (O.meaning sink.new) page.old page.new result }
+    requires parted { IsParted layer.now parted.now }
+    requires known { AreAt parted.now.parts.items found.now }
+    ensures puts { PutsAnswer (told_at layer.now found.now.point) tally.old tally.new (O.meaning sink.old) (O.meaning sink.new) page.old page.new result }
     ensures counted { steps.old ≤ steps.new }
-    ensures within { steps.new ≤ steps.old + features_steps layer.now }
+    ensures within { steps.new ≤ steps.old + length (layer_segments (layer_rings layer.now)) }
 {
-    name_at(boxed, p, lists, steps);
+    name_at(parted, found, lists, steps);
     put_told(page, sink, layer, lists, tally)
 }
 
-// What answers a point by the features of a layer, each by its box and its segments.
+// What answers a point by the parts of a layer.
 #[derive(Drop)]
-pub(crate) struct ByBoxes<'a> {
-    pub(crate) boxed: &'a Boxed,
+pub(crate) struct ByParts<'a> {
+    pub(crate) parted: &'a Parted,
     pub(crate) layer: &'a Layer,
 }
 
-impl<'a> Answerer<Point> for ByBoxes<'a> {
-    ghost use Rattle.std.specs.Prelude.{Ok, ⊤};
+impl<'a> Answerer<Found> for ByParts<'a> {
+    ghost use Rattle.std.specs.Prelude.{Ok, length};
+    ghost use Rattle.loc_spec_plane.specs.Tables.{layer_segments};
     ghost use Rattle.loc_edges.specs.Layers.{layer_rings};
-    ghost use Rattle.loc_spans.specs.Boxes.{IsBoxed};
-    ghost use Rattle.loc_features.specs.FeatureCourses.{features_steps};
+    ghost use Rattle.loc_parts.specs.Parts.{IsParted};
+    ghost use Rattle.loc_features.specs.Places.{AreAt, found_at};
     ghost use Rattle.loc_features.specs.Told.{told_at};
 
-    ghost fits = { λ d. IsBoxed (layer_rings d.layer.now) d.boxed.now };
+    ghost fits = { λ d. IsParted d.layer.now d.parted.now };
 
-    ghost finds = { λ _ p. p };
+    ghost finds = { λ d p. found_at d.parted.now.parts.items p };
 
-    ghost knows = { λ _ _. ⊤ };
+    ghost knows = { λ d found. AreAt d.parted.now.parts.items found };
 
-    ghost tells = { λ d p. Ok (told_at d.layer.now p) };
+    ghost tells = { λ d found. Ok (told_at d.layer.now found.point) };
 
-    ghost most_found = { λ _. 0 };
+    ghost most_found = { λ _. 1008 };
 
-    ghost most_put = { λ d. features_steps d.layer.now };
+    ghost most_put = { λ d. length (layer_segments (layer_rings d.layer.now)) };
 
-    fn find<L: Ledger>(&self, p: Point, _steps: &mut Steps<L>) -> Point {
-        p
+    fn find<L: Ledger>(&self, p: Point, steps: &mut Steps<L>) -> Found {
+        find_in(self.parted, p, steps)
     }
 
     fn put<O: Sink, L: Ledger>(
         &self,
-        found: Point,
+        found: Found,
         lists: &mut Lists,
         tally: &mut Tally,
         page: &mut Page,
         sink: &mut O,
         steps: &mut Steps<L>,
     ) -> Result<(), FeedFault> {
-        answer_point(
-            self.boxed, self.layer, found, lists, tally, page, sink, steps,
+        answer_found(
+            self.parted,
+            self.layer,
+            &found,
+            lists,
+            tally,
+            page,
+            sink,
+            steps,
         )
     }
 }

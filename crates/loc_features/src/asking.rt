@@ -6,21 +6,19 @@ ghost use Rattle.loc_course.specs.Stops.{end_of};
 ghost use Rattle.loc_maps.specs.MapCourses.{layer_file};
 ghost use Rattle.loc_features.specs.FeatureCourses.{features_course, features_points};
 
-use crate::answering::ByBoxes;
+use crate::answering::ByParts;
+use crate::placing::Found;
 use loc_answering::answer_lines;
 use loc_batch::Batch;
-use loc_course::{Scale, Stop};
-use loc_geom::{Point, Steps};
+use loc_course::Stop;
+use loc_geom::Steps;
 use loc_io::{Shelf, Sink};
 use loc_maps::read_features_file;
+use loc_parts::Parted;
 use loc_rings::Layer;
-use loc_spans::Boxed;
-use loc_spec_text::Form;
+use loc_spec_text::{Form, MOST_TEXT, Scale};
 use std::alloc::Global;
 use std::sync::ledger::Ledger;
-
-// The most bytes of a points text.
-const LIMIT: u64 = 268_435_456;
 
 // The answers to a file of points, in a layer that was read.
 fn answer_points<F: Shelf, O: Sink, L: Ledger>(
@@ -34,10 +32,10 @@ fn answer_points<F: Shelf, O: Sink, L: Ledger>(
 ) -> Result<(), Stop>
     ensures { Follows (features_points scale points.now layer.now) (moment (F.meaning shelf.old) (O.meaning out.old) steps.old) (moment (F.meaning shelf.new) (O.meaning out.new) steps.new) (end_of result) }
 {
-    let boxed = Boxed::make(alloc, layer)?;
-    let mut batch: Batch<Point> = Batch::make(alloc, scale.decimals(), LIMIT)?;
-    let by = ByBoxes {
-        boxed: &boxed,
+    let parted = Parted::make(alloc, layer)?;
+    let mut batch: Batch<Found> = Batch::make(alloc, scale.decimals(), MOST_TEXT as u64)?;
+    let by = ByParts {
+        parted: &parted,
         layer,
     };
     answer_lines(

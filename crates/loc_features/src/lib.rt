@@ -5,5 +5,7 @@ mod answering;
 mod asking;
 mod gathering;
 pub mod laws;
+mod placing;
+mod whole;
 
 pub use asking::features;

@@ -2,7 +2,8 @@
 --   answer_of   what a search found, as a locator answers it
 --   IsIndexFor  a content is a true index, and a table is its own
 --   IsNodeIn    the numbers of a node are those of an edge and of nodes
-use Rattle.std.specs.Prelude.{◌≡◌, ℕ, ◌^◌, ◌<◌, ◌≤◌, length, Ok, Err}
+use Rattle.std.specs.Prelude.{◌≡◌, ℕ, ◌<◌, ◌≤◌, length, Ok, Err}
+use Rattle.loc_spec_text.specs.Limits.{most_pieces}
 use Rattle.loc_spec_index.specs.declared.NodeRow.{NodeRow}
 use Rattle.loc_spec_plane.specs.Tables.{Table, IsTable}
 use Rattle.loc_spec_index.specs.Content.{Content, table_in}
@@ -19,7 +20,7 @@ answer_of (Err version) = Err (record { version = version })
 pub record IsIndexFor (c : Content) (t : Table) : Type 0 where
   pub table_is : t ≡ table_in c
   pub in_order : IsTable t
-  pub few_edges : length c.edges ≤ 2 ^ 21
+  pub few_edges : length c.edges ≤ most_pieces
   pub is_true : IsTrueIndex c
 
 -- the item is the number of an edge, and the pointers are numbers of nodes or 0

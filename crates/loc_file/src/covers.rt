@@ -1,8 +1,9 @@
 // The part of the cover lists.
 
-ghost use Rattle.std.specs.Prelude.{◌≡◌, ◌&&◌, ◌+◌, ◌-◌, ◌≤◌, min, ◌^◌, IfOk, IfErr, nat_lt, None, map, length};
+ghost use Rattle.std.specs.Prelude.{◌≡◌, ◌&&◌, ◌+◌, ◌-◌, ◌≤◌, min, IfOk, IfErr, nat_lt, None, map, length};
 ghost use Rattle.std.specs.List.{last_or};
 ghost use Rattle.std.specs.Int.{w32};
+ghost use Rattle.loc_spec_text.specs.Limits.{most_features, most_members};
 ghost use Rattle.loc_spec_plane.specs.Lists.{is_rising};
 ghost use Rattle.loc_spec_plane.specs.Covers.{list_before};
 ghost use Rattle.loc_spec_index.specs.IndexFile.{follows, cover_fields, cover_row, number};
@@ -11,10 +12,8 @@ ghost use Rattle.loc_file.specs.Readings.{IsRead, IsRowStop, AreRows, IsRowsStop
 use crate::cursor::Cursor;
 use crate::rows::keep;
 use loc_spec_index::{IndexFault, Part};
+use loc_spec_text::MOST_MEMBERS;
 use std::alloc::Global;
-
-// How many members all lists may have together.
-const MOST_MEMBERS: u32 = 16_777_216;
 
 // The members of a list, and whether they rise.
 fn read_members(
@@ -75,11 +74,11 @@ fn is_in_order(rises: bool, others: &[Vec<u32>], list: &[u32]) -> bool
 
 // The bound of the length of a list behind so many members.
 fn bound_of(features: u32, members: u32) -> u32
-    requires features { features ≤ 2 ^ 18 }
-    requires members { members ≤ 2 ^ 24 }
-    ensures { result ≡ min features (2 ^ 24 - members) + 1 }
+    requires features { features ≤ most_features }
+    requires members { members ≤ most_members }
+    ensures { result ≡ min features (most_members - members) + 1 }
 {
-    features.min(MOST_MEMBERS - members) + 1
+    features.min(MOST_MEMBERS as u32 - members) + 1
 }
 
 // A list behind others.
@@ -91,10 +90,10 @@ fn next_cover(
     row: u32,
     others: &[Vec<u32>],
 ) -> Result<Vec<u32>, IndexFault>
-    requires features { features ≤ 2 ^ 18 }
-    requires members { members ≤ 2 ^ 24 }
+    requires features { features ≤ most_features }
+    requires members { members ≤ most_members }
     ensures ok { IfOk result (λ list. IsRead (cover_row features members row (last_or None (map (λ other. other.items) others.now)) list.items) cursor.old cursor.new) }
-    ensures few { IfOk result (λ list. members + length list.items ≤ 2 ^ 24) }
+    ensures few { IfOk result (λ list. members + length list.items ≤ most_members) }
     ensures err { IfErr result (IsRowStop (cover_row features members row (last_or None (map (λ other. other.items) others.now))) cursor.old) }
 {
     let count = cursor.number(bound_of(features, members))?;
@@ -111,7 +110,7 @@ pub(crate) fn read_covers(
     features: u32,
     count: u32,
 ) -> Result<Vec<Vec<u32>>, IndexFault>
-    requires { features ≤ 2 ^ 18 }
+    requires { features ≤ most_features }
     ensures ok { IfOk result (λ lists. AreRows (cover_fields features) count (map (λ list. list.items) lists.items) cursor.old cursor.new) }
     ensures err { IfErr result (IsRowsStop (cover_fields features) count cursor.old) }
 {

@@ -1,6 +1,7 @@
 // The header of a file.
 
-ghost use Rattle.std.specs.Prelude.{◌≡◌, ℕ, ◌*◌, ◌^◌, ◌≤◌, ◌<◌, [], ◌∷◌, IfOk, IfErr, OnOk, codes};
+ghost use Rattle.std.specs.Prelude.{◌≡◌, ℕ, ◌*◌, ◌≤◌, ◌<◌, [], ◌∷◌, IfOk, IfErr, OnOk, codes};
+ghost use Rattle.loc_spec_text.specs.Limits.{most_features, most_pieces};
 ghost use Rattle.loc_spec_index.specs.IndexFile.{magic, most_edges, version};
 ghost use Rattle.loc_file.specs.Readings.{IsRead, IsWrong, IsRowStop};
 ghost use Rattle.loc_file.specs.Told.{header_row};
@@ -8,11 +9,7 @@ ghost use Rattle.loc_file.specs.Told.{header_row};
 use crate::cursor::Cursor;
 use byteorder::{BigEndian, ByteOrder};
 use loc_spec_index::IndexFault;
-
-// How many features and corners there may be.
-const MOST_FEATURES: u32 = 262_144;
-
-const MOST_CORNERS: u32 = 1_048_576;
+use loc_spec_text::{MOST_FEATURES, MOST_PIECES, MOST_POINTS};
 
 // The letters with which each file begins.
 const MAGIC: &[u8] = b"LOCINDEX";
@@ -63,25 +60,29 @@ fn read_version(cursor: &mut Cursor<'_>) -> Result<u32, IndexFault>
 // How many edges, and how many marks, a file of the version may have.
 fn most_rows(version: u32) -> u32
     ensures value { result ≡ most_edges version }
-    ensures within { result ≤ 2 ^ 21 }
+    ensures within { result ≤ most_pieces }
 {
-    if version == 1 { 1_048_576 } else { 2_097_152 }
+    if version == 1 {
+        1_048_576
+    } else {
+        MOST_PIECES as u32
+    }
 }
 
 // The header of a file.
 pub(crate) fn read_header(cursor: &mut Cursor<'_>) -> Result<Header, IndexFault>
     ensures ok { IfOk result (λ header. IsRead (header_row header) cursor.old cursor.new) }
     ensures scale { IfOk result (λ header. header.scale < 16) }
-    ensures features { IfOk result (λ header. header.features ≤ 2 ^ 18) }
-    ensures edges { IfOk result (λ header. header.edges ≤ 2 ^ 21) }
-    ensures nodes { IfOk result (λ header. header.nodes ≤ 24 * 2 ^ 21) }
+    ensures features { IfOk result (λ header. header.features ≤ most_features) }
+    ensures edges { IfOk result (λ header. header.edges ≤ most_pieces) }
+    ensures nodes { IfOk result (λ header. header.nodes ≤ 24 * most_pieces) }
     ensures err { IfErr result (IsRowStop header_row cursor.old) }
 {
     read_magic(cursor)?;
     let version = read_version(cursor)?;
     let scale = cursor.number(16)?;
-    let features = cursor.number(MOST_FEATURES + 1)?;
-    let corners = cursor.number(MOST_CORNERS + 1)?;
+    let features = cursor.number(MOST_FEATURES as u32 + 1)?;
+    let corners = cursor.number(MOST_POINTS as u32 + 1)?;
     let most = most_rows(version);
     let edges = cursor.number(most + 1)?;
     let marks = cursor.number(most + 1)?;

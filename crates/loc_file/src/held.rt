@@ -1,6 +1,7 @@
 // An index file that was read, and the reader.
 
-ghost use Rattle.std.specs.Prelude.{◌≡◌, ◌≤◌, ◌<◌, ◌^◌, IsTrue, length, map, IfOk, IfErr};
+ghost use Rattle.std.specs.Prelude.{◌≡◌, ◌≤◌, ◌<◌, IsTrue, length, map, IfOk, IfErr};
+ghost use Rattle.loc_spec_text.specs.Limits.{most_index};
 ghost use Rattle.loc_spec_index.specs.Content.{table_in, cover_numbers, root_of};
 ghost use Rattle.loc_spec_index.specs.IndexFile.{IsFileOf, bytes_of, is_version};
 ghost use Rattle.loc_spec_index.specs.Nodes.{row_of};
@@ -108,7 +109,7 @@ fn hold(alloc: Global, parts: Parts) -> Result<Held, AllocError>
 /// Reads the bytes of an index file. What is held is the one content whose bytes they are; bytes that are a file of neither version are
 /// refused by their first fault. Memory is taken only for what the bytes were seen to hold.
 pub fn read_index(alloc: Global, bytes: &[u8]) -> Result<Held, IndexFault>
-    requires { length bytes.now ≤ 2 ^ 31 }
+    requires { length bytes.now ≤ most_index }
     ensures ok { IfOk result (λ held. IsFileOf held.version held.content bytes.now) }
     ensures err { IfErr result (IsRefused bytes.now) }
 {

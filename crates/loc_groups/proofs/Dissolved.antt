@@ -10,10 +10,9 @@ use Rattle.loc_spec_text.specs.Bytes.{Text}
 use Rattle.loc_spec_text.specs.Points.{ended}
 use Rattle.loc_rings.specs.Values.{Feature}
 use Rattle.loc_csvform.specs.Layer.{LayerRead, layer_of}
-use Rattle.loc_cover.specs.Legends.{most_members}
+use Rattle.loc_spec_text.specs.Limits.{most_members, most_pieces, most_text}
 use Rattle.loc_edges.specs.Conflicts.{has_conflict}
 use Rattle.loc_edges.specs.Layers.{layer_rings}
-use Rattle.loc_node.specs.Pieces.{most_pieces}
 use Rattle.loc_course.specs.Moments.{Moment}
 use Rattle.loc_course.specs.Outcomes.{outcome}
 use Rattle.loc_course.specs.Sentences.{EndsSo, Sentences}
@@ -21,7 +20,7 @@ use Rattle.loc_course.proofs.Streamed.{long_or_short}
 use Rattle.loc_maps.specs.Conflicts.{Accepts, names_conflict}
 use Rattle.loc_maps.specs.LineTexts.{covers_text, layer_fault_text, pieces_text}
 use Rattle.loc_maps.specs.Located.{edges_of, table_in}
-use Rattle.loc_maps.specs.MapCourses.{LayerFile, limit}
+use Rattle.loc_maps.specs.MapCourses.{LayerFile}
 use Rattle.loc_maps.specs.Maps.{HasFewPieces}
 use Rattle.loc_query.specs.Headline.{IsAccepted}
 use Rattle.loc_told.proofs.Ends.{done_by, grown, not_done, refused_by, refused_so}
@@ -36,17 +35,17 @@ module _ (told : Text → Told) (file : LayerFile) (layer : Text) (is : told fil
   abbrev WasAccepted : Type 0
   WasAccepted = (features : List Feature) × IsAccepted file layer features
 
-  by_covers : (features : List Feature) → length layer ≤ limit → layer_of file.form file.scale layer ≡ Ok features → HasFewPieces features → Accepts features → WasAccepted
+  by_covers : (features : List Feature) → length layer ≤ most_text → layer_of file.form file.scale layer ≡ Ok features → HasFewPieces features → Accepts features → WasAccepted
   by_covers features few reads cut apart = elim (cases_lt most_members (cover_sum (table_in features))) [
     | inl many ↦ absurd (not_done _ _ before new (rows.covers told file layer is features few reads cut apart many) ends)
     | inr less ↦ (features, record { within = few; reads = reads; few_pieces = cut; apart = apart; few_covers = less })
   ]
 
-  by_conflict : (features : List Feature) → length layer ≤ limit → layer_of file.form file.scale layer ≡ Ok features → HasFewPieces features → (b : Bool) → has_conflict (edges_of features) ≡ b → WasAccepted
+  by_conflict : (features : List Feature) → length layer ≤ most_text → layer_of file.form file.scale layer ≡ Ok features → HasFewPieces features → (b : Bool) → has_conflict (edges_of features) ≡ b → WasAccepted
   by_conflict features few reads cut true has = absurd (not_done _ _ before new (rows.conflict told file layer is features few reads cut has) ends)
   by_conflict features few reads cut false has = by_covers features few reads cut (subst (λ (b : Bool). IsTrue (not b)) (sym has) refl)
 
-  by_read : length layer ≤ limit → (r : LayerRead) → layer_of file.form file.scale layer ≡ r → WasAccepted
+  by_read : length layer ≤ most_text → (r : LayerRead) → layer_of file.form file.scale layer ≡ r → WasAccepted
   by_read few (Err fault) reads = absurd (not_done _ _ before new (rows.layer_line told file layer is fault few reads) ends)
   by_read few (Ok features) reads = elim (cases_lt most_pieces (piece_count (layer_rings features))) [
     | inl many ↦ absurd (not_done _ _ before new (rows.pieces told file layer is features few reads many) ends)
@@ -54,7 +53,7 @@ module _ (told : Text → Told) (file : LayerFile) (layer : Text) (is : told fil
   ]
 
   accepted : WasAccepted
-  accepted = elim (long_or_short limit layer) [
+  accepted = elim (long_or_short most_text layer) [
     | inl long ↦ absurd (not_done _ _ before new (rows.layer_long told file layer is long.0) ends)
     | inr short ↦ by_read short.0 (layer_of file.form file.scale layer) refl
   ]

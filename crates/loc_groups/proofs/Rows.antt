@@ -10,17 +10,16 @@ use Rattle.loc_spec_text.specs.Points.{ended}
 use Rattle.loc_rings.specs.Values.{Feature}
 use Rattle.loc_csvform.specs.Layer.{LayerRead, layer_of}
 use Rattle.loc_csvform.specs.declared.faults.LayerFault.{LayerFault}
-use Rattle.loc_cover.specs.Legends.{most_members}
+use Rattle.loc_spec_text.specs.Limits.{most_members, most_pieces, most_text}
 use Rattle.loc_edges.specs.Conflicts.{has_conflict}
 use Rattle.loc_edges.specs.Layers.{layer_rings}
-use Rattle.loc_node.specs.Pieces.{most_pieces}
 use Rattle.loc_course.specs.Courses.{Course, Source, refuses, writes}
 use Rattle.loc_course.specs.Outcomes.{Outcome, exactly, outcome, output, refusal}
 use Rattle.loc_course.specs.Stops.{source}
 use Rattle.loc_maps.specs.Conflicts.{Accepts, names_conflict}
 use Rattle.loc_maps.specs.LineTexts.{covers_text, layer_fault_text, pieces_text}
 use Rattle.loc_maps.specs.Located.{edges_of, table_in}
-use Rattle.loc_maps.specs.MapCourses.{LayerFile, accepted_course, covers_course, layer_in, limit}
+use Rattle.loc_maps.specs.MapCourses.{LayerFile, accepted_course, covers_course, layer_in}
 use Rattle.loc_maps.specs.Maps.{HasFewPieces, has_many_covers, has_many_pieces}
 use Rattle.loc_maps.proofs.Judged.{on_apart, on_few_covers, on_few_pieces}
 use Rattle.loc_query.specs.Headline.{IsAccepted}
@@ -39,18 +38,18 @@ module _ (told : Text → Told) (file : LayerFile) (layer : Text) (is : told fil
   behind r = outcome told (layer_in file.form r next)
 
   abbrev of_layer : Source
-  of_layer = source file.name limit (ended (codes "layer: too long"))
+  of_layer = source file.name most_text (ended (codes "layer: too long"))
 
-  pub layer_long : limit < length layer → outcome told (dissolve_course file) ≡ refusal (exactly (ended (codes "layer: too long")))
+  pub layer_long : most_text < length layer → outcome told (dissolve_course file) ≡ refusal (exactly (ended (codes "layer: too long")))
   layer_long more = long of_layer (λ text. behind (layer_of file.form file.scale text)) (told file.name) layer is more
 
-  read : length layer ≤ limit → (r : LayerRead) → layer_of file.form file.scale layer ≡ r → outcome told (dissolve_course file) ≡ behind r
+  read : length layer ≤ most_text → (r : LayerRead) → layer_of file.form file.scale layer ≡ r → outcome told (dissolve_course file) ≡ behind r
   read few r reads = short of_layer (λ text. behind (layer_of file.form file.scale text)) (told file.name) layer is few ∙ ap behind reads
 
-  pub layer_line : (fault : LayerFault) → length layer ≤ limit → layer_of file.form file.scale layer ≡ Err fault → outcome told (dissolve_course file) ≡ refusal (exactly (ended (layer_fault_text file.form fault)))
+  pub layer_line : (fault : LayerFault) → length layer ≤ most_text → layer_of file.form file.scale layer ≡ Err fault → outcome told (dissolve_course file) ≡ refusal (exactly (ended (layer_fault_text file.form fault)))
   layer_line fault few reads = read few (Err fault) reads
 
-  module _ (features : List Feature) (few : length layer ≤ limit) (reads : layer_of file.form file.scale layer ≡ Ok features) where
+  module _ (features : List Feature) (few : length layer ≤ most_text) (reads : layer_of file.form file.scale layer ≡ Ok features) where
     pub pieces : most_pieces < piece_count (layer_rings features) → outcome told (dissolve_course file) ≡ refusal (exactly (ended pieces_text))
     pieces many = read few (Ok features) reads
         ∙ ap (outcome told) (cond-true (has_many_pieces features) (refuses (exactly (ended pieces_text))) (next features) ((Decides-ltb most_pieces (piece_count (layer_rings features))).1 many))

@@ -14,10 +14,9 @@ use Rattle.loc_rings.specs.Layers.{IsLayer}
 use Rattle.loc_rings.specs.Values.{Feature}
 use Rattle.loc_csvform.specs.Layer.{layer_of}
 use Rattle.loc_csvform.specs.declared.faults.LayerFault.{LayerFault}
-use Rattle.loc_cover.specs.Legends.{most_members}
+use Rattle.loc_spec_text.specs.Limits.{most_members, most_pieces, most_text}
 use Rattle.loc_edges.specs.Conflicts.{has_conflict}
 use Rattle.loc_edges.specs.Layers.{layer_rings}
-use Rattle.loc_node.specs.Pieces.{most_pieces}
 use Rattle.loc_dissolve.specs.Dissolving.{CoversAsMembers, HasKeptOnce}
 use Rattle.loc_dissolve.specs.Grouping.{ids_of}
 use Rattle.loc_laws_regroup.specs.Laws.{feature_of, groups_of}
@@ -26,7 +25,7 @@ use Rattle.loc_course.specs.Sentences.{Steady}
 use Rattle.loc_maps.specs.Conflicts.{Accepts, names_conflict}
 use Rattle.loc_maps.specs.LineTexts.{covers_text, layer_fault_text, pieces_text}
 use Rattle.loc_maps.specs.Located.{edges_of, table_in}
-use Rattle.loc_maps.specs.MapCourses.{LayerFile, limit}
+use Rattle.loc_maps.specs.MapCourses.{LayerFile}
 use Rattle.loc_maps.specs.Maps.{HasFewPieces}
 use Rattle.loc_query.specs.Headline.{IsAccepted}
 use Rattle.loc_told.specs.Answers.{IsDone, IsRefused, OrMemory}
@@ -51,20 +50,20 @@ pub record Dissolves (file : LayerFile) (old new : Moment) (n n' : Stream) (stat
   -- The groups are those of the features that the layer's text reads as, and their text reads back.
   pub groups : (layer : Text) (features : List Feature) → IsAccepted file layer features → AreDissolved file.scale features
   -- Else, unless a read failed, the status is 1, nothing is on out, and the line on notes is that of the cause: the layer is too long,
-  pub layer_long : (layer : Text) → old.shelf.told file.name ≡ holds layer → limit < length layer → Steady old.shelf.read_faults new.shelf.read_faults
+  pub layer_long : (layer : Text) → old.shelf.told file.name ≡ holds layer → most_text < length layer → Steady old.shelf.read_faults new.shelf.read_faults
       → OrMemory old new status (IsRefused old new n n' status (ended (codes "layer: too long")))
   -- or is at fault,
-  pub layer_fault : (layer : Text) (fault : LayerFault) → old.shelf.told file.name ≡ holds layer → length layer ≤ limit → layer_of file.form file.scale layer ≡ Err fault → Steady old.shelf.read_faults new.shelf.read_faults
+  pub layer_fault : (layer : Text) (fault : LayerFault) → old.shelf.told file.name ≡ holds layer → length layer ≤ most_text → layer_of file.form file.scale layer ≡ Err fault → Steady old.shelf.read_faults new.shelf.read_faults
       → OrMemory old new status (IsRefused old new n n' status (ended (layer_fault_text file.form fault)))
   -- or its segments have too many pieces together,
-  pub pieces : (layer : Text) (features : List Feature) → old.shelf.told file.name ≡ holds layer → length layer ≤ limit → layer_of file.form file.scale layer ≡ Ok features
+  pub pieces : (layer : Text) (features : List Feature) → old.shelf.told file.name ≡ holds layer → length layer ≤ most_text → layer_of file.form file.scale layer ≡ Ok features
       → most_pieces < piece_count (layer_rings features) → Steady old.shelf.read_faults new.shelf.read_faults
       → OrMemory old new status (IsRefused old new n n' status (ended pieces_text))
   -- or two of its edges conflict, and the line names two that do,
-  pub conflict : (layer : Text) (features : List Feature) → old.shelf.told file.name ≡ holds layer → length layer ≤ limit → layer_of file.form file.scale layer ≡ Ok features
+  pub conflict : (layer : Text) (features : List Feature) → old.shelf.told file.name ≡ holds layer → length layer ≤ most_text → layer_of file.form file.scale layer ≡ Ok features
       → HasFewPieces features → IsTrue (has_conflict (edges_of features)) → Steady old.shelf.read_faults new.shelf.read_faults
       → OrMemory old new status ((line : Text) × IsTrue (names_conflict file.scale (edges_of features) line) × IsRefused old new n n' status line)
   -- or its distinct cover lists have too many members together.
-  pub covers : (layer : Text) (features : List Feature) → old.shelf.told file.name ≡ holds layer → length layer ≤ limit → layer_of file.form file.scale layer ≡ Ok features
+  pub covers : (layer : Text) (features : List Feature) → old.shelf.told file.name ≡ holds layer → length layer ≤ most_text → layer_of file.form file.scale layer ≡ Ok features
       → HasFewPieces features → Accepts features → most_members < cover_sum (table_in features) → Steady old.shelf.read_faults new.shelf.read_faults
       → OrMemory old new status (IsRefused old new n n' status (ended covers_text))

@@ -14,12 +14,12 @@ ghost use Rattle.loc_maps.specs.MapCourses.{accepted_course, layer_file, pieces_
 ghost use Rattle.loc_spec_groups.specs.GroupTexts.{dissolved_text};
 ghost use Rattle.loc_groups.specs.GroupCourses.{dissolve_course};
 
-use loc_course::{Scale, Stop};
+use loc_course::Stop;
 use loc_dissolve::{Dissolved, write_dissolved};
 use loc_io::{Shelf, Sink};
 use loc_maps::{Plane, judge_layer, read_layer_file};
 use loc_rings::Layer;
-use loc_spec_text::Form;
+use loc_spec_text::{Form, Scale};
 use loc_treeidx::TreeIndex;
 use std::alloc::Global;
 

@@ -23,7 +23,8 @@ use Rattle.loc_course.proofs.Told.{ends_so, it_exactly}
 use Rattle.loc_maps.specs.Conflicts.{Accepts, names_conflict}
 use Rattle.loc_maps.specs.LineTexts.{layer_fault_text, covers_text, pieces_text}
 use Rattle.loc_maps.specs.Located.{edges_of, table_in}
-use Rattle.loc_maps.specs.MapCourses.{LayerFile, accepted_course, covers_course, layer_in, limit}
+use Rattle.loc_maps.specs.MapCourses.{LayerFile, accepted_course, covers_course, layer_in}
+use Rattle.loc_spec_text.specs.Limits.{most_members, most_text}
 use Rattle.loc_maps.specs.Maps.{HasFewPieces, has_many_covers, has_many_pieces}
 use Rattle.loc_maps.proofs.Judged.{on_apart, on_few_covers, on_few_pieces}
 use Rattle.loc_query.specs.Headline.{IsAccepted}
@@ -31,27 +32,26 @@ use Rattle.loc_indexed.specs.Asks.{OrMemory}
 use Rattle.loc_indexed.specs.Building.{build_course, is_index_text}
 use Rattle.loc_indexed.specs.Builds.{Builds, Built, IsBuiltOf}
 use Rattle.loc_indexed.proofs.MadeCourses.{AcceptedSo, came, makes_one, out_kept}
-use Rattle.loc_cover.specs.Legends.{most_members}
 
 module _ (told : Text → Told) (f : LayerFile) (index text : Text) (is : told f.name ≡ holds text) where
   abbrev next : List Feature → Course
   next layer = makes index (is_index_text f.scale layer)
 
   abbrev of_layer : Source
-  of_layer = source f.name limit (ended (codes "layer: too long"))
+  of_layer = source f.name most_text (ended (codes "layer: too long"))
 
   abbrev by_layer : Text → Outcome
   by_layer t = outcome told (layer_in f.form (layer_of f.form f.scale t) (λ layer. accepted_course f.scale layer (next layer)))
 
-  layer_long : limit < length text → outcome told (build_course f index) ≡ refusal (exactly (ended (codes "layer: too long")))
-  layer_long more = ap (by_text of_layer by_layer) is ∙ cond-true (nat_lt limit (length text)) (refusal (exactly of_layer.too_long)) (by_layer text) ((Decides-ltb limit (length text)).1 more)
+  layer_long : most_text < length text → outcome told (build_course f index) ≡ refusal (exactly (ended (codes "layer: too long")))
+  layer_long more = ap (by_text of_layer by_layer) is ∙ cond-true (nat_lt most_text (length text)) (refusal (exactly of_layer.too_long)) (by_layer text) ((Decides-ltb most_text (length text)).1 more)
 
-  layer_read : length text ≤ limit → (r : LayerRead) → layer_of f.form f.scale text ≡ r → outcome told (build_course f index) ≡ outcome told (layer_in f.form r (λ layer. accepted_course f.scale layer (next layer)))
+  layer_read : length text ≤ most_text → (r : LayerRead) → layer_of f.form f.scale text ≡ r → outcome told (build_course f index) ≡ outcome told (layer_in f.form r (λ layer. accepted_course f.scale layer (next layer)))
   layer_read few r reads = ap (by_text of_layer by_layer) is
-      ∙ (cond-false (nat_lt limit (length text)) (refusal (exactly of_layer.too_long)) (by_layer text) (le-ltb limit (length text) few)
+      ∙ (cond-false (nat_lt most_text (length text)) (refusal (exactly of_layer.too_long)) (by_layer text) (le-ltb most_text (length text) few)
       ∙ ap (λ (q : LayerRead). outcome told (layer_in f.form q (λ layer. accepted_course f.scale layer (next layer)))) reads)
 
-  module _ (layer : List Feature) (few : length text ≤ limit) (reads : layer_of f.form f.scale text ≡ Ok layer) where
+  module _ (layer : List Feature) (few : length text ≤ most_text) (reads : layer_of f.form f.scale text ≡ Ok layer) where
     pieces : has_many_pieces layer ≡ true → outcome told (build_course f index) ≡ refusal (exactly (ended pieces_text))
     pieces many = layer_read few (Ok layer) reads ∙ ap (outcome told) (cond-true (has_many_pieces layer) (refuses (exactly (ended pieces_text))) (accepted_course f.scale layer (next layer)) many)
 

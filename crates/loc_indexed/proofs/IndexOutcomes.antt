@@ -17,24 +17,25 @@ use Rattle.loc_course.specs.Outcomes.{Outcome, by_text, exactly, outcome, output
 use Rattle.loc_course.specs.Sentences.{EndsSo, IsDoing, NoneFailed, OutSo, Sentences, Steady, Wrote}
 use Rattle.loc_course.specs.Stops.{source}
 use Rattle.loc_course.proofs.Told.{it_exactly}
-use Rattle.loc_indexed.specs.IndexedCourses.{index_course, index_in, index_limit}
+use Rattle.loc_indexed.specs.IndexedCourses.{index_course, index_in}
+use Rattle.loc_spec_text.specs.Limits.{most_index}
 use Rattle.loc_indexed.specs.Asks.{IsDone, OrMemory}
 
 module _ (told : Text → Told) (index bytes : Text) (is : told index ≡ holds bytes) (next : Content → Course) where
   abbrev of_index : Source
-  of_index = source index index_limit (ended (codes "index: too long"))
+  of_index = source index most_index (ended (codes "index: too long"))
 
   abbrev by_bytes : Text → Outcome
   by_bytes text = outcome told (index_in (reading text) next)
 
   -- bytes that are too long are refused
-  pub index_long : index_limit < length bytes → outcome told (index_course index next) ≡ refusal (exactly (ended (codes "index: too long")))
-  index_long more = ap (by_text of_index by_bytes) is ∙ cond-true (nat_lt index_limit (length bytes)) (refusal (exactly of_index.too_long)) (by_bytes bytes) ((Decides-ltb index_limit (length bytes)).1 more)
+  pub index_long : most_index < length bytes → outcome told (index_course index next) ≡ refusal (exactly (ended (codes "index: too long")))
+  index_long more = ap (by_text of_index by_bytes) is ∙ cond-true (nat_lt most_index (length bytes)) (refusal (exactly of_index.too_long)) (by_bytes bytes) ((Decides-ltb most_index (length bytes)).1 more)
 
   -- and others are read
-  pub index_read : length bytes ≤ index_limit → (r : Result Content IndexFault) → reading bytes ≡ r → outcome told (index_course index next) ≡ outcome told (index_in r next)
+  pub index_read : length bytes ≤ most_index → (r : Result Content IndexFault) → reading bytes ≡ r → outcome told (index_course index next) ≡ outcome told (index_in r next)
   index_read few r reads = ap (by_text of_index by_bytes) is
-      ∙ (cond-false (nat_lt index_limit (length bytes)) (refusal (exactly of_index.too_long)) (by_bytes bytes) (le-ltb index_limit (length bytes) few)
+      ∙ (cond-false (nat_lt most_index (length bytes)) (refusal (exactly of_index.too_long)) (by_bytes bytes) (le-ltb most_index (length bytes) few)
       ∙ ap (λ (q : Result Content IndexFault). outcome told (index_in q next)) reads)
 
 module _ (course : Course) (old new : Moment) (n n' : Stream) (status : ℕ) (s : Sentences course old new n n' status) where

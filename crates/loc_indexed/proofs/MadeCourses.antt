@@ -11,7 +11,7 @@ use Rattle.loc_csvform.specs.Layer.{LayerRead, layer_of}
 use Rattle.loc_spec_plane.specs.Tables.{piece_count}
 use Rattle.loc_edges.specs.Conflicts.{has_conflict}
 use Rattle.loc_edges.specs.Layers.{layer_rings}
-use Rattle.loc_node.specs.Pieces.{most_pieces}
+use Rattle.loc_spec_text.specs.Limits.{most_members, most_pieces, most_text}
 use Rattle.loc_course.specs.Courses.{Source, Course, reads, refuses, makes, Stopped}
 pub use Rattle.loc_course.specs.Endings.{AtEnd, Did, MadeOf}
 use Rattle.loc_course.specs.Following.{Follows, Moment, lacks, refuses_by, reads_not, reads_by, makes_by}
@@ -21,13 +21,12 @@ use Rattle.loc_course.specs.Sentences.{AtOnce, MayMake, SearchesNothing}
 use Rattle.loc_course.proofs.Endings.{at_both, did_at}
 use Rattle.loc_maps.specs.Conflicts.{names_conflict}
 use Rattle.loc_maps.specs.Located.{edges_of, table_in}
-use Rattle.loc_maps.specs.MapCourses.{LayerFile, accepted_course, covers_course, layer_in, limit}
+use Rattle.loc_maps.specs.MapCourses.{LayerFile, accepted_course, covers_course, layer_in}
 use Rattle.loc_maps.specs.Maps.{has_many_covers, has_many_pieces}
 use Rattle.loc_maps.proofs.Judged.{accepted_all, layer_all}
 use Rattle.loc_query.specs.Headline.{IsAccepted}
 use Rattle.loc_indexed.specs.Building.{made_course}
 use Rattle.loc_maps.specs.LineTexts.{covers_text, pieces_text}
-use Rattle.loc_cover.specs.Legends.{most_members}
 
 -- ---- a wider test
 
@@ -76,7 +75,7 @@ module _ (passes : List Feature → Text → Bool) (file : LayerFile) (index : T
   behind_layer layer = accepted_course file.scale layer (makes index (passes layer))
 
   -- a text that was read, and what the course behind it did
-  by_layer : (text : Text) (m n : Moment) (end : Option Stopped) → length text ≤ limit → IsToldText (m.shelf.told file.name) text
+  by_layer : (text : Text) (m n : Moment) (end : Option Stopped) → length text ≤ most_text → IsToldText (m.shelf.told file.name) text
       → (r : LayerRead) → layer_of file.form file.scale text ≡ r → Did (layer_in file.form r behind_layer) m n end → AcceptedSo passes file index m.shelf n.shelf end
   by_layer text m n end few told (Err fault) is did = absurd did
   by_layer text m n end few told (Ok layer) is did =

@@ -49,7 +49,7 @@ use Rattle.loc_answering.specs.ByLine.{as_bytes}
 use Rattle.loc_course.specs.Courses.{answers}
 use Rattle.loc_course.specs.Stops.{source}
 use Rattle.loc_maps.specs.Located as maps
-use Rattle.loc_maps.specs.MapCourses.{limit}
+use Rattle.loc_spec_text.specs.Limits.{most_text}
 use Rattle.loc_maps.proofs.TableLaws.{covers_is, touches_is}
 use Rattle.loc_query.specs.Answered.{answer_at, answer_line, ids_where, located}
 use Rattle.loc_query.specs.QueryCourses.{points_course}
@@ -196,7 +196,7 @@ module _ (c : Content) (bytes : Text) (file : IsIndexFile c bytes) (is_true : Is
 
   -- so the course is that by the marks
   pub true_course : (points : Text) → asked_course points c ≡ marked_course points c
-  true_course points = ap₂ (answers (source points limit (ended (codes "points: too long")))) true_bound true_answers
+  true_course points = ap₂ (answers (source points most_text (ended (codes "points: too long")))) true_bound true_answers
 
 -- ---- the index of a layer
 
@@ -235,4 +235,4 @@ module _ (v scale : ℕ) (layer : List Feature) (c : Content) (of : IsIndexOf v 
 
   -- is asked as the layer is queried with the tree
   pub layer_course : (points : Text) → marked_course points c ≡ points_course Tree false scale points layer
-  layer_course points = ap₂ (answers (source points limit (ended (codes "points: too long")))) (said_of_table most_steps refl) (fun_ext (λ line. ap Ok (line_same line)))
+  layer_course points = ap₂ (answers (source points most_text (ended (codes "points: too long")))) (said_of_table most_steps refl) (fun_ext (λ line. ap Ok (line_same line)))

@@ -23,9 +23,9 @@ use Rattle.loc_course.specs.Sentences.{NoneFailed, Sentences, Steady, WithinStep
 use Rattle.loc_course.specs.Stops.{source}
 use Rattle.loc_course.specs.Streams.{Answering, IsToldFront, out_of}
 use Rattle.loc_course.proofs.Streamed.{of_whole}
-use Rattle.loc_maps.specs.MapCourses.{limit}
+use Rattle.loc_spec_text.specs.Limits.{most_index, most_text}
 use Rattle.loc_query.specs.Answered.{output_of}
-use Rattle.loc_indexed.specs.IndexedCourses.{answer_in, ask_course, asked_course, index_in, index_limit}
+use Rattle.loc_indexed.specs.IndexedCourses.{answer_in, ask_course, asked_course, index_in}
 use Rattle.loc_indexed.specs.IndexTexts.{index_fault_text}
 use Rattle.loc_indexed.specs.Marked.{marked_line}
 use Rattle.loc_indexed.specs.Asks.{AreAsked, Asks, IsDone, OrMemory}
@@ -35,9 +35,9 @@ use Rattle.loc_indexed.proofs.MarkedAnswers.{layer_lines, true_answers, true_bou
 use Rattle.loc_indexed.proofs.ReadBack.{file_reads}
 
 module _ (told : Text → Told) (index points bytes : Text) (is : told index ≡ holds bytes) where
-  module _ (text : Text) (c : Content) (few : length bytes ≤ index_limit) (reads : reading bytes ≡ Ok c) (also : told points ≡ holds text) (short : length text ≤ limit) where
+  module _ (text : Text) (c : Content) (few : length bytes ≤ most_index) (reads : reading bytes ≡ Ok c) (also : told points ≡ holds text) (short : length text ≤ most_text) where
     abbrev of_points : Source
-    of_points = source points limit (ended (codes "points: too long"))
+    of_points = source points most_text (ended (codes "points: too long"))
 
     comes_to : (r : Option Text) → (answered (answer_in c) (lines text)).refusal ≡ r → outcome told (ask_course index points) ≡ by_refusal (out_of (answered (answer_in c) (lines text))) r
     comes_to r refused = index_read told index bytes is (asked_course points) few (Ok c) reads

@@ -24,7 +24,7 @@ use Rattle.loc_course.specs.Sentences.{EndsSo, IsPlain, NoneFailed, SearchesNoth
 use Rattle.loc_course.proofs.Plain.{plain_reads, plain_refuses, plain_writes}
 use Rattle.loc_indexed.specs.Asks.{IsDone, OrMemory}
 use Rattle.loc_indexed.specs.FlawTexts.{flaw_text, index_text, is_clash, names_clash, says}
-use Rattle.loc_indexed.specs.IndexedCourses.{index_limit}
+use Rattle.loc_spec_text.specs.Limits.{most_index}
 use Rattle.loc_indexed.specs.IndexTexts.{index_fault_text}
 use Rattle.loc_indexed.specs.Verifies.{AreHeld, IsRefused, Judged, Verifies}
 use Rattle.loc_indexed.specs.Verifying.{judged_course, verify_course}
@@ -58,16 +58,16 @@ module _ (index : Text) (old new : Moment) (n n' : Stream) (status : ℕ) (s : S
 
   module _ (bytes : Text) (told : old.shelf.told index ≡ holds bytes) where
     -- what is told comes to the judgement of what the bytes read as
-    comes_to : length bytes ≤ index_limit → (c : Content) → reading bytes ≡ Ok c → (o : Option Flaw) → first_flaw c ≡ o → outcome old.shelf.told (verify_course index) ≡ outcome old.shelf.told (judged_course c o)
+    comes_to : length bytes ≤ most_index → (c : Content) → reading bytes ≡ Ok c → (o : Option Flaw) → first_flaw c ≡ o → outcome old.shelf.told (verify_course index) ≡ outcome old.shelf.told (judged_course c o)
     comes_to few c reads o is = index_read old.shelf.told index bytes told judging few (Ok c) reads ∙ ap (λ (f : Option Flaw). outcome old.shelf.told (judged_course c f)) is
 
-    long : index_limit < length bytes → Steady old.shelf.read_faults new.shelf.read_faults → OrMemory old new status (IsRefused old new status × Wrote n n' (ended (codes "index: too long")))
+    long : most_index < length bytes → Steady old.shelf.read_faults new.shelf.read_faults → OrMemory old new status (IsRefused old new status × Wrote n n' (ended (codes "index: too long")))
     long more steady = elim (refused_by (verify_course index) old new n n' status s (ended (codes "index: too long")) (index_long old.shelf.told index bytes told judging more) steady) [
       | inl one ↦ inl ((one.0, one.1), one.2)
       | inr five ↦ inr five
     ]
 
-    fault_line : (fault : IndexFault) → length bytes ≤ index_limit → reading bytes ≡ Err fault → Steady old.shelf.read_faults new.shelf.read_faults
+    fault_line : (fault : IndexFault) → length bytes ≤ most_index → reading bytes ≡ Err fault → Steady old.shelf.read_faults new.shelf.read_faults
         → OrMemory old new status (IsRefused old new status × Wrote n n' (ended (index_fault_text fault)))
     fault_line fault few reads steady =
         elim (refused_by (verify_course index) old new n n' status s (ended (index_fault_text fault)) (index_read old.shelf.told index bytes told judging few (Err fault) reads) steady) [
@@ -76,14 +76,14 @@ module _ (index : Text) (old new : Moment) (n n' : Stream) (status : ℕ) (s : S
         ]
 
     -- with status 0 the bytes are within the limit
-    within : status ≡ 0 → length bytes ≤ index_limit
-    within zero = elim (cases_lt index_limit (length bytes)) [
+    within : status ≡ 0 → length bytes ≤ most_index
+    within zero = elim (cases_lt most_index (length bytes)) [
       | inl more ↦ absurd (subst (λ (o : Outcome). EndsSo o old.out.written new None) (index_long old.shelf.told index bytes told judging more) (s.done zero))
       | inr few ↦ few
     ]
 
     -- what the bytes read as is no true index
-    module _ (few : length bytes ≤ index_limit) (not_zero : status ≡ 0 → ⊥) (reads : Steady old.shelf.read_faults new.shelf.read_faults) (out : Steady old.out.faults new.out.faults) where
+    module _ (few : length bytes ≤ most_index) (not_zero : status ≡ 0 → ⊥) (reads : Steady old.shelf.read_faults new.shelf.read_faults) (out : Steady old.out.faults new.out.faults) where
       by_flaw : (c : Content) (o : Option Flaw) → reading bytes ≡ Ok c → first_flaw c ≡ o → OrMemory old new status (IsRefused old new status)
       by_flaw c None is none = elim (finished (verify_course index) old new n n' status s (ended (index_text c)) (comes_to few c is None none) (none_failed reads out)) [
         | inl done ↦ absurd (not_zero done.0)
@@ -140,7 +140,7 @@ module _ (index : Text) (old new : Moment) (n n' : Stream) (status : ℕ) (s : S
 
     other : (bytes : Text) → old.shelf.told index ≡ holds bytes → ((c : Content) → IsIndexFile c bytes → IsTrueIndex c → ⊥) → Steady old.shelf.read_faults new.shelf.read_faults → Steady old.out.faults new.out.faults
         → OrMemory old new status (IsRefused old new status)
-    other bytes told no_true reads out = elim (cases_lt index_limit (length bytes)) [
+    other bytes told no_true reads out = elim (cases_lt most_index (length bytes)) [
       | inl more ↦ (elim (long bytes told more reads) [ inl one ↦ inl one.0 | inr five ↦ inr five ])
       | inr few ↦ by_reading bytes told few (λ zero. (let t = only_true bytes told zero in no_true t.0 t.1 t.2)) reads out (reading bytes) refl
     ]

@@ -11,7 +11,8 @@ use Rattle.loc_spec_index.specs.Content.{Content}
 use Rattle.loc_spec_index.specs.IndexFile.{IsFileOf, bytes_of}
 use Rattle.loc_spec_index.specs.TrueIndex.{IsIndexOf}
 use Rattle.loc_laws_index.specs.IndexReading.{AreBytes}
-use Rattle.loc_rings.specs.Values.{Feature, most_id_bytes}
+use Rattle.loc_rings.specs.Values.{Feature}
+use Rattle.loc_spec_text.specs.Limits.{most_id_bytes}
 use Rattle.loc_edges.specs.Layers.{layer_rings}
 use Rattle.loc_status.specs.Versions.{AreVersions}
 use Rattle.loc_persist.specs.Meaning.{VersionsMeaning, IsMeaning}

@@ -18,9 +18,9 @@ use Rattle.loc_rings.specs.Values.{Feature, rings_of}
 use Rattle.loc_course.specs.Moments.{Moment}
 use Rattle.loc_course.specs.Sentences.{Steady, Wrote}
 use Rattle.loc_course.specs.Streams.{out_of}
-use Rattle.loc_maps.specs.MapCourses.{limit}
+use Rattle.loc_spec_text.specs.Limits.{most_index, most_text}
 use Rattle.loc_query.specs.Answered.{output_of}
-use Rattle.loc_indexed.specs.IndexedCourses.{answer_in, index_limit}
+use Rattle.loc_indexed.specs.IndexedCourses.{answer_in}
 use Rattle.loc_indexed.specs.IndexTexts.{index_fault_text}
 use Rattle.loc_indexed.specs.Marked.{marked_line}
 
@@ -28,8 +28,8 @@ use Rattle.loc_indexed.specs.Marked.{marked_line}
 pub record AreAsked (index points : Text) (old new : Moment) (bytes text : Text) : Type 0 where
   pub index_told : old.shelf.told index ≡ holds bytes
   pub points_told : old.shelf.told points ≡ holds text
-  pub index_short : length bytes ≤ index_limit
-  pub points_short : length text ≤ limit
+  pub index_short : length bytes ≤ most_index
+  pub points_short : length text ≤ most_text
   pub reads : Steady old.shelf.read_faults new.shelf.read_faults
   pub out : Steady old.out.faults new.out.faults
 
@@ -61,7 +61,7 @@ pub record Asks (index points : Text) (old new : Moment) (n n' : Stream) (status
   pub steps_of_true : (bytes text : Text) (c : Content) → old.shelf.told index ≡ holds bytes → old.shelf.told points ≡ holds text → AreBytes bytes → IsIndexFile c bytes → IsTrueIndex c
       → new.steps ≤ old.steps + length (lines text) * most_steps (table_in c)
   -- Bytes that are too long or at fault are refused, and nothing is on out.
-  pub too_long : (bytes : Text) → old.shelf.told index ≡ holds bytes → index_limit < length bytes → Steady old.shelf.read_faults new.shelf.read_faults
+  pub too_long : (bytes : Text) → old.shelf.told index ≡ holds bytes → most_index < length bytes → Steady old.shelf.read_faults new.shelf.read_faults
       → OrMemory old new status ((status ≡ 1) × (new.out.written ≡ old.out.written) × Wrote n n' (ended (codes "index: too long")))
-  pub at_fault : (bytes : Text) (fault : IndexFault) → old.shelf.told index ≡ holds bytes → length bytes ≤ index_limit → reading bytes ≡ Err fault → Steady old.shelf.read_faults new.shelf.read_faults
+  pub at_fault : (bytes : Text) (fault : IndexFault) → old.shelf.told index ≡ holds bytes → length bytes ≤ most_index → reading bytes ≡ Err fault → Steady old.shelf.read_faults new.shelf.read_faults
       → OrMemory old new status ((status ≡ 1) × (new.out.written ≡ old.out.written) × Wrote n n' (ended (index_fault_text fault)))

@@ -23,11 +23,11 @@ use Rattle.loc_course.specs.Sentences.{Steady, Wrote}
 use Rattle.loc_maps.specs.Conflicts.{Accepts, names_conflict}
 use Rattle.loc_maps.specs.LineTexts.{layer_fault_text, covers_text, pieces_text}
 use Rattle.loc_maps.specs.Located.{edges_of, table_in}
-use Rattle.loc_maps.specs.MapCourses.{LayerFile, limit}
+use Rattle.loc_maps.specs.MapCourses.{LayerFile}
+use Rattle.loc_spec_text.specs.Limits.{most_members, most_text}
 use Rattle.loc_maps.specs.Maps.{HasFewPieces, has_many_pieces}
 use Rattle.loc_query.specs.Headline.{IsAccepted}
 use Rattle.loc_indexed.specs.Asks.{OrMemory}
-use Rattle.loc_cover.specs.Legends.{most_members}
 
 -- the text is the file, of the second version, of a content that is a true index, of this layer at this scale
 pub record IsIndexFileOf (scale : ℕ) (layer : List Feature) (text : Text) : Type 0 where
@@ -59,21 +59,21 @@ pub record Builds (file : LayerFile) (index : Text) (old new : Moment) (n n' : S
   pub builds : (text : Text) (layer : List Feature) → old.shelf.told file.name ≡ holds text → IsAccepted file text layer
       → Steady old.shelf.read_faults new.shelf.read_faults → Steady old.shelf.write_faults new.shelf.write_faults → OrMemory old new status (status ≡ 0)
   -- Else, unless a read failed, it is 1, and the line on notes is that of the cause: the layer is too long,
-  pub layer_long : (text : Text) → old.shelf.told file.name ≡ holds text → limit < length text → Steady old.shelf.read_faults new.shelf.read_faults
+  pub layer_long : (text : Text) → old.shelf.told file.name ≡ holds text → most_text < length text → Steady old.shelf.read_faults new.shelf.read_faults
       → OrMemory old new status ((status ≡ 1) × Wrote n n' (ended (codes "layer: too long")))
   -- or is at fault,
-  pub layer_fault : (text : Text) (fault : LayerFault) → old.shelf.told file.name ≡ holds text → length text ≤ limit → layer_of file.form file.scale text ≡ Err fault
+  pub layer_fault : (text : Text) (fault : LayerFault) → old.shelf.told file.name ≡ holds text → length text ≤ most_text → layer_of file.form file.scale text ≡ Err fault
       → Steady old.shelf.read_faults new.shelf.read_faults → OrMemory old new status ((status ≡ 1) × Wrote n n' (ended (layer_fault_text file.form fault)))
   -- or its segments have too many pieces together,
-  pub pieces : (text : Text) (layer : List Feature) → old.shelf.told file.name ≡ holds text → length text ≤ limit → layer_of file.form file.scale text ≡ Ok layer
+  pub pieces : (text : Text) (layer : List Feature) → old.shelf.told file.name ≡ holds text → length text ≤ most_text → layer_of file.form file.scale text ≡ Ok layer
       → IsTrue (has_many_pieces layer) → Steady old.shelf.read_faults new.shelf.read_faults
       → OrMemory old new status ((status ≡ 1) × Wrote n n' (ended pieces_text))
   -- or two of its edges conflict, and the line names two that do,
-  pub conflict : (text : Text) (layer : List Feature) → old.shelf.told file.name ≡ holds text → length text ≤ limit → layer_of file.form file.scale text ≡ Ok layer → HasFewPieces layer
+  pub conflict : (text : Text) (layer : List Feature) → old.shelf.told file.name ≡ holds text → length text ≤ most_text → layer_of file.form file.scale text ≡ Ok layer → HasFewPieces layer
       → IsTrue (has_conflict (edges_of layer)) → Steady old.shelf.read_faults new.shelf.read_faults
       → OrMemory old new status ((status ≡ 1) × (line : Text) × IsTrue (names_conflict file.scale (edges_of layer) line) × Wrote n n' line)
   -- or its distinct cover lists have too many members together.
-  pub covers : (text : Text) (layer : List Feature) → old.shelf.told file.name ≡ holds text → length text ≤ limit → layer_of file.form file.scale text ≡ Ok layer → HasFewPieces layer
+  pub covers : (text : Text) (layer : List Feature) → old.shelf.told file.name ≡ holds text → length text ≤ most_text → layer_of file.form file.scale text ≡ Ok layer → HasFewPieces layer
       → Accepts layer → most_members < cover_sum (table_in layer) → Steady old.shelf.read_faults new.shelf.read_faults
       → OrMemory old new status ((status ≡ 1) × Wrote n n' (ended covers_text))
   -- Nothing is on out, whatever the status.

@@ -10,7 +10,8 @@ use Rattle.loc_io.specs.Streams.{Stream}
 use Rattle.loc_spec_plane.specs.Tables.{Table}
 use Rattle.loc_laws_index.specs.IndexReading.{AreBytes}
 use Rattle.loc_rings.specs.Layers.{IsLayer}
-use Rattle.loc_rings.specs.Values.{Feature, most_id_bytes}
+use Rattle.loc_rings.specs.Values.{Feature}
+use Rattle.loc_spec_text.specs.Limits.{most_id_bytes}
 use Rattle.loc_cover.specs.Legends.{LegendRows}
 use Rattle.loc_course.specs.Courses.{Stopped}
 use Rattle.loc_course.specs.Following.{Follows, MakesFile, moment}

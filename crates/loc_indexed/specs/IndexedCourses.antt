@@ -1,5 +1,4 @@
 -- The courses of commands on an index file. The words:
---   index_limit     the most bytes of an index file
 --   features_where  the marked features that pass a test
 --   rows_in         what answers are made of, as a content has it
 --   answer_in       what is answered to a line by the search of a content and by its rows
@@ -25,12 +24,8 @@ use Rattle.loc_course.specs.Courses.{Course, answers, reads, refuses}
 use Rattle.loc_course.specs.Outcomes.{exactly}
 use Rattle.loc_course.specs.Stops.{source}
 use Rattle.loc_course.specs.Streams.{Answering}
-use Rattle.loc_maps.specs.MapCourses.{limit}
+use Rattle.loc_spec_text.specs.Limits.{most_index, most_text}
 use Rattle.loc_indexed.specs.IndexTexts.{index_fault_text}
-
--- the most bytes of an index file
-abbrev pub index_limit : ℕ
-index_limit = 2147483648
 
 -- the features that are marked and pass a test, in order
 abbrev pub features_where : Table → (ℕ → Bool) → List ℕ
@@ -58,11 +53,11 @@ index_in (Err fault) next = refuses (exactly (ended (index_fault_text fault)))
 
 -- an index file is read
 abbrev pub index_course : Text → (Content → Course) → Course
-index_course index next = reads (source index index_limit (ended (codes "index: too long"))) (λ bytes. index_in (reading bytes) next)
+index_course index next = reads (source index most_index (ended (codes "index: too long"))) (λ bytes. index_in (reading bytes) next)
 
 -- the points' file is read in pieces, and its lines are answered from an index
 abbrev pub asked_course : Text → Content → Course
-asked_course points c = answers (source points limit (ended (codes "points: too long"))) (most_of c (table_in c)) (answer_in c)
+asked_course points c = answers (source points most_text (ended (codes "points: too long"))) (most_of c (table_in c)) (answer_in c)
 
 -- an index file is asked for the points of another
 abbrev pub ask_course : Text → Text → Course

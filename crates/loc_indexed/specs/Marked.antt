@@ -10,7 +10,7 @@ use Rattle.loc_place.specs.Steps.{most_steps}
 use Rattle.loc_batch.specs.Faces.{unnumbered}
 use Rattle.loc_course.specs.Courses.{Course, answers}
 use Rattle.loc_course.specs.Stops.{source}
-use Rattle.loc_maps.specs.MapCourses.{limit}
+use Rattle.loc_spec_text.specs.Limits.{most_text}
 use Rattle.loc_query.specs.Answered.{answer_at}
 use Rattle.loc_indexed.specs.IndexedCourses.{features_where}
 
@@ -28,4 +28,4 @@ marked_line c line = ended (answer_text (answer_to (point_of c.scale) (marked c)
 
 -- the lines of the points' file are answered by the marks, each by as many steps as in a tree
 abbrev pub marked_course : Text → Content → Course
-marked_course points c = answers (source points limit (ended (codes "points: too long"))) (most_steps (table_in c)) (λ line. Ok (marked_line c line))
+marked_course points c = answers (source points most_text (ended (codes "points: too long"))) (most_steps (table_in c)) (λ line. Ok (marked_line c line))

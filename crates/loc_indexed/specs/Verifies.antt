@@ -20,7 +20,7 @@ use Rattle.loc_course.specs.Moments.{Moment, IsToldText}
 use Rattle.loc_course.specs.Sentences.{Steady, Wrote}
 use Rattle.loc_indexed.specs.Asks.{IsDone, OrMemory}
 use Rattle.loc_indexed.specs.FlawTexts.{flaw_text, index_text, is_clash, names_clash}
-use Rattle.loc_indexed.specs.IndexedCourses.{index_limit}
+use Rattle.loc_spec_text.specs.Limits.{most_index}
 use Rattle.loc_indexed.specs.IndexTexts.{index_fault_text}
 
 -- the text of a file, where it is told, is the index file of the content
@@ -34,7 +34,7 @@ Judged told status = status ≡ 0 → (c : Content) × IsToldFile told c × IsTr
 -- The bytes are told and within the limit, and they are the index file of the content. No read failed.
 pub record AreHeld (index : Text) (old new : Moment) (bytes : Text) (c : Content) : Type 0 where
   pub told : old.shelf.told index ≡ holds bytes
-  pub within : length bytes ≤ index_limit
+  pub within : length bytes ≤ most_index
   pub small : AreBytes bytes
   pub file : IsIndexFile c bytes
   pub reads : Steady old.shelf.read_faults new.shelf.read_faults
@@ -61,9 +61,9 @@ pub record Verifies (index : Text) (old new : Moment) (n n' : Stream) (status : 
   pub clash : (bytes : Text) (c : Content) (a b : ℕ) → AreHeld index old new bytes c → IsFirst c (conflicting a b)
       → OrMemory old new status (IsRefused old new status × (line : Text) × IsTrue (names_clash c line) × Wrote n n' line)
   -- Bytes that are too long or at fault are refused by their line.
-  pub too_long : (bytes : Text) → old.shelf.told index ≡ holds bytes → index_limit < length bytes → Steady old.shelf.read_faults new.shelf.read_faults
+  pub too_long : (bytes : Text) → old.shelf.told index ≡ holds bytes → most_index < length bytes → Steady old.shelf.read_faults new.shelf.read_faults
       → OrMemory old new status (IsRefused old new status × Wrote n n' (ended (codes "index: too long")))
-  pub at_fault : (bytes : Text) (fault : IndexFault) → old.shelf.told index ≡ holds bytes → length bytes ≤ index_limit → reading bytes ≡ Err fault → Steady old.shelf.read_faults new.shelf.read_faults
+  pub at_fault : (bytes : Text) (fault : IndexFault) → old.shelf.told index ≡ holds bytes → length bytes ≤ most_index → reading bytes ≡ Err fault → Steady old.shelf.read_faults new.shelf.read_faults
       → OrMemory old new status (IsRefused old new status × Wrote n n' (ended (index_fault_text fault)))
   -- With another status than 0 and 4 nothing is on out.
   pub out : status ≢ 0 → status ≢ 4 → new.out.written ≡ old.out.written

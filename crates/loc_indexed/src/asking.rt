@@ -11,11 +11,9 @@ use loc_course::Stop;
 use loc_file::Held;
 use loc_geom::Steps;
 use loc_io::{Shelf, Sink};
+use loc_spec_text::MOST_TEXT;
 use std::alloc::Global;
 use std::sync::ledger::Ledger;
-
-// The most bytes of a points text.
-const LIMIT: u64 = 268_435_456;
 
 // The answers to a file of points, by the search and the rows of an index.
 fn answer_points<F: Shelf, O: Sink, L: Ledger>(
@@ -28,7 +26,7 @@ fn answer_points<F: Shelf, O: Sink, L: Ledger>(
 ) -> Result<(), Stop>
     ensures { Follows (asked_course points.now held.now.content) (moment (F.meaning shelf.old) (O.meaning out.old) steps.old) (moment (F.meaning shelf.new) (O.meaning out.new) steps.new) (end_of result) }
 {
-    let mut batch = Batch::make(alloc, held.scale(), LIMIT)?;
+    let mut batch = Batch::make(alloc, held.scale(), MOST_TEXT as u64)?;
     answer_source(
         &mut batch,
         held,

@@ -14,11 +14,11 @@ ghost use Rattle.loc_indexed.specs.Building.{build_course};
 ghost use Rattle.loc_indexed.specs.Builds.{Built};
 ghost use Rattle.loc_indexed.specs.Followed.{AreShort, FollowsTruly, IsLaidOut, MakesIndex};
 
-use loc_course::{Scale, Stop};
+use loc_course::Stop;
 use loc_io::Shelf;
 use loc_maps::{Plane, judge, read_layer_file};
 use loc_rings::Layer;
-use loc_spec_text::Form;
+use loc_spec_text::{Form, Scale};
 use loc_treeidx::TreeIndex;
 use loc_treeidx::laws::swept_stands;
 use loc_write::laws::content_holds_parts;

@@ -9,21 +9,20 @@ ghost use Rattle.loc_laws_index.specs.IndexReading.{AreBytes, reading};
 ghost use Rattle.loc_course.specs.Courses.{Course};
 ghost use Rattle.loc_course.specs.Following.{Moment, moment};
 ghost use Rattle.loc_course.specs.Stops.{GoesOn};
-ghost use Rattle.loc_indexed.specs.IndexedCourses.{index_course, index_in, index_limit};
+ghost use Rattle.loc_indexed.specs.IndexedCourses.{index_course, index_in};
+ghost use Rattle.loc_spec_text.specs.Limits.{most_index};
 ghost use Rattle.loc_indexed.specs.Verifies.{IsToldFile};
 
 use crate::lines::index_stop_of;
 use loc_course::{Stop, read_source};
 use loc_file::{Held, read_index};
 use loc_io::Shelf;
+use loc_spec_text::MOST_INDEX;
 use std::alloc::Global;
-
-// The most bytes of an index file.
-const LIMIT: usize = 2_147_483_648;
 
 // What bytes hold.
 fn read_index_in(alloc: Global, bytes: &[u8]) -> Result<Held, Stop>
-    requires { length bytes.now ≤ index_limit }
+    requires { length bytes.now ≤ most_index }
     ensures goes_on { (next : Content → Course) (m : Moment) → GoesOn (index_in (reading bytes.now) next) m (λ held. next held.content) m result }
     ensures small { AreBytes bytes.now }
     ensures file { IfOk result (λ held. IsIndexFile held.content bytes.now) }
@@ -39,6 +38,6 @@ pub fn read_index_file<F: Shelf>(alloc: Global, shelf: &mut F, name: &str) -> Re
     ensures goes_on { (next : Content → Course) (o : Stream) (k : ℕ) → GoesOn (index_course name.now next) (moment (F.meaning shelf.old) o k) (λ held. next held.content) (moment (F.meaning shelf.new) o k) result }
     ensures told { IfOk result (λ held. IsToldFile ((F.meaning shelf.old).told name.now) held.content) }
 {
-    let bytes = read_source(alloc, shelf, name, LIMIT, b"index: too long")?;
+    let bytes = read_source(alloc, shelf, name, MOST_INDEX, b"index: too long")?;
     read_index_in(alloc, &bytes)
 }

@@ -20,7 +20,8 @@ ghost use Rattle.loc_query.specs.QueryCourses.{points_course};
 ghost use Rattle.loc_maps.specs.MapCourses.{LayerFile};
 ghost use Rattle.loc_indexed.specs.Building.{build_course};
 ghost use Rattle.loc_indexed.specs.Builds.{Builds, Built};
-ghost use Rattle.loc_indexed.specs.IndexedCourses.{ask_course, asked_course, index_limit};
+ghost use Rattle.loc_indexed.specs.IndexedCourses.{ask_course, asked_course};
+ghost use Rattle.loc_spec_text.specs.Limits.{most_index};
 ghost use Rattle.loc_indexed.specs.IndexTexts.{index_fault_text};
 ghost use Rattle.loc_indexed.specs.Marked.{marked_course};
 ghost use Rattle.loc_indexed.specs.Verifies.{Judged, Verifies};
@@ -29,9 +30,9 @@ ghost use Rattle.loc_indexed.specs.Verifying.{verify_course};
 /// An index file that is too long or at fault is refused by its line, and any other is asked: a true one as its marks say, and the index of a
 /// layer as a query of the layer with the tree. No file is made. The call does nothing: its contract is the law.
 pub fn ask_law()
-    ensures too_long { (told : Text → Told) (index points bytes : Text) → told index ≡ holds bytes → index_limit < length bytes → outcome told (ask_course index points) ≡ refusal (exactly (ended (codes "index: too long"))) }
-    ensures at_fault { (told : Text → Told) (index points bytes : Text) (fault : Fault) → told index ≡ holds bytes → length bytes ≤ index_limit → reading bytes ≡ Err fault → outcome told (ask_course index points) ≡ refusal (exactly (ended (index_fault_text fault))) }
-    ensures asked { (told : Text → Told) (index points bytes : Text) (c : Content) → told index ≡ holds bytes → length bytes ≤ index_limit → reading bytes ≡ Ok c → outcome told (ask_course index points) ≡ outcome told (asked_course points c) }
+    ensures too_long { (told : Text → Told) (index points bytes : Text) → told index ≡ holds bytes → most_index < length bytes → outcome told (ask_course index points) ≡ refusal (exactly (ended (codes "index: too long"))) }
+    ensures at_fault { (told : Text → Told) (index points bytes : Text) (fault : Fault) → told index ≡ holds bytes → length bytes ≤ most_index → reading bytes ≡ Err fault → outcome told (ask_course index points) ≡ refusal (exactly (ended (index_fault_text fault))) }
+    ensures asked { (told : Text → Told) (index points bytes : Text) (c : Content) → told index ≡ holds bytes → length bytes ≤ most_index → reading bytes ≡ Ok c → outcome told (ask_course index points) ≡ outcome told (asked_course points c) }
     ensures reads { (bytes : Text) (c : Content) → AreBytes bytes → IsIndexFile c bytes → reading bytes ≡ Ok c }
     ensures of_true { (points bytes : Text) (c : Content) → IsIndexFile c bytes → IsTrueIndex c → asked_course points c ≡ marked_course points c }
     ensures of_layer { (points : Text) (v scale : ℕ) (layer : List Feature) (c : Content) → IsIndexOf v scale (map (λ (f : Feature). f.id) layer) (map rings_of layer) c → marked_course points c ≡ points_course by.Tree false scale points layer }

@@ -3,7 +3,8 @@
 --   ContentIsTrue  as a law: what holds them is a true index of the layer
 --   LayerFits      as a law: a layer of few pieces has few edges and marks
 --   BytesOf        as a law: what is written of a content is bytes
-use Rattle.std.specs.Prelude.{◌≡◌, ℕ, ◌≤◌, ◌^◌, All, List, length, sum_by}
+use Rattle.std.specs.Prelude.{◌≡◌, ℕ, ◌≤◌, All, List, length, sum_by}
+use Rattle.loc_spec_text.specs.Limits.{most_pieces}
 use Rattle.loc_spec_plane.specs.Rings.{Rings}
 use Rattle.loc_spec_plane.specs.Tables.{AllEnds, AllEven, NoConflict, noded_table_of, piece_count}
 use Rattle.loc_spec_index.specs.Content.{Content}
@@ -36,7 +37,7 @@ ContentIsTrue =
 
 -- a layer of at most 2^21 pieces has no more edges, and no more marks
 abbrev pub LayerFits : Type 0
-LayerFits = (layer : List Feature) → piece_count (layer_rings layer) ≤ 2 ^ 21 → (length (noded_table_of (layer_rings layer)).ends ≤ 2 ^ 21) × (sum_by length (noded_table_of (layer_rings layer)).marks ≤ 2 ^ 21)
+LayerFits = (layer : List Feature) → piece_count (layer_rings layer) ≤ most_pieces → (length (noded_table_of (layer_rings layer)).ends ≤ most_pieces) × (sum_by length (noded_table_of (layer_rings layer)).marks ≤ most_pieces)
 
 -- where the ids are bytes, all that is written of a content is
 abbrev pub BytesOf : Type 0

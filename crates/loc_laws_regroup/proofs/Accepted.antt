@@ -15,7 +15,8 @@ use Rattle.loc_spec_text.specs.declared.Form.TheVariants as form
 use Rattle.loc_spec_text.specs.declared.TextFault.{TextFault}
 use Rattle.loc_spec_text.specs.Reading.{Polygons, reading}
 use Rattle.loc_spec_text.proofs.DigitLaws.{digit_range}
-use Rattle.loc_rings.specs.Values.{Feature, most_id_bytes}
+use Rattle.loc_rings.specs.Values.{Feature}
+use Rattle.loc_spec_text.specs.Limits.{most_id_bytes}
 use Rattle.loc_rings.specs.Layers.{layer_points, point_count}
 use Rattle.loc_csvform.specs.declared.faults.LayerFault.{LayerFault}
 use Rattle.loc_csvform.specs.declared.faults.LayerFault.TheVariants.{BadText, LongId, ManyFeatures, ManyPoints, Ragged}

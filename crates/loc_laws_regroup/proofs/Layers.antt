@@ -8,7 +8,8 @@ use Rattle.loc_spec_plane.specs.Points.{IsGridPoint}
 use Rattle.loc_spec_plane.specs.Rings.{Rings}
 use Rattle.loc_spec_text.specs.Bytes.{result_and_then}
 use Rattle.loc_spec_text.specs.Reading.{reading}
-use Rattle.loc_rings.specs.Values.{Feature, most_id_bytes}
+use Rattle.loc_rings.specs.Values.{Feature}
+use Rattle.loc_spec_text.specs.Limits.{most_id_bytes}
 use Rattle.loc_rings.specs.Layers.{layer_points, point_count}
 use Rattle.loc_csvform.specs.Layer.{csv_row, features_from, with_row}
 use Rattle.loc_csvform.proofs.Layers.{under_header}

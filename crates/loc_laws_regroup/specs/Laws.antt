@@ -7,7 +7,7 @@
 --   GroupsAreOpen            the polygons of a group
 --   DissolvedReads           what the text of the groups of a layer reads as
 --   groups_of, AcceptedReads  the groups of a layer, and what their text reads as where the layer was read
-use Rattle.std.specs.Prelude.{◌≡◌, ◌≢◌, ℕ, ◌^◌, ◌≤◌, Bool, true, ℤ, List, [], length, map, Ok, All}
+use Rattle.std.specs.Prelude.{◌≡◌, ◌≢◌, ℕ, ◌≤◌, Bool, true, ℤ, List, [], length, map, Ok, All}
 use Rattle.std.specs.Str.{is_utf8}
 use Rattle.std.specs.List.{AllByRecursion}
 use Rattle.loc_spec_plane.specs.Points.{IsGridPoint, OnGrid}
@@ -22,7 +22,8 @@ use Rattle.loc_spec_text.specs.Points.{grid_text}
 use Rattle.loc_spec_text.specs.Reading.{Polygons, reading}
 use Rattle.loc_spec_text.specs.declared.Form.{Form}
 use Rattle.loc_spec_text.specs.declared.Form.TheVariants.{Csv}
-use Rattle.loc_rings.specs.Values.{Feature, most_id_bytes}
+use Rattle.loc_rings.specs.Values.{Feature}
+use Rattle.loc_spec_text.specs.Limits.{most_id_bytes, most_text}
 use Rattle.loc_rings.specs.Layers.{IsLayer}
 use Rattle.loc_edges.specs.Layers.{layer_rings}
 use Rattle.loc_csvform.specs.Layer.{layer_of}
@@ -88,5 +89,5 @@ groups_of layer = dissolved next_at face_at (noded_table_of (layer_rings layer))
 
 -- and of a layer that was read, in which no two edges conflict, whatever its form
 abbrev pub AcceptedReads : Type 0
-AcceptedReads = (form : Form) (scale : ℕ) (text : Text) (layer : List Feature) → length text ≤ 2 ^ 28 → layer_of form scale text ≡ Ok layer → NoConflict (noded_table_of (layer_rings layer)) → IsLayer (map feature_of (groups_of layer))
+AcceptedReads = (form : Form) (scale : ℕ) (text : Text) (layer : List Feature) → length text ≤ most_text → layer_of form scale text ≡ Ok layer → NoConflict (noded_table_of (layer_rings layer)) → IsLayer (map feature_of (groups_of layer))
     → layer_of Csv scale (dissolved_text scale (groups_of layer)) ≡ Ok (map feature_of (groups_of layer))

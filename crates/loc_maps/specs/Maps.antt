@@ -5,8 +5,8 @@ use Rattle.loc_spec_plane.specs.Covers.{cover_sum, feature_count}
 use Rattle.loc_spec_plane.specs.Tables.{Table, AllEnds, AllEven, NoConflict, piece_count}
 use Rattle.loc_rings.specs.Values.{Feature}
 use Rattle.loc_edges.specs.Layers.{layer_rings}
-use Rattle.loc_node.specs.Pieces.{most_pieces}
-use Rattle.loc_cover.specs.Legends.{LegendRows, FitsTable, IsTrueLegend, most_members}
+use Rattle.loc_spec_text.specs.Limits.{most_members, most_pieces}
+use Rattle.loc_cover.specs.Legends.{LegendRows, FitsTable, IsTrueLegend}
 use Rattle.loc_maps.specs.Located.{table_in}
 
 -- the segments of the layer have more pieces together than a table may have

@@ -16,10 +16,11 @@ ghost use Rattle.loc_maps.specs.Maps.{IsTableOf};
 
 use crate::lines::{Pair, conflict_line, pieces_line};
 use crate::statuses::FreshStatus;
-use loc_course::{Scale, Stop};
+use loc_course::Stop;
 use loc_edges::{EdgeTable, Floors};
 use loc_node::{NodeFault, node};
 use loc_rings::Layer;
+use loc_spec_text::Scale;
 use loc_status::Status;
 use loc_sweep::{SweepFault, sweep};
 use std::alloc::Global;

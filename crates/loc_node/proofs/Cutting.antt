@@ -15,7 +15,8 @@ use Rattle.loc_spec_plane.specs.Tables.{cut_at, layer_corners, piece_count}
 use Rattle.loc_laws_noding.proofs.SortedSet.{length-sorted_set}
 use Rattle.loc_edges.specs.Tagged.{segments_in, tagged_by, tagged_from, tagged_pieces}
 use Rattle.loc_edges.proofs.Tagged.{segments_in-pieces}
-use Rattle.loc_node.specs.Pieces.{cut_tagged, most_pieces}
+use Rattle.loc_node.specs.Pieces.{cut_tagged}
+use Rattle.loc_spec_text.specs.Limits.{most_pieces}
 
 module _ (cut : Edge → List Edge) where
   -- the pieces of one segment

@@ -1,6 +1,7 @@
--- The pieces of tagged segments, and how many a layer may have. The words: `cut_tagged`, `placed_from`, `piece_before`, `with_feature`, `first_with`, `layer_pieces`, `most_pieces`, `IsRefused`.
+-- The pieces of tagged segments, and why too many are refused. The words: `cut_tagged`, `placed_from`, `piece_before`, `with_feature`, `first_with`, `layer_pieces`, `IsRefused`.
 use Rattle.std.specs.Prelude.{ℕ, ◌<◌, nat_lt, Bool, ◌&&◌, ◌||◌, List, map, find, unwrap_or, slice_index_or}
 use Rattle.std.specs.List.{flat_map, list_any, enumerate_from}
+use Rattle.loc_spec_text.specs.Limits.{most_pieces}
 use Rattle.loc_spec_plane.specs.Points.{Edge, edge_before, same_edge}
 use Rattle.loc_spec_plane.specs.Rings.{Rings}
 use Rattle.loc_spec_plane.specs.Tables.{cut_at, layer_corners, layer_segments}
@@ -31,10 +32,6 @@ first_with cut ss e = unwrap_or (find (λ s. list_any (same_edge e) (cut s)) ss)
 -- the pieces of all segments of a layer, each as often as it stands there
 abbrev pub layer_pieces : List Rings → List Edge
 layer_pieces layer = flat_map (cut_at (layer_corners layer)) (layer_segments layer)
-
--- how many pieces the segments of a layer may have together
-abbrev pub most_pieces : ℕ
-most_pieces = 2097152
 
 -- why segments with so many pieces are refused; want of memory may come at any time
 abbrev pub IsRefused : ℕ → NodeFault → Type 0

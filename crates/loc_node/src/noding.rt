@@ -12,7 +12,8 @@ ghost use Rattle.loc_rings.specs.Values.{IsRing};
 ghost use Rattle.loc_edges.specs.Layers.{layer_rings};
 ghost use Rattle.loc_edges.specs.Tagged.{segments_in};
 ghost use Rattle.loc_laws_repeats.specs.Repeats.{IsFirstTwice};
-ghost use Rattle.loc_node.specs.Pieces.{IsRefused, layer_pieces, most_pieces};
+ghost use Rattle.loc_node.specs.Pieces.{IsRefused, layer_pieces};
+ghost use Rattle.loc_spec_text.specs.Limits.{most_pieces};
 
 use crate::fault::NodeFault;
 use crate::pieces::{featured_pieces, first_twice, placed_pieces, sources};

@@ -7,16 +7,15 @@ ghost use Rattle.loc_spec_plane.specs.Lists.{is_rising, sorted_set};
 ghost use Rattle.loc_spec_plane.specs.Tables.{cut_at};
 ghost use Rattle.loc_edges.specs.Tagged.{segments_in, tagged_by};
 ghost use Rattle.loc_laws_repeats.specs.Repeats.{IsFirstTwice};
-ghost use Rattle.loc_node.specs.Pieces.{IsRefused, cut_tagged, first_with, most_pieces, piece_before, placed_from, with_feature};
+ghost use Rattle.loc_node.specs.Pieces.{IsRefused, cut_tagged, first_with, piece_before, placed_from, with_feature};
+ghost use Rattle.loc_spec_text.specs.Limits.{most_pieces};
 
 use crate::fault::NodeFault;
 use crate::finder::Finder;
 use crate::guides::guides;
 use loc_geom::{Edge, Point};
+use loc_spec_text::MOST_PIECES;
 use std::alloc::{AllocError, Global};
-
-// How many pieces the segments of a layer may have together.
-const MOST_PIECES: usize = 2_097_152;
 
 // Puts the pieces of a segment of a feature behind the others.
 fn put_pieces(

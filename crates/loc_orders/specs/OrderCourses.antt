@@ -5,7 +5,7 @@ use Rattle.loc_spec_text.specs.Points.{ended}
 use Rattle.loc_course.specs.Courses.{Course, refuses, reads}
 use Rattle.loc_course.specs.Outcomes.{exactly}
 use Rattle.loc_course.specs.Stops.{source}
-use Rattle.loc_maps.specs.MapCourses.{limit}
+use Rattle.loc_spec_text.specs.Limits.{most_text}
 use Rattle.loc_spec_asked.specs.Orders.{AskedOrder, in_file, shuffled_from}
 use Rattle.loc_trapdag.specs.Orders.{IsOrder, order_of, shuffled_order}
 use Rattle.loc_trapdag.specs.declared.order.OrderFault.{OrderFault}
@@ -30,7 +30,7 @@ order_in (Err fault) next = refuses (exactly (ended (order_fault_text fault)))
 
 -- the file of an order of so many edges is read
 abbrev pub order_course : Text → ℕ → (List ℕ → Course) → Course
-order_course name edges next = reads (source name limit (ended (codes "order: too long"))) (λ text. order_in (order_of edges text) next)
+order_course name edges next = reads (source name most_text (ended (codes "order: too long"))) (λ text. order_in (order_of edges text) next)
 
 -- it is read where one is asked for
 abbrev pub asked_course : AskedOrder → ℕ → (GivenOrder → Course) → Course

@@ -6,7 +6,7 @@ ghost use Rattle.loc_io.specs.Streams.{Stream};
 ghost use Rattle.loc_course.specs.Courses.{Course};
 ghost use Rattle.loc_course.specs.Following.{Moment, moment};
 ghost use Rattle.loc_course.specs.Stops.{GoesOn};
-ghost use Rattle.loc_maps.specs.MapCourses.{limit};
+ghost use Rattle.loc_spec_text.specs.Limits.{most_text};
 ghost use Rattle.loc_trapdag.specs.Orders.{IsOrder, order_of};
 ghost use Rattle.loc_orders.specs.OrderCourses.{IsGivenOrder, asked_course, order_course, order_in};
 ghost use Rattle.loc_orders.specs.declared.given.GivenOrder.{GivenOrder};
@@ -16,15 +16,13 @@ use crate::lines::order_stop_of;
 use loc_course::{Stop, read_source};
 use loc_io::Shelf;
 use loc_spec_asked::EdgeOrder;
+use loc_spec_text::MOST_TEXT;
 use loc_trapdag::Order;
 use std::alloc::Global;
 
-// The most bytes of an order's text.
-const LIMIT: usize = 268_435_456;
-
 // The order that a text is.
 fn read_order_in(alloc: Global, text: &[u8], edges: u32) -> Result<Order, Stop>
-    requires { length text.now ≤ limit }
+    requires { length text.now ≤ most_text }
     ensures goes_on { (next : List ℕ → Course) (m : Moment) → GoesOn (order_in (order_of edges text.now) next) m next m result }
     ensures permutation { IfOk result (IsOrder edges) }
 {
@@ -39,7 +37,7 @@ fn read_order<F: Shelf>(alloc: Global, shelf: &mut F, name: &str, edges: u32) ->
     ensures goes_on { (next : List ℕ → Course) (o : Stream) (k : ℕ) → GoesOn (order_course name.now edges next) (moment (F.meaning shelf.old) o k) next (moment (F.meaning shelf.new) o k) result }
     ensures permutation { IfOk result (IsOrder edges) }
 {
-    let text = read_source(alloc, shelf, name, LIMIT, b"order: too long")?;
+    let text = read_source(alloc, shelf, name, MOST_TEXT, b"order: too long")?;
     read_order_in(alloc, &text, edges)
 }
 

@@ -1,3 +1,4 @@
+mod Copied
 pub mod Faulted
 pub mod Flagged
 pub mod Numbered

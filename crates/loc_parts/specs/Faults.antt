@@ -5,8 +5,7 @@ use Rattle.loc_spec_plane.specs.Points.{conflict}
 use Rattle.loc_spec_plane.specs.Tables.{Table, NoConflict, edge, piece_count}
 use Rattle.loc_rings.specs.Values.{Feature}
 use Rattle.loc_edges.specs.Layers.{layer_rings}
-use Rattle.loc_node.specs.Pieces.{most_pieces}
-use Rattle.loc_cover.specs.Legends.{most_members}
+use Rattle.loc_spec_text.specs.Limits.{most_members, most_pieces}
 use Rattle.loc_maps.specs.Located.{table_in}
 use Rattle.loc_parts.specs.declared.fault.PlaneFault.{PlaneFault}
 use Rattle.loc_parts.specs.declared.fault.PlaneFault.TheVariants as f

@@ -4,11 +4,11 @@
 --   AreNumbersOf       the numbers are of features of the layer
 --   IsPartOf           a part has its numbers, and the plane of its features
 --   IsLeftOf           what is left has its numbers, and the boxes of its features
---   numbers_in         the numbers of all parts and of all that is left
+--   part_numbers, left_numbers, numbers_in  the numbers of each part, of all that is left, and of both
 --   IsRestOf           what is in no part yet has its numbers, and its features
 --   IsPartedBut        every feature of a layer is in a part, left, or in no part yet
 --   IsParted           every feature of a layer is in a part or left
-use Rattle.std.specs.Prelude.{◌≡◌, ◌≤◌, ◌||◌, ℕ, List, [], ◌++◌, All, IsTrue, length, map, get_or, nat_lt, sum_by, ◌+◌}
+use Rattle.std.specs.Prelude.{◌≡◌, ◌≤◌, ◌^◌, ◌||◌, ℕ, List, [], ◌++◌, All, IsTrue, length, map, get_or, nat_lt, sum_by, ◌+◌}
 use Rattle.std.specs.List.{list_all, list_any}
 use Rattle.loc_spec_plane.specs.Lists.{is_in, is_rising, numbers}
 use Rattle.loc_rings.specs.Values.{Feature}
@@ -45,9 +45,17 @@ pub record IsLeftOf (layer : List Feature) (left : Left) : Type 0 where
   pub numbers : AreNumbersOf layer left.numbers.items
   pub boxed : IsBoxed (layer_rings (features_with left.numbers.items layer)) left.boxed
 
--- the numbers of each part, and of each list that is left
+-- the numbers of each part
+abbrev pub part_numbers : List Part → List (List ℕ)
+part_numbers parts = map (λ (part : Part). part.numbers.items) parts
+
+-- the numbers of each list that is left
+abbrev pub left_numbers : List Left → List (List ℕ)
+left_numbers left = map (λ (rest : Left). rest.numbers.items) left
+
+-- all of them
 abbrev pub numbers_in : List Part → List Left → List (List ℕ)
-numbers_in parts left = map (λ (part : Part). part.numbers.items) parts ++ map (λ (rest : Left). rest.numbers.items) left
+numbers_in parts left = part_numbers parts ++ left_numbers left
 
 -- what is in no part yet has numbers of the layer, and the features with these numbers
 pub record IsRestOf (layer : List Feature) (ns : List ℕ) (features : List Feature) : Type 0 where
@@ -62,11 +70,11 @@ pub record IsPartedBut (layer : List Feature) (rests : List (List ℕ)) (parts :
   pub all : (n : ℕ) → (list_any (is_in n) (numbers_in parts left) || list_any (is_in n) rests) ≡ nat_lt n (length layer)
   pub once : (f : ℕ → ℕ) → sum_by (sum_by f) (numbers_in parts left) + sum_by (sum_by f) rests ≡ sum_by f (numbers (length layer))
 
--- at most sixteen parts; every feature of the layer is in a part or left, and these have no others; each stands in one list, once; the names are the ids of all features
+-- at most 2^18 features, and at most sixteen parts; every feature of the layer is in a part or left, and these have no others; each stands in one list, once
 pub record IsParted (layer : List Feature) (parted : Parted) : Type 0 where
+  pub few_features : length layer ≤ 2 ^ 18
   pub few : length parted.parts.items ≤ 16
   pub parts : All (IsPartOf layer) parted.parts.items
   pub left : All (IsLeftOf layer) parted.left.items
   pub all : (n : ℕ) → list_any (is_in n) (numbers_in parted.parts.items parted.left.items) ≡ nat_lt n (length layer)
   pub once : (f : ℕ → ℕ) → sum_by (sum_by f) (numbers_in parted.parts.items parted.left.items) ≡ sum_by f (numbers (length layer))
-  pub names : map (λ id. id.items) parted.names.items ≡ map (λ (f : Feature). f.id) layer

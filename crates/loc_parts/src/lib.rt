@@ -2,6 +2,7 @@
 #![tactic(auto)]
 
 mod aside;
+mod copying;
 mod fault;
 mod judging;
 mod laws;

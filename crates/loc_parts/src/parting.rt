@@ -1,6 +1,7 @@
 //! The parts of a layer.
 
-ghost use Rattle.std.specs.Prelude.{◌≡◌, ◌+◌, ◌≤◌, ◌∷◌, ◌^◌, [], ℕ, IfOk, List, length};
+ghost use Rattle.std.specs.Prelude.{◌≡◌, ◌+◌, ◌≤◌, ◌∷◌, [], ℕ, IfOk, List, length};
+ghost use Rattle.loc_spec_text.specs.Limits.{most_features};
 ghost use Rattle.loc_spec_plane.specs.Lists.{numbers};
 ghost use Rattle.loc_sweep.specs.Swept.{IsSwept};
 ghost use Rattle.loc_treeidx.specs.Meaning.{meaning_of};
@@ -9,6 +10,7 @@ ghost use Rattle.loc_maps.specs.Maps.{IsMapOf};
 ghost use Rattle.loc_parts.specs.Parts.{IsParted, IsPartedBut, IsRestOf};
 
 use crate::aside::{Fate, aside};
+use crate::copying::copy_layer;
 use crate::fault::PlaneFault;
 use crate::judging::judged_layer;
 use crate::parts::{Left, Part, Parted};
@@ -27,7 +29,7 @@ const LEAST_KEPT: usize = 32;
 
 // The numbers below a count.
 fn numbers_below(alloc: Global, count: usize) -> Result<Vec<u32>, AllocError>
-    requires { count ≤ 2 ^ 18 }
+    requires { count ≤ most_features }
     ensures { IfOk result (λ made. made.items ≡ numbers count) }
 {
     let mut made = Vec::with_capacity(alloc, count)?;
@@ -38,10 +40,10 @@ fn numbers_below(alloc: Global, count: usize) -> Result<Vec<u32>, AllocError>
 }
 
 // A layer that is accepted, as one part.
-fn one_part(alloc: Global, layer: Layer, plane: Plane<TreeIndex>) -> Result<Parted, AllocError>
-    requires map { IsMapOf layer plane.table plane.legend }
+fn one_part(alloc: Global, layer: &Layer, plane: Plane<TreeIndex>) -> Result<Parted, AllocError>
+    requires map { IsMapOf layer.now plane.table plane.legend }
     requires swept { IsSwept plane.table (meaning_of plane.status) }
-    ensures { IfOk result (IsParted layer) }
+    ensures { IfOk result (IsParted layer.now) }
 {
     let numbers = numbers_below(alloc, layer.features().len())?;
     let mut parts = Vec::new(alloc);
@@ -49,7 +51,6 @@ fn one_part(alloc: Global, layer: Layer, plane: Plane<TreeIndex>) -> Result<Part
     Ok(Parted {
         parts,
         left: Vec::new(alloc),
-        names: layer.into_ids(alloc)?,
     })
 }
 
@@ -89,16 +90,15 @@ fn pass(
     Ok((later, count))
 }
 
-// A layer in parts by at most sixteen passes.
-fn in_parts(alloc: Global, layer: Layer) -> Result<Parted, AllocError>
-    ensures { IfOk result (IsParted layer) }
+// A layer in parts by at most sixteen passes over a copy of it.
+fn in_parts(alloc: Global, layer: &Layer) -> Result<Parted, AllocError>
+    ensures { IfOk result (IsParted layer.now) }
 {
-    let names = layer.ids(alloc)?;
     let mut parts = Vec::new(alloc);
     let mut left = Vec::new(alloc);
     let mut rest = Rest {
         numbers: numbers_below(alloc, layer.features().len())?,
-        features: layer,
+        features: copy_layer(alloc, layer)?,
     };
     for _turn in 0..MOST_PARTS {
         let (later, kept) = pass(alloc, &mut parts, &mut left, rest)?;
@@ -108,16 +108,16 @@ fn in_parts(alloc: Global, layer: Layer) -> Result<Parted, AllocError>
         }
     }
     leave(alloc, &mut left, rest)?;
-    Ok(Parted { parts, left, names })
+    Ok(Parted { parts, left })
 }
 
 impl Parted {
     /// The parts of a layer: at most sixteen, each accepted for itself, and what is left. Every feature of the layer is in a part or left, and
-    /// these have no others.
-    pub fn make(alloc: Global, layer: Layer) -> Result<Parted, AllocError>
-        ensures { IfOk result (IsParted layer) }
+    /// these have no others. The layer stays. It is copied only where it is not accepted as a whole.
+    pub fn make(alloc: Global, layer: &Layer) -> Result<Parted, AllocError>
+        ensures { IfOk result (IsParted layer.now) }
     {
-        match judged_layer(alloc, &layer) {
+        match judged_layer(alloc, layer) {
             Ok(plane) => one_part(alloc, layer, plane),
             Err(PlaneFault::NoMemory) => Err(AllocError),
             Err(_) => in_parts(alloc, layer),

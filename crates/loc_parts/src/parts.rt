@@ -18,10 +18,9 @@ pub struct Left {
     pub boxed: Boxed,
 }
 
-/// The parts of a layer, what is left, and the ids of all features.
+/// The parts of a layer, and what is left.
 #[derive(Drop)]
 pub struct Parted {
     pub parts: Vec<Part>,
     pub left: Vec<Left>,
-    pub names: Vec<Vec<u8>>,
 }

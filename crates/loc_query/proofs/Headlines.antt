@@ -17,7 +17,7 @@ use Rattle.loc_csvform.specs.Layer.{LayerRead, layer_of}
 use Rattle.loc_spec_plane.specs.Tables.{piece_count}
 use Rattle.loc_edges.specs.Conflicts.{has_conflict}
 use Rattle.loc_edges.specs.Layers.{layer_rings}
-use Rattle.loc_node.specs.Pieces.{most_pieces}
+use Rattle.loc_spec_text.specs.Limits.{most_members, most_pieces, most_text}
 use Rattle.loc_course.specs.Courses.{Source, Course, reads as reads_from, refuses}
 use Rattle.loc_course.specs.Moments.{Moment, IsToldText}
 use Rattle.loc_course.specs.Outcomes.{Outcome, refusal, output, exactly, outcome}
@@ -28,7 +28,7 @@ use Rattle.loc_course.proofs.Told.{it_exactly}
 use Rattle.loc_maps.specs.Conflicts.{Accepts, names_conflict}
 use Rattle.loc_maps.specs.LineTexts.{layer_fault_text, covers_text, pieces_text}
 use Rattle.loc_maps.specs.Located.{edges_of, table_in}
-use Rattle.loc_maps.specs.MapCourses.{LayerFile, accepted_course, layer_in, limit}
+use Rattle.loc_maps.specs.MapCourses.{LayerFile, accepted_course, layer_in}
 use Rattle.loc_maps.specs.Maps.{HasFewPieces}
 use Rattle.loc_maps.proofs.Judged.{accepted_all, layer_all, pieces_all}
 use Rattle.loc_trapdag.specs.Orders.{order_of}
@@ -39,7 +39,6 @@ use Rattle.loc_query.specs.Answered.{output_of, output_within}
 use Rattle.loc_query.specs.Headline.{Headline, IsAccepted, IsInOrder, IsOrderTold, edge_count, steps_in}
 use Rattle.loc_query.specs.QueryCourses.{asked_layer, points_course, query_course, steps_by}
 use Rattle.loc_query.proofs.Rows as rows
-use Rattle.loc_cover.specs.Legends.{most_members}
 
 -- what holds of refusals, of files that are read, and behind an accepted layer holds of a query
 query_all : (P : Course → Type 0) → ((passes : Text → Bool) → P (refuses passes)) → ((s : Source) (next : Text → Course) → ((text : Text) → P (next text)) → P (reads_from s next))
@@ -62,17 +61,17 @@ query_refuses_behind index order faces file points line = query_all (λ c. MayRe
 
 -- the text of a named order is too long, or at fault, or an order
 abbrev FailsSo : ℕ → Text → Type 0
-FailsSo edges text = (limit < length text) ⊎ ((length text ≤ limit) × (fault : OrderFault) × (order_of edges text ≡ Err fault))
+FailsSo edges text = (most_text < length text) ⊎ ((length text ≤ most_text) × (fault : OrderFault) × (order_of edges text ≡ Err fault))
 
 order_cases : (told : Text → Told) (order : AskedOrder) (edges : ℕ) → IsOrderTold told order
     → IsInOrder told order edges ⊎ ((name text : Text) × (order ≡ in_file name) × (told name ≡ holds text) × FailsSo edges text)
 order_cases told (shuffled_from number) edges is_told = inl tt
-order_cases told (in_file name) edges is_told = elim (long_or_short limit is_told.0) [
+order_cases told (in_file name) edges is_told = elim (long_or_short most_text is_told.0) [
   | inl long ↦ inr (name, is_told.0, refl, is_told.1, inl long.0)
   | inr short ↦ by_read short.0 (order_of edges is_told.0) refl
 ]
   where
-    by_read : length is_told.0 ≤ limit → (r : Result (List ℕ) OrderFault) → order_of edges is_told.0 ≡ r
+    by_read : length is_told.0 ≤ most_text → (r : Result (List ℕ) OrderFault) → order_of edges is_told.0 ≡ r
         → IsInOrder told (in_file name) edges ⊎ ((other text : Text) × (in_file name ≡ in_file other) × (told other ≡ holds text) × FailsSo edges text)
     by_read few (Ok order) reads = inl (is_told.0, is_told.1, few, order, reads)
     by_read few (Err fault) reads = inr (name, is_told.0, refl, is_told.1, inr (few, fault, reads))
@@ -84,41 +83,41 @@ not_done o by before new is none ends = none (subst (λ (x : Outcome). EndsSo x 
 module _ (told : Text → Told) (index : Index) (order : AskedOrder) (faces : Bool) (file : LayerFile) (points layer text : Text) (is : told file.name ≡ holds layer) (also : told points ≡ holds text) where
   -- where a query was done, its layer is accepted, its order is one of the edges, and its points are not too long
   abbrev WasAccepted : Type 0
-  WasAccepted = (features : List Feature) × IsAccepted file layer features × IsInOrder told order (edge_count features) × (length text ≤ limit)
+  WasAccepted = (features : List Feature) × IsAccepted file layer features × IsInOrder told order (edge_count features) × (length text ≤ most_text)
 
   accepted : IsOrderTold told order → (before : Option Text) (new : Moment) → EndsSo (outcome told (query_course index order faces file points)) before new None → WasAccepted
-  accepted order_told before new ends = elim (long_or_short limit layer) [
+  accepted order_told before new ends = elim (long_or_short most_text layer) [
     | inl long ↦ absurd (not_done _ _ before new (rows.layer_long told index order faces file points layer is long.0) (λ e. e) ends)
     | inr short ↦ by_read short.0 (layer_of file.form file.scale layer) refl
   ]
     where
       by_points : (features : List Feature) → IsAccepted file layer features → IsInOrder told order (edge_count features) → WasAccepted
-      by_points features a o = elim (long_or_short limit text) [
+      by_points features a o = elim (long_or_short most_text text) [
         | inl long ↦ absurd (not_done _ _ before new (rows.points_long told index order faces file points layer is features a.within a.reads a.few_pieces o a.apart a.few_covers text also long.0) (λ e. e) ends)
         | inr short ↦ (features, a, o, short.0)
       ]
 
-      by_covers : (features : List Feature) → length layer ≤ limit → layer_of file.form file.scale layer ≡ Ok features → HasFewPieces features → IsInOrder told order (edge_count features) → Accepts features → WasAccepted
+      by_covers : (features : List Feature) → length layer ≤ most_text → layer_of file.form file.scale layer ≡ Ok features → HasFewPieces features → IsInOrder told order (edge_count features) → Accepts features → WasAccepted
       by_covers features few reads cut o apart = elim (cases_lt most_members (cover_sum (table_in features))) [
         | inl many ↦ absurd (not_done _ _ before new (rows.covers told index order faces file points layer is features few reads cut o apart many) (λ e. e) ends)
         | inr less ↦ by_points features (record { within = few; reads = reads; few_pieces = cut; apart = apart; few_covers = less }) o
       ]
 
-      by_conflict : (features : List Feature) → length layer ≤ limit → layer_of file.form file.scale layer ≡ Ok features → HasFewPieces features → IsInOrder told order (edge_count features) → (b : Bool) → has_conflict (edges_of features) ≡ b → WasAccepted
+      by_conflict : (features : List Feature) → length layer ≤ most_text → layer_of file.form file.scale layer ≡ Ok features → HasFewPieces features → IsInOrder told order (edge_count features) → (b : Bool) → has_conflict (edges_of features) ≡ b → WasAccepted
       by_conflict features few reads cut o true has = absurd (not_done _ _ before new (rows.conflict told index order faces file points layer is features few reads cut o has) (λ e. e) ends)
       by_conflict features few reads cut o false has = by_covers features few reads cut o (subst (λ (b : Bool). IsTrue (not b)) (sym has) refl)
 
-      by_failure : (features : List Feature) → length layer ≤ limit → layer_of file.form file.scale layer ≡ Ok features → HasFewPieces features → (name text : Text) → order ≡ in_file name → told name ≡ holds text → FailsSo (edge_count features) text → WasAccepted
+      by_failure : (features : List Feature) → length layer ≤ most_text → layer_of file.form file.scale layer ≡ Ok features → HasFewPieces features → (name text : Text) → order ≡ in_file name → told name ≡ holds text → FailsSo (edge_count features) text → WasAccepted
       by_failure features few reads cut name text named holds_it (inl long) = absurd (not_done _ _ before new (rows.order_long told index order faces file points layer is features few reads cut name text named holds_it long) (λ e. e) ends)
       by_failure features few reads cut name text named holds_it (inr fails) = absurd (not_done _ _ before new (rows.order_line told index order faces file points layer is features few reads cut name text fails.1 named holds_it fails.0 fails.2) (λ e. e) ends)
 
-      by_order : (features : List Feature) → length layer ≤ limit → layer_of file.form file.scale layer ≡ Ok features → HasFewPieces features → WasAccepted
+      by_order : (features : List Feature) → length layer ≤ most_text → layer_of file.form file.scale layer ≡ Ok features → HasFewPieces features → WasAccepted
       by_order features few reads cut = elim (order_cases told order (edge_count features) order_told) [
         | inl o ↦ by_conflict features few reads cut o (has_conflict (edges_of features)) refl
         | inr fails ↦ by_failure features few reads cut fails.0 fails.1 fails.2 fails.3 fails.4
       ]
 
-      by_read : length layer ≤ limit → (r : LayerRead) → layer_of file.form file.scale layer ≡ r → WasAccepted
+      by_read : length layer ≤ most_text → (r : LayerRead) → layer_of file.form file.scale layer ≡ r → WasAccepted
       by_read few (Err fault) reads = absurd (not_done _ _ before new (rows.layer_line told index order faces file points layer is fault few reads) (λ e. e) ends)
       by_read few (Ok features) reads = elim (cases_lt most_pieces (piece_count (layer_rings features))) [
         | inl many ↦ absurd (not_done _ _ before new (rows.pieces told index order faces file points layer is features few reads ((Decides-ltb most_pieces (piece_count (layer_rings features))).1 many)) (λ e. e) ends)
@@ -126,7 +125,7 @@ module _ (told : Text → Told) (index : Index) (order : AskedOrder) (faces : Bo
       ]
 
   -- an accepted layer and points that are not too long come to the answers
-  comes_to : (features : List Feature) → IsAccepted file layer features → IsInOrder told order (edge_count features) → length text ≤ limit → outcome told (query_course index order faces file points) ≡ output (exactly (output_of faces file.scale features text))
+  comes_to : (features : List Feature) → IsAccepted file layer features → IsInOrder told order (edge_count features) → length text ≤ most_text → outcome told (query_course index order faces file points) ≡ output (exactly (output_of faces file.scale features text))
   comes_to features a o short = rows.answered_all told index order faces file points layer is features a.within a.reads a.few_pieces o a.apart a.few_covers text also short
 
   steps_within : (k : ℕ) → length (lines text) * steps_in index (layer_of file.form file.scale layer) ≤ k → WithinSteps told (query_course index order faces file points) k
@@ -198,7 +197,7 @@ module _ (index : Index) (order : AskedOrder) (faces : Bool) (file : LayerFile) 
     conflict = λ layer features is few reads cut o has steady. refused (names_conflict file.scale (edges_of features)) (rows.conflict old.shelf.told index order faces file points layer is features few reads cut o has) steady;
     covers = λ layer features is few reads cut o apart many steady. refused_by (ended covers_text) (rows.covers old.shelf.told index order faces file points layer is features few reads cut o apart many) steady;
     points_long = λ layer text features is also a o long reads out.
-        elim (s.refuses_partly (output_within limit faces file.scale features text) (ended (codes "points: too long"))
+        elim (s.refuses_partly (output_within most_text faces file.scale features text) (ended (codes "points: too long"))
         (rows.points_long old.shelf.told index order faces file points layer is features a.within a.reads a.few_pieces o a.apart a.few_covers text also long) (none_failed reads out)) [
           | inl one ↦ inl one
           | inr five ↦ inr (memory five)

@@ -37,7 +37,7 @@ use Rattle.loc_course.specs.Stops.{source}
 use Rattle.loc_course.specs.Streams.{Answering}
 use Rattle.loc_maps.proofs.TableLaws.{covers_is, is_table, touches_is}
 use Rattle.loc_maps.specs.Located.{table_in}
-use Rattle.loc_maps.specs.MapCourses.{limit}
+use Rattle.loc_spec_text.specs.Limits.{most_text}
 use Rattle.loc_maps.specs.Maps.{IsMapOf}
 use Rattle.loc_query.specs.Answered.{answer_at, answer_line, ids_where, located}
 use Rattle.loc_query.specs.QueryCourses.{points_course, steps_by}
@@ -143,9 +143,9 @@ module _ (layer : List Feature) (t : Table) (rows : LegendRows) (sound : IsSound
 
     -- what follows the answers by the legend follows the course of the points
     pub follows_points : (index : Index) (scale : ℕ) (points : Text) (old new : Moment) (end : Option Stopped)
-        → Follows (answers (source points limit (ended (codes "points: too long"))) (steps_by index t) (by_line (answer_by scale (λ p. Ok (place_at t p)) shown rows))) old new end
+        → Follows (answers (source points most_text (ended (codes "points: too long"))) (steps_by index t) (by_line (answer_by scale (λ p. Ok (place_at t p)) shown rows))) old new end
         → Follows (points_course index faces scale points layer) old new end
     follows_points index scale points old new end follows =
-        let of_points = source points limit (ended (codes "points: too long")) in
+        let of_points = source points most_text (ended (codes "points: too long")) in
         subst (λ (answer : Answering). Follows (answers of_points (steps_by index (table_in layer)) answer) old new end) (answers_are scale)
         (subst (λ (s : Table). Follows (answers of_points (steps_by index s) (by_line (answer_by scale (λ p. Ok (place_at t p)) shown rows))) old new end) m.table follows)

@@ -23,7 +23,8 @@ use Rattle.loc_course.proofs.Streamed.{of_whole}
 use Rattle.loc_maps.specs.Conflicts.{Accepts, names_conflict}
 use Rattle.loc_maps.specs.LineTexts.{layer_fault_text, covers_text, pieces_text}
 use Rattle.loc_maps.specs.Located.{edges_of, table_in}
-use Rattle.loc_maps.specs.MapCourses.{LayerFile, accepted_course, covers_course, layer_in, limit}
+use Rattle.loc_maps.specs.MapCourses.{LayerFile, accepted_course, covers_course, layer_in}
+use Rattle.loc_spec_text.specs.Limits.{most_members, most_text}
 use Rattle.loc_maps.specs.Maps.{HasFewPieces, has_many_covers, has_many_pieces}
 use Rattle.loc_maps.proofs.Judged.{on_apart, on_few_covers, on_few_pieces}
 use Rattle.loc_trapdag.specs.Orders.{order_of}
@@ -33,7 +34,6 @@ use Rattle.loc_orders.specs.OrderTexts.{order_fault_text}
 use Rattle.loc_query.specs.Answered.{answer_line, output_of, output_within}
 use Rattle.loc_query.specs.Headline.{IsInOrder, edge_count}
 use Rattle.loc_query.specs.QueryCourses.{asked_layer, points_course, query_course}
-use Rattle.loc_cover.specs.Legends.{most_members}
 
 long : (s : Source) (o : Text → Outcome) (told : Told) (text : Text) → told ≡ holds text → s.limit < length text → by_text s o told ≡ refusal (exactly s.too_long)
 long s o told text is more = ap (by_text s o) is ∙ cond-true (nat_lt s.limit (length text)) (refusal (exactly s.too_long)) (o text) ((Decides-ltb s.limit (length text)).1 more)
@@ -44,7 +44,7 @@ short s o told text is few = ap (by_text s o) is
 
 -- an order's file, and a course behind one that is an order
 abbrev order_source : Text → Source
-order_source name = source name limit (ended (codes "order: too long"))
+order_source name = source name most_text (ended (codes "order: too long"))
 
 in_order : (told : Text → Told) (order : AskedOrder) (edges : ℕ) (next : Course) → IsInOrder told order edges → outcome told (asked_course order edges (λ _. next)) ≡ outcome told next
 in_order told (shuffled_from number) edges next o = refl
@@ -59,28 +59,28 @@ module _ (told : Text → Told) (index : Index) (order : AskedOrder) (faces : Bo
   by_layer text = behind (layer_of file.form file.scale text)
 
   abbrev of_layer : Source
-  of_layer = source file.name limit (ended (codes "layer: too long"))
+  of_layer = source file.name most_text (ended (codes "layer: too long"))
 
   abbrev of_points : Source
-  of_points = source points limit (ended (codes "points: too long"))
+  of_points = source points most_text (ended (codes "points: too long"))
 
   abbrev answering : List Feature → Answering
   answering features line = Ok (answer_line faces file.scale features line)
 
-  pub layer_long : limit < length layer → outcome told (query_course index order faces file points) ≡ refusal (exactly (ended (codes "layer: too long")))
+  pub layer_long : most_text < length layer → outcome told (query_course index order faces file points) ≡ refusal (exactly (ended (codes "layer: too long")))
   layer_long more = long of_layer by_layer (told file.name) layer is more
 
-  read : length layer ≤ limit → (r : LayerRead) → layer_of file.form file.scale layer ≡ r → outcome told (query_course index order faces file points) ≡ behind r
+  read : length layer ≤ most_text → (r : LayerRead) → layer_of file.form file.scale layer ≡ r → outcome told (query_course index order faces file points) ≡ behind r
   read few r reads = short of_layer by_layer (told file.name) layer is few ∙ ap behind reads
 
-  pub layer_line : (fault : LayerFault) → length layer ≤ limit → layer_of file.form file.scale layer ≡ Err fault → outcome told (query_course index order faces file points) ≡ refusal (exactly (ended (layer_fault_text file.form fault)))
+  pub layer_line : (fault : LayerFault) → length layer ≤ most_text → layer_of file.form file.scale layer ≡ Err fault → outcome told (query_course index order faces file points) ≡ refusal (exactly (ended (layer_fault_text file.form fault)))
   layer_line fault few reads = read few (Err fault) reads
 
-  pub pieces : (features : List Feature) → length layer ≤ limit → layer_of file.form file.scale layer ≡ Ok features → has_many_pieces features ≡ true → outcome told (query_course index order faces file points) ≡ refusal (exactly (ended pieces_text))
+  pub pieces : (features : List Feature) → length layer ≤ most_text → layer_of file.form file.scale layer ≡ Ok features → has_many_pieces features ≡ true → outcome told (query_course index order faces file points) ≡ refusal (exactly (ended pieces_text))
   pieces features few reads many = read few (Ok features) reads
       ∙ ap (outcome told) (cond-true (has_many_pieces features) (refuses (exactly (ended pieces_text))) (asked_layer index order faces file.scale points features) many)
 
-  module _ (features : List Feature) (few : length layer ≤ limit) (reads : layer_of file.form file.scale layer ≡ Ok features) (few_pieces : HasFewPieces features) where
+  module _ (features : List Feature) (few : length layer ≤ most_text) (reads : layer_of file.form file.scale layer ≡ Ok features) (few_pieces : HasFewPieces features) where
     -- a layer whose pieces are few
     cut : outcome told (query_course index order faces file points) ≡ outcome told (asked_layer index order faces file.scale points features)
     cut = read few (Ok features) reads ∙ ap (outcome told) (on_few_pieces features (asked_layer index order faces file.scale points features) few_pieces)
@@ -94,10 +94,10 @@ module _ (told : Text → Told) (index : Index) (order : AskedOrder) (faces : Bo
     named : (name : Text) → order ≡ in_file name → outcome told (query_course index order faces file points) ≡ by_text (order_source name) by_order (told name)
     named name is_named = cut ∙ ap (λ (o : AskedOrder). outcome told (asked_layer index o faces file.scale points features)) is_named
 
-    pub order_long : (name text : Text) → order ≡ in_file name → told name ≡ holds text → limit < length text → outcome told (query_course index order faces file points) ≡ refusal (exactly (ended (codes "order: too long")))
+    pub order_long : (name text : Text) → order ≡ in_file name → told name ≡ holds text → most_text < length text → outcome told (query_course index order faces file points) ≡ refusal (exactly (ended (codes "order: too long")))
     order_long name text is_named also more = named name is_named ∙ long (order_source name) by_order (told name) text also more
 
-    pub order_line : (name text : Text) (fault : OrderFault) → order ≡ in_file name → told name ≡ holds text → length text ≤ limit → order_of (edge_count features) text ≡ Err fault
+    pub order_line : (name text : Text) (fault : OrderFault) → order ≡ in_file name → told name ≡ holds text → length text ≤ most_text → order_of (edge_count features) text ≡ Err fault
         → outcome told (query_course index order faces file points) ≡ refusal (exactly (ended (order_fault_text fault)))
     order_line name text fault is_named also less faulty = named name is_named ∙ (short (order_source name) by_order (told name) text also less
         ∙ ap (λ (r : Result (List ℕ) OrderFault). outcome told (order_in r (λ _. behind_order))) faulty)
@@ -121,15 +121,15 @@ module _ (told : Text → Told) (index : Index) (order : AskedOrder) (faces : Bo
         ∙ ap (outcome told) (on_few_covers (table_in features) (points_course index faces file.scale points features) few_covers))
 
     module _ (o : IsInOrder told order (edge_count features)) (apart : Accepts features) (few_covers : cover_sum (table_in features) ≤ most_members) (text : Text) (also : told points ≡ holds text) where
-      pub points_long : limit < length text → outcome told (query_course index order faces file points) ≡ partly (output_within limit faces file.scale features text) (ended (codes "points: too long"))
+      pub points_long : most_text < length text → outcome told (query_course index order faces file points) ≡ partly (output_within most_text faces file.scale features text) (ended (codes "points: too long"))
       points_long more =
-          let first = ended_lines (take limit text) in
-          let is_long = cond-true (nat_lt limit (length text)) (answered_long of_points.too_long (answered (answering features) first)) (answered (answering features) (lines text)) ((Decides-ltb limit (length text)).1 more) in
+          let first = ended_lines (take most_text text) in
+          let is_long = cond-true (nat_lt most_text (length text)) (answered_long of_points.too_long (answered (answering features) first)) (answered (answering features) (lines text)) ((Decides-ltb most_text (length text)).1 more) in
           accepted o apart few_covers ∙ (ap (by_lines of_points (answering features)) also
           ∙ (ap (λ (a : Answered Text Text). by_refusal (out_of a) a.refusal) (is_long ∙ ap (answered_long of_points.too_long) (all_answered (answer_line faces file.scale features) first))
           ∙ ap (λ out. partly out of_points.too_long) (joined (answer_line faces file.scale features) first)))
 
-      pub answered_all : length text ≤ limit → outcome told (query_course index order faces file points) ≡ output (exactly (output_of faces file.scale features text))
+      pub answered_all : length text ≤ most_text → outcome told (query_course index order faces file points) ≡ output (exactly (output_of faces file.scale features text))
       unfolding output_of
       answered_all less =
           accepted o apart few_covers ∙ (ap (by_lines of_points (answering features)) also

@@ -18,18 +18,18 @@ use Rattle.loc_course.specs.Sentences.{Steady, Wrote}
 use Rattle.loc_maps.specs.Conflicts.{Accepts, names_conflict}
 use Rattle.loc_maps.specs.LineTexts.{layer_fault_text, covers_text, pieces_text}
 use Rattle.loc_maps.specs.Located.{edges_of, table_in}
-use Rattle.loc_maps.specs.MapCourses.{LayerFile, limit}
+use Rattle.loc_maps.specs.MapCourses.{LayerFile}
+use Rattle.loc_spec_text.specs.Limits.{most_members, most_text}
 use Rattle.loc_maps.specs.Maps.{HasFewPieces, has_many_pieces}
 use Rattle.loc_trapdag.specs.Orders.{order_of}
 use Rattle.loc_trapdag.specs.declared.order.OrderFault.{OrderFault}
 use Rattle.loc_orders.specs.OrderTexts.{order_fault_text}
 use Rattle.loc_query.specs.Answered.{output_of, output_within}
 use Rattle.loc_query.specs.QueryCourses.{steps_by}
-use Rattle.loc_cover.specs.Legends.{most_members}
 
 -- the text is within the limit and reads as a layer of these features, its pieces are few, no two of its edges conflict, and its cover lists are few
 pub record IsAccepted (file : LayerFile) (layer : Text) (features : List Feature) : Type 0 where
-  pub within : length layer ≤ limit
+  pub within : length layer ≤ most_text
   pub reads : layer_of file.form file.scale layer ≡ Ok features
   pub few_pieces : HasFewPieces features
   pub apart : Accepts features
@@ -42,7 +42,7 @@ IsOrderTold told (shuffled_from number) = ⊤
 
 -- the text of the order's file, if that of a file is asked for, is told and within the limit, and has each of so many edges in one line
 abbrev pub IsInOrder : (Text → Told) → AskedOrder → ℕ → Type 0
-IsInOrder told (in_file name) edges = (text : Text) × (told name ≡ holds text) × (length text ≤ limit) × (order : List ℕ) × (order_of edges text ≡ Ok order)
+IsInOrder told (in_file name) edges = (text : Text) × (told name ≡ holds text) × (length text ≤ most_text) × (order : List ℕ) × (order_of edges text ≡ Ok order)
 IsInOrder told (shuffled_from number) edges = ⊤
 
 -- the edges of a layer
@@ -58,41 +58,41 @@ steps_in index (Err fault) = 0
 pub record Headline (index : Index) (order : AskedOrder) (faces : Bool) (file : LayerFile) (points : Text) (old new : Moment) (n n' : Stream) (status : ℕ) : Type 0 where
   -- With status 0 the layer is accepted, the order is one of its edges, the points are within the limit, and out has grown by exactly the defined answers.
   pub done : (layer text : Text) → old.shelf.told file.name ≡ holds layer → old.shelf.told points ≡ holds text → IsOrderTold old.shelf.told order → status ≡ 0
-      → (features : List Feature) × IsAccepted file layer features × IsInOrder old.shelf.told order (edge_count features) × (length text ≤ limit) × Appends old.out.written new.out.written (output_of faces file.scale features text)
+      → (features : List Feature) × IsAccepted file layer features × IsInOrder old.shelf.told order (edge_count features) × (length text ≤ most_text) × Appends old.out.written new.out.written (output_of faces file.scale features text)
   -- The status is 0 for every accepted layer, order of its edges and points within the limit, unless a read or a write failed.
   pub answers : (layer text : Text) (features : List Feature) → old.shelf.told file.name ≡ holds layer → old.shelf.told points ≡ holds text
-      → IsAccepted file layer features → IsInOrder old.shelf.told order (edge_count features) → length text ≤ limit → Steady old.shelf.read_faults new.shelf.read_faults → Steady old.out.faults new.out.faults
+      → IsAccepted file layer features → IsInOrder old.shelf.told order (edge_count features) → length text ≤ most_text → Steady old.shelf.read_faults new.shelf.read_faults → Steady old.out.faults new.out.faults
       → ((status ≡ 0) × Appends old.out.written new.out.written (output_of faces file.scale features text)) ⊎ ((status ≡ 5) × (new.out.written ≡ old.out.written))
   -- Else, unless a read failed, it is 1, nothing is on out, and the line on notes is that of the cause: the layer is too long,
-  pub layer_long : (layer : Text) → old.shelf.told file.name ≡ holds layer → limit < length layer → Steady old.shelf.read_faults new.shelf.read_faults
+  pub layer_long : (layer : Text) → old.shelf.told file.name ≡ holds layer → most_text < length layer → Steady old.shelf.read_faults new.shelf.read_faults
       → ((status ≡ 1) × (new.out.written ≡ old.out.written) × Wrote n n' (ended (codes "layer: too long"))) ⊎ ((status ≡ 5) × (new.out.written ≡ old.out.written))
   -- or is at fault,
-  pub layer_fault : (layer : Text) (fault : LayerFault) → old.shelf.told file.name ≡ holds layer → length layer ≤ limit → layer_of file.form file.scale layer ≡ Err fault → Steady old.shelf.read_faults new.shelf.read_faults
+  pub layer_fault : (layer : Text) (fault : LayerFault) → old.shelf.told file.name ≡ holds layer → length layer ≤ most_text → layer_of file.form file.scale layer ≡ Err fault → Steady old.shelf.read_faults new.shelf.read_faults
       → ((status ≡ 1) × (new.out.written ≡ old.out.written) × Wrote n n' (ended (layer_fault_text file.form fault))) ⊎ ((status ≡ 5) × (new.out.written ≡ old.out.written))
   -- or it reads, and its segments have too many pieces together,
-  pub pieces : (layer : Text) (features : List Feature) → old.shelf.told file.name ≡ holds layer → length layer ≤ limit → layer_of file.form file.scale layer ≡ Ok features
+  pub pieces : (layer : Text) (features : List Feature) → old.shelf.told file.name ≡ holds layer → length layer ≤ most_text → layer_of file.form file.scale layer ≡ Ok features
       → IsTrue (has_many_pieces features) → Steady old.shelf.read_faults new.shelf.read_faults
       → ((status ≡ 1) × (new.out.written ≡ old.out.written) × Wrote n n' (ended pieces_text)) ⊎ ((status ≡ 5) × (new.out.written ≡ old.out.written))
   -- or they are few, and the order is too long,
-  pub order_long : (layer text name : Text) (features : List Feature) → order ≡ in_file name → old.shelf.told file.name ≡ holds layer → length layer ≤ limit → layer_of file.form file.scale layer ≡ Ok features → HasFewPieces features
-      → old.shelf.told name ≡ holds text → limit < length text → Steady old.shelf.read_faults new.shelf.read_faults
+  pub order_long : (layer text name : Text) (features : List Feature) → order ≡ in_file name → old.shelf.told file.name ≡ holds layer → length layer ≤ most_text → layer_of file.form file.scale layer ≡ Ok features → HasFewPieces features
+      → old.shelf.told name ≡ holds text → most_text < length text → Steady old.shelf.read_faults new.shelf.read_faults
       → ((status ≡ 1) × (new.out.written ≡ old.out.written) × Wrote n n' (ended (codes "order: too long"))) ⊎ ((status ≡ 5) × (new.out.written ≡ old.out.written))
   -- or is at fault,
-  pub order_fault : (layer text name : Text) (features : List Feature) (fault : OrderFault) → order ≡ in_file name → old.shelf.told file.name ≡ holds layer → length layer ≤ limit → layer_of file.form file.scale layer ≡ Ok features → HasFewPieces features
-      → old.shelf.told name ≡ holds text → length text ≤ limit → order_of (edge_count features) text ≡ Err fault → Steady old.shelf.read_faults new.shelf.read_faults
+  pub order_fault : (layer text name : Text) (features : List Feature) (fault : OrderFault) → order ≡ in_file name → old.shelf.told file.name ≡ holds layer → length layer ≤ most_text → layer_of file.form file.scale layer ≡ Ok features → HasFewPieces features
+      → old.shelf.told name ≡ holds text → length text ≤ most_text → order_of (edge_count features) text ≡ Err fault → Steady old.shelf.read_faults new.shelf.read_faults
       → ((status ≡ 1) × (new.out.written ≡ old.out.written) × Wrote n n' (ended (order_fault_text fault))) ⊎ ((status ≡ 5) × (new.out.written ≡ old.out.written))
   -- or two edges of the layer conflict, and the line names two that do,
-  pub conflict : (layer : Text) (features : List Feature) → old.shelf.told file.name ≡ holds layer → length layer ≤ limit → layer_of file.form file.scale layer ≡ Ok features → HasFewPieces features
+  pub conflict : (layer : Text) (features : List Feature) → old.shelf.told file.name ≡ holds layer → length layer ≤ most_text → layer_of file.form file.scale layer ≡ Ok features → HasFewPieces features
       → IsInOrder old.shelf.told order (edge_count features) → IsTrue (has_conflict (edges_of features)) → Steady old.shelf.read_faults new.shelf.read_faults
       → ((status ≡ 1) × (new.out.written ≡ old.out.written) × (line : Text) × IsTrue (names_conflict file.scale (edges_of features) line) × Wrote n n' line) ⊎ ((status ≡ 5) × (new.out.written ≡ old.out.written))
   -- or its distinct cover lists have too many members together,
-  pub covers : (layer : Text) (features : List Feature) → old.shelf.told file.name ≡ holds layer → length layer ≤ limit → layer_of file.form file.scale layer ≡ Ok features → HasFewPieces features
+  pub covers : (layer : Text) (features : List Feature) → old.shelf.told file.name ≡ holds layer → length layer ≤ most_text → layer_of file.form file.scale layer ≡ Ok features → HasFewPieces features
       → IsInOrder old.shelf.told order (edge_count features) → Accepts features → most_members < cover_sum (table_in features) → Steady old.shelf.read_faults new.shelf.read_faults
       → ((status ≡ 1) × (new.out.written ≡ old.out.written) × Wrote n n' (ended covers_text)) ⊎ ((status ≡ 5) × (new.out.written ≡ old.out.written))
   -- or the layer is accepted and the points are too long: then the lines that end within the limit are answered, unless a write failed.
   pub points_long : (layer text : Text) (features : List Feature) → old.shelf.told file.name ≡ holds layer → old.shelf.told points ≡ holds text
-      → IsAccepted file layer features → IsInOrder old.shelf.told order (edge_count features) → limit < length text → Steady old.shelf.read_faults new.shelf.read_faults → Steady old.out.faults new.out.faults
-      → ((status ≡ 1) × Appends old.out.written new.out.written (output_within limit faces file.scale features text) × Wrote n n' (ended (codes "points: too long"))) ⊎ ((status ≡ 5) × (new.out.written ≡ old.out.written))
+      → IsAccepted file layer features → IsInOrder old.shelf.told order (edge_count features) → most_text < length text → Steady old.shelf.read_faults new.shelf.read_faults → Steady old.out.faults new.out.faults
+      → ((status ≡ 1) × Appends old.out.written new.out.written (output_within most_text faces file.scale features text) × Wrote n n' (ended (codes "points: too long"))) ⊎ ((status ≡ 5) × (new.out.written ≡ old.out.written))
   -- So many steps were counted at most for each line of the points.
   pub steps : (layer text : Text) → old.shelf.told file.name ≡ holds layer → old.shelf.told points ≡ holds text
       → new.steps ≤ old.steps + length (lines text) * steps_in index (layer_of file.form file.scale layer)

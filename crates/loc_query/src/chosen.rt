@@ -18,7 +18,7 @@ ghost use Rattle.loc_query.specs.Chosen.{HasFewNodes, IsIndexFor, index_of, node
 ghost use Rattle.loc_query.specs.QueryCourses.{steps_by};
 ghost use Rattle.loc_query.specs.declared.chosen.Chosen.TheVariants.{Tree};
 
-use loc_course::{Scale, Stop};
+use loc_course::Stop;
 use loc_edges::{EdgeTable, Views};
 use loc_geom::{Point, Steps};
 use loc_maps::{Plane, judge_over};
@@ -27,6 +27,7 @@ use loc_place::{Deep, Locator, Place};
 use loc_rings::Layer;
 use loc_scan::Scan;
 use loc_spec_asked::Index;
+use loc_spec_text::Scale;
 use loc_status::VecStatus;
 use loc_trapdag::TrapIndex;
 use loc_treeidx::TreeIndex;

@@ -192,12 +192,12 @@ fn fix_black_sibling<K: Links>(links: &mut K, path: &mut Path, at: Link, turn: T
         None => true,
         Some(sibling) => match red_child(links, sibling, other_side(turn)) {
             Some(far) => {
-                rotate_sibling(links, path, at, turn, sibling, far);
+                rotate_sibling(links, path, Fork { at, turn, sibling }, far);
                 true
             }
             None => match red_child(links, sibling, turn) {
                 Some(near) => {
-                    rotate_near_nephew(links, path, at, turn, sibling, near);
+                    rotate_near_nephew(links, path, Fork { at, turn, sibling }, near);
                     true
                 }
                 None => recolour_sibling(links, at, sibling),
@@ -206,45 +206,39 @@ fn fix_black_sibling<K: Links>(links: &mut K, path: &mut Path, at: Link, turn: T
     }
 }
 
-/// The sibling's far child is red: the sibling rises over `at`.
-fn rotate_sibling<K: Links>(
-    links: &mut K,
-    path: &mut Path,
+/// A node, the side on which it lacks a black node, and its child on the other side.
+#[derive(Clone, Copy)]
+struct Fork {
     at: Link,
     turn: Turn,
     sibling: Link,
-    far: Link,
-)
+}
+
+/// The sibling's far child is red: the sibling rises over the node.
+fn rotate_sibling<K: Links>(links: &mut K, path: &mut Path, fork: Fork, far: Link)
     requires room { 135 ≤ (K.nodes links.old).spare }
     requires short { length path.old.items ≤ 42 }
-    requires place { (content : List ℕ) × (siblings : Siblings (K.nodes links.old) path.old.items at turn sibling content) × IsRedTop far siblings.far }
-    ensures tree { (content : List ℕ) (siblings : Siblings (K.nodes links.old) path.old.items at turn sibling content) → IsRedTop far siblings.far → Holds (K.nodes links.new) content }
+    requires place { (content : List ℕ) × (siblings : Siblings (K.nodes links.old) path.old.items fork.at fork.turn fork.sibling content) × IsRedTop far siblings.far }
+    ensures tree { (content : List ℕ) (siblings : Siblings (K.nodes links.old) path.old.items fork.at fork.turn fork.sibling content) → IsRedTop far siblings.far → Holds (K.nodes links.new) content }
     ensures within { Within 0 3 (K.nodes links.old) (K.nodes links.new) }
 {
-    let colour = links.colour(at);
-    push(path, at, other_side(turn));
-    rotate(links, path, sibling, Colour::Black, colour);
+    let colour = links.colour(fork.at);
+    push(path, fork.at, other_side(fork.turn));
+    rotate(links, path, fork.sibling, Colour::Black, colour);
     links.set_colour(far, Colour::Black);
 }
 
-/// The sibling's near child is red: it rises over the sibling and over `at`.
-fn rotate_near_nephew<K: Links>(
-    links: &mut K,
-    path: &mut Path,
-    at: Link,
-    turn: Turn,
-    sibling: Link,
-    near: Link,
-)
+/// The sibling's near child is red: it rises over the sibling and over the node.
+fn rotate_near_nephew<K: Links>(links: &mut K, path: &mut Path, fork: Fork, near: Link)
     requires room { 270 ≤ (K.nodes links.old).spare }
     requires short { length path.old.items ≤ 42 }
-    requires place { (content : List ℕ) × (siblings : Siblings (K.nodes links.old) path.old.items at turn sibling content) × IsRedTop near siblings.near }
-    ensures tree { (content : List ℕ) (siblings : Siblings (K.nodes links.old) path.old.items at turn sibling content) → IsRedTop near siblings.near → Holds (K.nodes links.new) content }
+    requires place { (content : List ℕ) × (siblings : Siblings (K.nodes links.old) path.old.items fork.at fork.turn fork.sibling content) × IsRedTop near siblings.near }
+    ensures tree { (content : List ℕ) (siblings : Siblings (K.nodes links.old) path.old.items fork.at fork.turn fork.sibling content) → IsRedTop near siblings.near → Holds (K.nodes links.new) content }
     ensures within { Within 0 6 (K.nodes links.old) (K.nodes links.new) }
 {
-    let colour = links.colour(at);
-    push(path, at, other_side(turn));
-    push(path, sibling, turn);
+    let colour = links.colour(fork.at);
+    push(path, fork.at, other_side(fork.turn));
+    push(path, fork.sibling, fork.turn);
     let (_, middle) = rotate(links, path, near, Colour::Black, Colour::Red);
     rotate(links, path, middle, Colour::Black, colour);
 }

@@ -12,14 +12,14 @@ use Rattle.loc_csvform.specs.Layer.{LayerRead, layer_of}
 use Rattle.loc_csvform.specs.declared.faults.LayerFault.{LayerFault}
 use Rattle.loc_edges.specs.Conflicts.{has_conflict}
 use Rattle.loc_edges.specs.Layers.{layer_rings}
-use Rattle.loc_node.specs.Pieces.{most_pieces}
+use Rattle.loc_spec_text.specs.Limits.{most_pieces, most_text}
 use Rattle.loc_course.specs.Courses.{Source, Course, refuses}
 use Rattle.loc_course.specs.Outcomes.{Outcome, refusal, output, by_text, exactly, outcome}
 use Rattle.loc_course.specs.Stops.{source}
 use Rattle.loc_maps.specs.Conflicts.{names_conflict}
 use Rattle.loc_maps.specs.LineTexts.{layer_fault_text, pieces_text}
 use Rattle.loc_maps.specs.Located.{edges_of, table_in}
-use Rattle.loc_maps.specs.MapCourses.{LayerFile, apart_course, layer_in, limit}
+use Rattle.loc_maps.specs.MapCourses.{LayerFile, apart_course, layer_in}
 use Rattle.loc_maps.specs.Maps.{HasFewPieces, has_many_pieces}
 use Rattle.loc_maps.proofs.Judged.{on_apart, on_few_pieces}
 use Rattle.loc_reach.specs.SpanCourses.{answered_course, met_output, spans_course, stab_course}
@@ -40,26 +40,26 @@ module _ (told : Text → Told) (file : LayerFile) (spans layer : Text) (is : to
   behind r = outcome told (layer_in file.form r next)
 
   abbrev of_layer : Source
-  of_layer = source file.name limit (ended (codes "layer: too long"))
+  of_layer = source file.name most_text (ended (codes "layer: too long"))
 
   abbrev of_spans : Source
-  of_spans = source spans limit (ended (codes "spans: too long"))
+  of_spans = source spans most_text (ended (codes "spans: too long"))
 
-  pub layer_long : limit < length layer → outcome told (stab_course file spans) ≡ refusal (exactly (ended (codes "layer: too long")))
+  pub layer_long : most_text < length layer → outcome told (stab_course file spans) ≡ refusal (exactly (ended (codes "layer: too long")))
   layer_long more = long of_layer (λ text. behind (layer_of file.form file.scale text)) (told file.name) layer is more
 
-  read : length layer ≤ limit → (r : LayerRead) → layer_of file.form file.scale layer ≡ r → outcome told (stab_course file spans) ≡ behind r
+  read : length layer ≤ most_text → (r : LayerRead) → layer_of file.form file.scale layer ≡ r → outcome told (stab_course file spans) ≡ behind r
   read few r reads = short of_layer (λ text. behind (layer_of file.form file.scale text)) (told file.name) layer is few ∙ ap behind reads
 
-  pub layer_line : (fault : LayerFault) → length layer ≤ limit → layer_of file.form file.scale layer ≡ Err fault → outcome told (stab_course file spans) ≡ refusal (exactly (ended (layer_fault_text file.form fault)))
+  pub layer_line : (fault : LayerFault) → length layer ≤ most_text → layer_of file.form file.scale layer ≡ Err fault → outcome told (stab_course file spans) ≡ refusal (exactly (ended (layer_fault_text file.form fault)))
   layer_line fault few reads = read few (Err fault) reads
 
   module _ (features : List Feature) where
-    pub pieces : length layer ≤ limit → layer_of file.form file.scale layer ≡ Ok features → most_pieces < piece_count (layer_rings features) → outcome told (stab_course file spans) ≡ refusal (exactly (ended pieces_text))
+    pub pieces : length layer ≤ most_text → layer_of file.form file.scale layer ≡ Ok features → most_pieces < piece_count (layer_rings features) → outcome told (stab_course file spans) ≡ refusal (exactly (ended pieces_text))
     pieces few reads many = read few (Ok features) reads
         ∙ ap (outcome told) (cond-true (has_many_pieces features) (refuses (exactly (ended pieces_text))) (next features) ((Decides-ltb most_pieces (piece_count (layer_rings features))).1 many))
 
-    pub conflict : length layer ≤ limit → layer_of file.form file.scale layer ≡ Ok features → HasFewPieces features → has_conflict (edges_of features) ≡ true → outcome told (stab_course file spans) ≡ refusal (names_conflict file.scale (edges_of features))
+    pub conflict : length layer ≤ most_text → layer_of file.form file.scale layer ≡ Ok features → HasFewPieces features → has_conflict (edges_of features) ≡ true → outcome told (stab_course file spans) ≡ refusal (names_conflict file.scale (edges_of features))
     conflict few reads few_pieces has = read few (Ok features) reads
         ∙ ap (outcome told) (on_few_pieces features (next features) few_pieces ∙ cond-true (has_conflict (edges_of features)) (refuses (names_conflict file.scale (edges_of features))) (spans_course file.scale (table_in features) spans) has)
 
@@ -70,8 +70,8 @@ module _ (told : Text → Told) (file : LayerFile) (spans layer : Text) (is : to
       apart : outcome told (stab_course file spans) ≡ by_text of_spans by_spans (told spans)
       apart = read a.within (Ok features) a.reads ∙ ap (outcome told) (on_few_pieces features (next features) a.few_pieces ∙ on_apart file.scale (edges_of features) (spans_course file.scale (table_in features) spans) a.apart)
 
-      pub spans_long : (text : Text) → told spans ≡ holds text → limit < length text → outcome told (stab_course file spans) ≡ refusal (exactly (ended (codes "spans: too long")))
+      pub spans_long : (text : Text) → told spans ≡ holds text → most_text < length text → outcome told (stab_course file spans) ≡ refusal (exactly (ended (codes "spans: too long")))
       spans_long text also more = apart ∙ long of_spans by_spans (told spans) text also more
 
-      pub answered : (text : Text) → told spans ≡ holds text → length text ≤ limit → outcome told (stab_course file spans) ≡ output (exactly (met_output file.scale (table_in features) text))
+      pub answered : (text : Text) → told spans ≡ holds text → length text ≤ most_text → outcome told (stab_course file spans) ≡ output (exactly (met_output file.scale (table_in features) text))
       answered text also few = apart ∙ short of_spans by_spans (told spans) text also few

@@ -12,7 +12,7 @@ use Rattle.loc_rings.specs.Values.{Feature}
 use Rattle.loc_csvform.specs.Layer.{LayerRead, layer_of}
 use Rattle.loc_edges.specs.Conflicts.{has_conflict}
 use Rattle.loc_edges.specs.Layers.{layer_rings}
-use Rattle.loc_node.specs.Pieces.{most_pieces}
+use Rattle.loc_spec_text.specs.Limits.{most_pieces, most_text}
 use Rattle.loc_maps.specs.Maps.{HasFewPieces}
 use Rattle.loc_maps.proofs.Judged.{pieces_all}
 use Rattle.loc_course.specs.Courses.{Course, refuses}
@@ -24,7 +24,7 @@ use Rattle.loc_course.proofs.Told.{it_exactly}
 use Rattle.loc_maps.specs.Conflicts.{names_conflict}
 use Rattle.loc_maps.specs.LineTexts.{layer_fault_text, pieces_text}
 use Rattle.loc_maps.specs.Located.{edges_of, table_in}
-use Rattle.loc_maps.specs.MapCourses.{LayerFile, apart_course, layer_in, limit}
+use Rattle.loc_maps.specs.MapCourses.{LayerFile, apart_course, layer_in}
 use Rattle.loc_reach.specs.SpanCourses.{met_output, spans_course, stab_course, text_steps}
 use Rattle.loc_reach.specs.Stabs.{IsApart, IsRefused, OrMemory, Stabs}
 use Rattle.loc_reach.proofs.Plainly.{stab_plain}
@@ -37,25 +37,25 @@ not_done o by before new is none ends = none (subst (λ (x : Outcome). EndsSo x 
 module _ (told : Text → Told) (file : LayerFile) (spans layer text : Text) (is : told file.name ≡ holds layer) (also : told spans ≡ holds text) where
   -- where the command was done, no edges of its layer conflict, and its spans are not too long
   abbrev WasApart : Type 0
-  WasApart = (features : List Feature) × IsApart file layer features × (length text ≤ limit)
+  WasApart = (features : List Feature) × IsApart file layer features × (length text ≤ most_text)
 
   was_apart : (before : Option Text) (new : Moment) → EndsSo (outcome told (stab_course file spans)) before new None → WasApart
-  was_apart before new ends = elim (long_or_short limit layer) [
+  was_apart before new ends = elim (long_or_short most_text layer) [
     | inl long ↦ absurd (not_done _ _ before new (rows.layer_long told file spans layer is long.0) (λ e. e) ends)
     | inr short ↦ by_read short.0 (layer_of file.form file.scale layer) refl
   ]
     where
       by_spans : (features : List Feature) → IsApart file layer features → WasApart
-      by_spans features a = elim (long_or_short limit text) [
+      by_spans features a = elim (long_or_short most_text text) [
         | inl long ↦ absurd (not_done _ _ before new (rows.spans_long told file spans layer is features a text also long.0) (λ e. e) ends)
         | inr short ↦ (features, a, short.0)
       ]
 
-      by_conflict : (features : List Feature) → length layer ≤ limit → layer_of file.form file.scale layer ≡ Ok features → HasFewPieces features → (b : Bool) → has_conflict (edges_of features) ≡ b → WasApart
+      by_conflict : (features : List Feature) → length layer ≤ most_text → layer_of file.form file.scale layer ≡ Ok features → HasFewPieces features → (b : Bool) → has_conflict (edges_of features) ≡ b → WasApart
       by_conflict features few reads pieces true has = absurd (not_done _ _ before new (rows.conflict told file spans layer is features few reads pieces has) (λ e. e) ends)
       by_conflict features few reads pieces false has = by_spans features (record { within = few; reads = reads; few_pieces = pieces; apart = subst (λ (b : Bool). IsTrue (not b)) (sym has) refl })
 
-      by_read : length layer ≤ limit → (r : LayerRead) → layer_of file.form file.scale layer ≡ r → WasApart
+      by_read : length layer ≤ most_text → (r : LayerRead) → layer_of file.form file.scale layer ≡ r → WasApart
       by_read few (Err fault) reads = absurd (not_done _ _ before new (rows.layer_line told file spans layer is fault few reads) (λ e. e) ends)
       by_read few (Ok features) reads = elim (cases_lt most_pieces (piece_count (layer_rings features))) [
         | inl many ↦ absurd (not_done _ _ before new (rows.pieces told file spans layer is features few reads many) (λ e. e) ends)

@@ -17,7 +17,8 @@ use Rattle.loc_course.specs.Courses.{Course, reads, searches, writes}
 use Rattle.loc_course.specs.Outcomes.{exactly}
 use Rattle.loc_course.specs.Stops.{source}
 use Rattle.loc_maps.specs.Located.{edges_of, table_in}
-use Rattle.loc_maps.specs.MapCourses.{LayerFile, apart_course, layer_course, limit}
+use Rattle.loc_maps.specs.MapCourses.{LayerFile, apart_course, layer_course}
+use Rattle.loc_spec_text.specs.Limits.{most_text}
 
 -- two to the number of steps of the searches for a span is at most this: two among the corners, and one down the version of its low point
 abbrev pub seek_bound : Table → Point → ℕ
@@ -50,7 +51,7 @@ answered_course scale t text = searches (text_steps scale t text) (writes (exact
 
 -- a file of spans is read whole, and its lines are answered
 abbrev pub spans_course : ℕ → Table → Text → Course
-spans_course scale t spans = reads (source spans limit (ended (codes "spans: too long"))) (answered_course scale t)
+spans_course scale t spans = reads (source spans most_text (ended (codes "spans: too long"))) (answered_course scale t)
 
 -- a layer, of which no two edges conflict, and then a file of spans
 abbrev pub stab_course : LayerFile → Text → Course

@@ -11,19 +11,19 @@ use Rattle.loc_csvform.specs.Layer.{layer_of}
 use Rattle.loc_csvform.specs.declared.faults.LayerFault.{LayerFault}
 use Rattle.loc_edges.specs.Conflicts.{has_conflict}
 use Rattle.loc_edges.specs.Layers.{layer_rings}
-use Rattle.loc_node.specs.Pieces.{most_pieces}
+use Rattle.loc_spec_text.specs.Limits.{most_pieces, most_text}
 use Rattle.loc_course.specs.Moments.{Moment}
 use Rattle.loc_course.specs.Sentences.{Steady, Wrote}
 use Rattle.loc_maps.specs.Conflicts.{Accepts, names_conflict}
 use Rattle.loc_maps.specs.LineTexts.{layer_fault_text, pieces_text}
 use Rattle.loc_maps.specs.Located.{edges_of, table_in}
-use Rattle.loc_maps.specs.MapCourses.{LayerFile, limit}
+use Rattle.loc_maps.specs.MapCourses.{LayerFile}
 use Rattle.loc_maps.specs.Maps.{HasFewPieces}
 use Rattle.loc_reach.specs.SpanCourses.{met_output, text_steps}
 
 -- the text is within the limit and reads as a layer of these features, its pieces are few, and no two of its edges conflict
 pub record IsApart (file : LayerFile) (layer : Text) (features : List Feature) : Type 0 where
-  pub within : length layer ≤ limit
+  pub within : length layer ≤ most_text
   pub reads : layer_of file.form file.scale layer ≡ Ok features
   pub few_pieces : HasFewPieces features
   pub apart : Accepts features
@@ -40,27 +40,27 @@ IsRefused old new n n' status line = (status ≡ 1) × (new.out.written ≡ old.
 pub record Stabs (file : LayerFile) (spans : Text) (old new : Moment) (n n' : Stream) (status : ℕ) : Type 0 where
   -- With status 0 the layer has few pieces, no two of its edges conflict, the spans are within the limit, and out has grown by exactly the answers to their lines.
   pub done : (layer text : Text) → old.shelf.told file.name ≡ holds layer → old.shelf.told spans ≡ holds text → status ≡ 0
-      → (features : List Feature) × IsApart file layer features × (length text ≤ limit) × Appends old.out.written new.out.written (met_output file.scale (table_in features) text)
+      → (features : List Feature) × IsApart file layer features × (length text ≤ most_text) × Appends old.out.written new.out.written (met_output file.scale (table_in features) text)
   -- The status is 0 for all such texts, unless a read or a write failed.
-  pub answers : (layer text : Text) (features : List Feature) → old.shelf.told file.name ≡ holds layer → old.shelf.told spans ≡ holds text → IsApart file layer features → length text ≤ limit
+  pub answers : (layer text : Text) (features : List Feature) → old.shelf.told file.name ≡ holds layer → old.shelf.told spans ≡ holds text → IsApart file layer features → length text ≤ most_text
       → Steady old.shelf.read_faults new.shelf.read_faults → Steady old.out.faults new.out.faults
       → OrMemory old new status ((status ≡ 0) × Appends old.out.written new.out.written (met_output file.scale (table_in features) text))
   -- Else, unless a read failed, it is 1, nothing is on out, and the line on notes is that of the cause: the layer is too long,
-  pub layer_long : (layer : Text) → old.shelf.told file.name ≡ holds layer → limit < length layer → Steady old.shelf.read_faults new.shelf.read_faults
+  pub layer_long : (layer : Text) → old.shelf.told file.name ≡ holds layer → most_text < length layer → Steady old.shelf.read_faults new.shelf.read_faults
       → OrMemory old new status (IsRefused old new n n' status (ended (codes "layer: too long")))
   -- or is at fault,
-  pub layer_fault : (layer : Text) (fault : LayerFault) → old.shelf.told file.name ≡ holds layer → length layer ≤ limit → layer_of file.form file.scale layer ≡ Err fault → Steady old.shelf.read_faults new.shelf.read_faults
+  pub layer_fault : (layer : Text) (fault : LayerFault) → old.shelf.told file.name ≡ holds layer → length layer ≤ most_text → layer_of file.form file.scale layer ≡ Err fault → Steady old.shelf.read_faults new.shelf.read_faults
       → OrMemory old new status (IsRefused old new n n' status (ended (layer_fault_text file.form fault)))
   -- or its segments have too many pieces together,
-  pub pieces : (layer : Text) (features : List Feature) → old.shelf.told file.name ≡ holds layer → length layer ≤ limit → layer_of file.form file.scale layer ≡ Ok features
+  pub pieces : (layer : Text) (features : List Feature) → old.shelf.told file.name ≡ holds layer → length layer ≤ most_text → layer_of file.form file.scale layer ≡ Ok features
       → most_pieces < piece_count (layer_rings features) → Steady old.shelf.read_faults new.shelf.read_faults
       → OrMemory old new status (IsRefused old new n n' status (ended pieces_text))
   -- or two of its edges conflict, and the line names two that do,
-  pub conflict : (layer : Text) (features : List Feature) → old.shelf.told file.name ≡ holds layer → length layer ≤ limit → layer_of file.form file.scale layer ≡ Ok features
+  pub conflict : (layer : Text) (features : List Feature) → old.shelf.told file.name ≡ holds layer → length layer ≤ most_text → layer_of file.form file.scale layer ≡ Ok features
       → HasFewPieces features → IsTrue (has_conflict (edges_of features)) → Steady old.shelf.read_faults new.shelf.read_faults
       → OrMemory old new status ((line : Text) × IsTrue (names_conflict file.scale (edges_of features) line) × IsRefused old new n n' status line)
   -- or the spans are too long.
-  pub spans_long : (layer text : Text) (features : List Feature) → old.shelf.told file.name ≡ holds layer → old.shelf.told spans ≡ holds text → IsApart file layer features → limit < length text
+  pub spans_long : (layer text : Text) (features : List Feature) → old.shelf.told file.name ≡ holds layer → old.shelf.told spans ≡ holds text → IsApart file layer features → most_text < length text
       → Steady old.shelf.read_faults new.shelf.read_faults → OrMemory old new status (IsRefused old new n n' status (ended (codes "spans: too long")))
   -- No more steps were counted than the bounds of the lines together.
   pub steps : (layer text : Text) (features : List Feature) → old.shelf.told file.name ≡ holds layer → old.shelf.told spans ≡ holds text → layer_of file.form file.scale layer ≡ Ok features

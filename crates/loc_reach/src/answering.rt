@@ -13,13 +13,11 @@ use loc_edges::Views;
 use loc_geom::{Point, Steps};
 use loc_io::{Sink, WriteFault};
 use loc_page::Page;
+use loc_spec_text::MOST_LINE;
 use loc_stab::put_met;
 use loc_treeidx::TreeIndex;
 use loc_wkt::{next_line, read_span};
 use std::sync::ledger::Ledger;
-
-// The longest line that is read as a span.
-const MOST_BYTES: usize = 4096;
 
 // The span of a line of at most 4096 bytes.
 fn span_in(line: &[u8], scale: u8) -> Option<(Point, Point)>
@@ -27,7 +25,7 @@ fn span_in(line: &[u8], scale: u8) -> Option<(Point, Point)>
     ensures value { result ≡ span_of scale line.now }
     ensures span { IfSome result (λ span. IsSpan span.0 span.1) }
 {
-    if line.len() > MOST_BYTES {
+    if line.len() > MOST_LINE {
         return None;
     }
     read_span(line, scale)

@@ -8,18 +8,15 @@ ghost use Rattle.loc_maps.specs.MapCourses.{layer_file};
 ghost use Rattle.loc_reach.specs.SpanCourses.{answered_course, stab_course};
 
 use crate::answering::write_answers;
-use loc_course::{Scale, Stop, read_source};
+use loc_course::{Stop, read_source};
 use loc_geom::Steps;
 use loc_io::{Shelf, Sink};
 use loc_maps::{SweptTable, read_layer_file, sweep_layer};
-use loc_spec_text::Form;
+use loc_spec_text::{Form, MOST_TEXT, Scale};
 use loc_treeidx::TreeIndex;
 use loc_treeidx::laws::swept_stands;
 use std::alloc::Global;
 use std::sync::ledger::Ledger;
-
-// The most bytes of a spans text.
-const LIMIT: usize = 268_435_456;
 
 // Seeks the spans of a text, and writes the answers to its lines.
 fn write_spans<O: Sink, L: Ledger>(
@@ -56,6 +53,6 @@ pub fn stab<F: Shelf, O: Sink, L: Ledger>(
     let layer = read_layer_file(alloc, shelf, layer_name, form, scale)?;
     let plane: SweptTable<TreeIndex> = sweep_layer(alloc, &layer, scale)?;
     swept_stands(&plane.table, &plane.status);
-    let text = read_source(alloc, shelf, spans_name, LIMIT, b"spans: too long")?;
+    let text = read_source(alloc, shelf, spans_name, MOST_TEXT, b"spans: too long")?;
     write_spans(&plane, &text, scale, out, steps)
 }

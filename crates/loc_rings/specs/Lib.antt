@@ -3,3 +3,4 @@ pub mod Values
 pub mod Kept
 pub mod Layers
 pub mod Flags
+pub mod Cases

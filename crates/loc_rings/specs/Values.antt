@@ -1,4 +1,4 @@
--- Rings, polygons and features as values. The words: `IsRing`, `with_ring`, `rings_before`, `cut_into`, `most_id_bytes`, `Feature`, `rings_of`, `unnamed`.
+-- Rings, polygons and features as values. The words: `IsRing`, `with_ring`, `rings_before`, `cut_into`, `Feature`, `rings_of`, `unnamed`.
 use Rattle.std.specs.Prelude.{◌≡◌, ℕ, ◌-◌, ◌≤◌, List, [], ◌∷◌, ◌++◌, length, take, drop, slice_get}
 use Rattle.loc_spec_plane.specs.Rings.{Ring, Rings}
 use Rattle.loc_spec_text.specs.Reading.{Polygons, all_rings}
@@ -23,10 +23,6 @@ abbrev pub cut_into : List ℕ → Rings → Polygons
 cut_into [] rings = []
 cut_into (start ∷ []) rings = drop start rings ∷ []
 cut_into (start ∷ next ∷ starts) rings = take (next - start) (drop start rings) ∷ cut_into (next ∷ starts) rings
-
--- how many bytes an id may have
-abbrev pub most_id_bytes : ℕ
-most_id_bytes = 200
 
 -- the bytes of an id, and polygons
 pub record Feature : Type 0 where

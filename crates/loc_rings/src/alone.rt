@@ -1,6 +1,7 @@
 // The rings of a feature as layers: each ring as a feature, and one polygon as the only feature.
 
 ghost use Rattle.std.specs.Prelude.{◌≡◌, ◌^◌, ◌+◌, ◌-◌, ◌<◌, ◌≤◌, [], ◌∷◌, length, map, slice_index_or, slice_range, IfOk};
+ghost use Rattle.loc_spec_text.specs.Limits.{most_points};
 ghost use Rattle.loc_spec_text.specs.Reading.{all_rings};
 ghost use Rattle.loc_rings.specs.Layers.{point_count};
 ghost use Rattle.loc_rings.specs.Values.{IsRing, rings_of, unnamed};
@@ -40,7 +41,7 @@ fn lone(alloc: Global, ring: &[Point]) -> Result<Feature, AllocError>
 impl Layer {
     /// The layer whose features are the rings of a feature, in order. Their ids are empty.
     pub fn of_rings(alloc: Global, feature: &Feature) -> Result<Layer, AllocError>
-        requires few { point_count feature.now ≤ 2 ^ 20 }
+        requires few { point_count feature.now ≤ most_points }
         ensures { IfOk result (λ layer. layer ≡ map (λ ring. unnamed (ring ∷ [])) (rings_of feature.now)) }
     {
         let rings = feature.rings();
@@ -53,7 +54,7 @@ impl Layer {
 
     /// The layer whose one feature is polygon n of a feature. Its id is empty.
     pub fn of_polygon(alloc: Global, feature: &Feature, n: u32) -> Result<Layer, AllocError>
-        requires few { point_count feature.now ≤ 2 ^ 20 }
+        requires few { point_count feature.now ≤ most_points }
         requires in_range { n < length feature.now.polygons }
         ensures { IfOk result (λ layer. layer ≡ unnamed (slice_index_or feature.now.polygons n []) ∷ []) }
     {

@@ -1,7 +1,7 @@
 // A feature: an id and its rings.
 
 ghost use Rattle.std.specs.Prelude.{◌≡◌, ◌≤◌, length, vec_len};
-ghost use Rattle.loc_rings.specs.Values.{most_id_bytes};
+ghost use Rattle.loc_spec_text.specs.Limits.{most_id_bytes};
 
 use crate::rings::Rings;
 use std::marker::Model;
@@ -13,9 +13,12 @@ pub struct Feature {
     rings: Rings,
 }
 
+const _: () = prove!(size_of::<Feature>() <= 56);
+
 impl Model for Feature {
     ghost use Rattle.std.specs.Prelude.{◌≤◌, vec_len};
-    ghost use Rattle.loc_rings.specs.Values.{Feature as FeatureValue, most_id_bytes};
+    ghost use Rattle.loc_rings.specs.Values.{Feature as FeatureValue};
+    ghost use Rattle.loc_spec_text.specs.Limits.{most_id_bytes};
 
     ghost Value = { FeatureValue };
 

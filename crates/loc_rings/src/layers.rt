@@ -1,6 +1,7 @@
 // A layer: its features, within the limits.
 
-ghost use Rattle.std.specs.Prelude.{◌≡◌, ◌^◌, ◌+◌, ◌<◌, ◌≤◌, [], ◌∷◌, ◌++◌, length, slice_get, map, sum_by, nat_le, Some, IfSome, MatchOption, IfOk, OnOk, OnErr};
+ghost use Rattle.std.specs.Prelude.{◌≡◌, ◌+◌, ◌<◌, ◌≤◌, [], ◌∷◌, ◌++◌, length, slice_get, map, sum_by, nat_le, Some, IfSome, MatchOption, IfOk, OnOk, OnErr};
+ghost use Rattle.loc_spec_text.specs.Limits.{most_features, most_points};
 ghost use Rattle.loc_spec_text.specs.Reading.{all_rings};
 ghost use Rattle.loc_rings.specs.Flags.{flagged, unflagged};
 ghost use Rattle.loc_rings.specs.Layers.{IsLayer, point_count, layer_points};
@@ -8,12 +9,9 @@ ghost use Rattle.loc_rings.specs.Values.{Feature as FeatureOf};
 
 use crate::features::Feature;
 use crate::rings::Rings;
+use loc_spec_text::{MOST_FEATURES, MOST_POINTS};
 use std::alloc::{AllocError, Global};
 use std::marker::Model;
-
-const MAX_FEATURES: usize = 1 << 18;
-
-const MAX_POINTS: usize = 1 << 20;
 
 /// Features in the order in which they were added: at most 2^18, with at most 2^20 written ring points together.
 #[derive(Drop)]
@@ -37,14 +35,14 @@ impl Model for Layer {
 
 // How many points there are with those of these rings, unless they pass the limit.
 fn points_with(before: usize, rings: &Rings) -> Option<usize>
-    requires { before ≤ 2 ^ 20 }
-    ensures count { MatchOption result (2 ^ 20 < before + sum_by length (all_rings rings.now)) (λ points. points ≡ before + sum_by length (all_rings rings.now)) }
-    ensures within { IfSome result (λ points. points ≤ 2 ^ 20) }
+    requires { before ≤ most_points }
+    ensures count { MatchOption result (most_points < before + sum_by length (all_rings rings.now)) (λ points. points ≡ before + sum_by length (all_rings rings.now)) }
+    ensures within { IfSome result (λ points. points ≤ most_points) }
 {
     let mut points = before;
     for n in 0..rings.len() {
         let count = rings.ring(n).len();
-        if count > MAX_POINTS - points {
+        if count > MOST_POINTS - points {
             return None;
         }
         points += count;
@@ -65,22 +63,22 @@ impl Layer {
 
     /// Whether the layer has as many features as it may.
     pub fn is_full(&self) -> bool
-        ensures { result ≡ nat_le (2 ^ 18) (length self.now) }
+        ensures { result ≡ nat_le most_features (length self.now) }
     {
-        self.features.len() >= MAX_FEATURES
+        self.features.len() >= MOST_FEATURES
     }
 
     /// Whether the layer stays within its limit of ring points with this feature.
     pub fn has_room(&self, feature: &Feature) -> bool
-        ensures { result ≡ nat_le (layer_points self.now + point_count feature.now) (2 ^ 20) }
+        ensures { result ≡ nat_le (layer_points self.now + point_count feature.now) most_points }
     {
         points_with(self.points, feature.rings()).is_some()
     }
 
     /// Appends a feature. A refusal drops it, and leaves the layer as it was.
     pub fn add(&mut self, feature: Feature) -> Result<(), AllocError>
-        requires few_features { length self.old < 2 ^ 18 }
-        requires few_points { layer_points self.old + point_count feature ≤ 2 ^ 20 }
+        requires few_features { length self.old < most_features }
+        requires few_points { layer_points self.old + point_count feature ≤ most_points }
         ensures ok { OnOk result (self.new ≡ self.old ++ feature ∷ []) }
         ensures err { OnErr result (self.new ≡ self.old) }
     {
@@ -123,7 +121,7 @@ impl Layer {
     /// A copy of the id of each feature, in order.
     pub fn ids(&self, alloc: Global) -> Result<Vec<Vec<u8>>, AllocError>
         ensures value { IfOk result (λ ids. map (λ id. id.items) ids.items ≡ map (λ (f : FeatureOf). f.id) self.now) }
-        ensures few { IfOk result (λ ids. length ids.items ≤ 2 ^ 18) }
+        ensures few { IfOk result (λ ids. length ids.items ≤ most_features) }
     {
         let mut ids = Vec::with_capacity(alloc, self.features.len())?;
         for feature in self.features() {
@@ -135,7 +133,7 @@ impl Layer {
     /// The id of each feature, in order. The rings are let go.
     pub fn into_ids(self, alloc: Global) -> Result<Vec<Vec<u8>>, AllocError>
         ensures value { IfOk result (λ ids. map (λ id. id.items) ids.items ≡ map (λ (f : FeatureOf). f.id) self) }
-        ensures few { IfOk result (λ ids. length ids.items ≤ 2 ^ 18) }
+        ensures few { IfOk result (λ ids. length ids.items ≤ most_features) }
     {
         let mut ids = Vec::with_capacity(alloc, self.features.len())?;
         for feature in self.features {

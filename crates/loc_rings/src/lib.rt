@@ -3,6 +3,7 @@
 
 mod alone;
 mod containment;
+mod cut;
 mod features;
 mod layers;
 mod rings;

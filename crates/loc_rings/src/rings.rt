@@ -1,45 +1,66 @@
 // The rings of a feature, and which polygon each belongs to.
 
-ghost use Rattle.std.specs.Prelude.{◌≡◌, ◌^◌, ◌+◌, ◌<◌, ◌≤◌, [], ◌∷◌, ◌++◌, length, Some, slice_get, OnOk, OnErr};
+ghost use Rattle.std.specs.Prelude.{◌≡◌, ◌^◌, ◌+◌, ◌<◌, ◌≤◌, [], ◌∷◌, ◌++◌, length, Some, slice_get, IfOk, OnOk, OnErr};
 ghost use Rattle.loc_spec_text.specs.Reading.{all_rings};
 ghost use Rattle.loc_rings.specs.Values.{IsRing, rings_before, with_ring};
 
+use crate::cut::CutRings;
 use loc_geom::Point;
 use std::alloc::{AllocError, Global};
 use std::marker::Model;
+
+// Most features have one ring, which takes the memory of its points alone.
+#[derive(Drop)]
+enum Kept {
+    // No polygons.
+    Empty,
+    // One polygon without rings.
+    Begun,
+    // One polygon with this ring.
+    One(Vec<Point>),
+    // Any polygons.
+    Many(Box<CutRings>),
+}
 
 /// Closed rings in the order in which they were added, seen as polygons, each of which is the list of its rings. A ring takes the memory
 /// that its points need.
 #[derive(Drop)]
 pub struct Rings {
-    rings: Vec<Vec<Point>>,
-    // For each polygon the number of its first ring.
-    starts: Vec<u32>,
+    alloc: Global,
+    kept: Kept,
 }
 
+const _: () = prove!(size_of::<Rings>() <= 32);
+
 impl Model for Rings {
-    ghost use Rattle.std.specs.Prelude.{map};
     ghost use Rattle.loc_spec_text.specs.Reading.{Polygons};
-    ghost use Rattle.loc_rings.specs.Kept.{AreKept};
-    ghost use Rattle.loc_rings.specs.Values.{cut_into};
+    ghost use Rattle.loc_rings.specs.Cases.{polygons_of, IsKept};
 
     ghost Value = { Polygons };
 
-    ghost view = { λ r. cut_into r.starts.items (map (λ ring. ring.items) r.rings.items) };
+    ghost view = { λ r. polygons_of r.kept };
 
-    ghost invariant = { λ r. AreKept r.starts.items (map (λ ring. ring.items) r.rings.items) };
+    ghost invariant = { λ r. IsKept r.kept };
 }
 
-// Puts an item at the end of a list. For a first one memory is taken for it alone, since most features have one ring. A refusal drops it.
-fn append<T: Drop>(list: &mut Vec<T>, item: T) -> Result<(), AllocError>
-    ensures ok { OnOk result (list.new.items ≡ list.old.items ++ item ∷ []) }
-    ensures err { OnErr result (list.new.items ≡ list.old.items) }
+// One polygon without rings.
+fn begun(alloc: Global) -> Result<Box<CutRings>, AllocError>
+    ensures { IfOk result (λ cut. cut.value ≡ [] ∷ []) }
 {
-    if list.is_empty() {
-        list.reserve_exact(1)?;
-    }
-    list.push(item)?;
-    Ok(())
+    let mut cut = Box::new(alloc, CutRings::new(alloc))?;
+    cut.start_polygon()?;
+    Ok(cut)
+}
+
+// One polygon with this ring, which is moved there. A refusal leaves it where it was.
+fn moved(alloc: Global, ring: &mut Vec<Point>) -> Result<Box<CutRings>, AllocError>
+    requires closed { IsRing ring.old.items }
+    ensures ok { IfOk result (λ cut. cut.value ≡ (ring.old.items ∷ []) ∷ []) }
+    ensures err { OnErr result (ring.new ≡ ring.old) }
+{
+    let mut cut = begun(alloc)?;
+    cut.take(ring)?;
+    Ok(cut)
 }
 
 impl Rings {
@@ -48,8 +69,8 @@ impl Rings {
         ensures { result ≡ [] }
     {
         Rings {
-            rings: Vec::new(alloc),
-            starts: Vec::new(alloc),
+            alloc,
+            kept: Kept::Empty,
         }
     }
 
@@ -59,9 +80,25 @@ impl Rings {
         ensures ok { OnOk result (self.new ≡ self.old ++ [] ∷ []) }
         ensures err { OnErr result (self.new ≡ self.old) }
     {
-        let start = self.rings.len() as u32;
-        append(&mut self.starts, start)?;
-        Ok(())
+        match &mut self.kept {
+            Kept::Empty => {
+                self.kept = Kept::Begun;
+                Ok(())
+            }
+            Kept::Begun => {
+                let mut cut = begun(self.alloc)?;
+                cut.start_polygon()?;
+                self.kept = Kept::Many(cut);
+                Ok(())
+            }
+            Kept::One(ring) => {
+                let mut cut = moved(self.alloc, ring)?;
+                let started = cut.start_polygon();
+                self.kept = Kept::Many(cut);
+                started
+            }
+            Kept::Many(cut) => cut.start_polygon(),
+        }
     }
 
     /// Appends a ring to the last polygon. A refusal drops it, and leaves the rings as they were.
@@ -73,8 +110,20 @@ impl Rings {
         ensures err { OnErr result (self.new ≡ self.old) }
     {
         ring.shrink_to_fit();
-        append(&mut self.rings, ring)?;
-        Ok(())
+        match &mut self.kept {
+            Kept::Empty => unreachable!(),
+            Kept::Begun => {
+                self.kept = Kept::One(ring);
+                Ok(())
+            }
+            Kept::One(first) => {
+                let mut cut = moved(self.alloc, first)?;
+                let added = cut.take(&mut ring);
+                self.kept = Kept::Many(cut);
+                added
+            }
+            Kept::Many(cut) => cut.take(&mut ring),
+        }
     }
 
     /// How many rings there are.
@@ -82,7 +131,11 @@ impl Rings {
         ensures value { result ≡ length (all_rings self.now) }
         ensures within { result ≤ 2 ^ 28 }
     {
-        self.rings.len()
+        match &self.kept {
+            Kept::Empty | Kept::Begun => 0,
+            Kept::One(_) => 1,
+            Kept::Many(cut) => cut.len(),
+        }
     }
 
     /// The points of ring n.
@@ -91,7 +144,11 @@ impl Rings {
         ensures value { slice_get (all_rings self.now) n ≡ Some result.now }
         ensures closed { IsRing result.now }
     {
-        self.rings[n].as_slice()
+        match &self.kept {
+            Kept::Empty | Kept::Begun => unreachable!(),
+            Kept::One(ring) => ring.as_slice(),
+            Kept::Many(cut) => cut.ring(n),
+        }
     }
 
     /// How many polygons there are.
@@ -99,7 +156,11 @@ impl Rings {
         ensures value { result ≡ length self.now }
         ensures within { result ≤ 2 ^ 28 }
     {
-        self.starts.len() as u32
+        match &self.kept {
+            Kept::Empty => 0,
+            Kept::Begun | Kept::One(_) => 1,
+            Kept::Many(cut) => cut.polygons(),
+        }
     }
 
     /// The number of the first ring of polygon n, and the number after its last ring. A polygon without rings has an empty range.
@@ -111,10 +172,11 @@ impl Rings {
         ensures within { result.1 ≤ length (all_rings self.now) }
         ensures few { result.1 ≤ 2 ^ 28 }
     {
-        let first = self.starts[n as usize];
-        match self.starts.get(n as usize + 1) {
-            Some(past) => (first, *past),
-            None => (first, self.rings.len() as u32),
+        match &self.kept {
+            Kept::Empty => unreachable!(),
+            Kept::Begun => (0, 0),
+            Kept::One(_) => (0, 1),
+            Kept::Many(cut) => cut.polygon(n),
         }
     }
 }

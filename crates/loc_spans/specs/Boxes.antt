@@ -5,9 +5,10 @@
 --   has_segments    a feature has a segment
 --   BoxedState, IsBoxed  what is kept of the features of a layer
 --   IsIdle, IsNear  boxes whose features neither touch nor cover a point, and the next box that holds the point
-use Rattle.std.specs.Prelude.{◌≡◌, ℕ, ◌<◌, ◌≤◌, ◌^◌, Bool, true, false, List, [], length, map, filter, get_or, slice_index_or, All, Option, Some, None}
+use Rattle.std.specs.Prelude.{◌≡◌, ℕ, ◌<◌, ◌≤◌, Bool, true, false, List, [], length, map, filter, get_or, slice_index_or, All, Option, Some, None}
 use Rattle.std.specs.List.{list_all}
 use Rattle.std.specs.List.Sorted.{IsPermutation}
+use Rattle.loc_spec_text.specs.Limits.{most_features}
 use Rattle.loc_spec_plane.specs.Lists.{numbers}
 use Rattle.loc_spec_plane.specs.Points.{Point, Edge}
 use Rattle.loc_spec_plane.specs.Rings.{Rings, segments, touches, covers}
@@ -54,7 +55,7 @@ pub record AreBoxes (layer : List Rings) (boxes : List Kept) (count : ℕ) : Typ
 
 -- what is kept is of the features of the layer; the boxes stand in some order
 pub record IsBoxed (layer : List Rings) (b : BoxedState) : Type 0 where
-  pub few : length layer ≤ 2 ^ 18
+  pub few : length layer ≤ most_features
   pub kept : AreKept layer b.segments (length layer)
   pub each : All (IsBoxOf layer) b.boxes
   pub named : IsPermutation (filter (has_segments layer) (numbers (length layer))) (map feature_of b.boxes)

@@ -1,6 +1,7 @@
 // The features of a layer, each with a box.
 
-ghost use Rattle.std.specs.Prelude.{◌≡◌, ◌+◌, ◌<◌, ◌≤◌, [], List, ℕ, IfOk, IfSome, OnOk, ◌^◌, ◌&&◌, int_le, get_or, length, map, slice_index_or};
+ghost use Rattle.std.specs.Prelude.{◌≡◌, ◌+◌, ◌<◌, ◌≤◌, [], List, ℕ, IfOk, IfSome, OnOk, ◌&&◌, int_le, get_or, length, map, slice_index_or};
+ghost use Rattle.loc_spec_text.specs.Limits.{most_features};
 ghost use Rattle.loc_spec_plane.specs.Rings.{Rings as RingsOf, segments};
 ghost use Rattle.loc_rings.specs.Values.{rings_of};
 ghost use Rattle.loc_spans.specs.Boxes.{AreBoxes, AreKept, IsBoxed, IsNear, Kept, feature_of};
@@ -94,7 +95,7 @@ fn in_order(
     mut boxes: Vec<(Edge, Extent)>,
     kept: Vec<Spans>,
 ) -> Result<Boxed, AllocError>
-    ensures { (layer : List RingsOf) → length layer ≤ 2 ^ 18 → AreKept layer kept.items (length layer) → AreBoxes layer boxes.items (length layer) → IfOk result (IsBoxed layer) }
+    ensures { (layer : List RingsOf) → length layer ≤ most_features → AreKept layer kept.items (length layer) → AreBoxes layer boxes.items (length layer) → IfOk result (IsBoxed layer) }
 {
     boxes.sort_by_key(|kept| kept.0)?;
     let moments = Spans::of_sorted(alloc, moments_of(alloc, &boxes)?)?;

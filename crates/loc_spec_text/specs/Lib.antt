@@ -2,6 +2,7 @@ pub mod Answered
 pub mod Bytes
 pub mod Number
 pub mod Geometry
+pub mod Limits
 pub mod Reader
 pub mod Reading
 pub mod Spans

@@ -8,6 +8,7 @@ use Rattle.std.specs.Prelude.{ℕ, zero, suc, ◌+◌, ◌/◌, ◌%◌, ◌^◌
 use Rattle.std.specs.Fmt.{decimal}
 use Rattle.std.specs.List.{flat_map}
 use Rattle.std.specs.Str.{bytes_eq, byte}
+use Rattle.loc_spec_text.specs.Limits.{most_line}
 use Rattle.loc_spec_text.specs.Bytes.{lines}
 use Rattle.loc_spec_text.specs.Number.{is_on_grid, is_in_range}
 use Rattle.loc_spec_text.specs.Geometry.{Symbol, word, number, open_mark, close_mark, symbols, PointText}
@@ -28,9 +29,9 @@ is_grid_number scale text = is_on_grid scale text && is_in_range scale text
 abbrev pub point_on_grid : ℕ → PointText → Option Point
 point_on_grid scale p = if is_grid_number scale p.0 && is_grid_number scale p.1 then Some (position scale p) else None
 
--- the point of a line of at most 4096 bytes, if it reads as one
+-- the point of a line that is not too long, if it reads as one
 abbrev pub point_of : ℕ → List ℕ → Option Point
-point_of scale line = if nat_le (length line) 4096 then option_and_then (point_on_grid scale) (point_texts (symbols line)) else None
+point_of scale line = if nat_le (length line) most_line then option_and_then (point_on_grid scale) (point_texts (symbols line)) else None
 
 -- exactly n digits, zeros in front
 abbrev pub padded_digits : ℕ → ℕ → List ℕ

@@ -2,12 +2,21 @@
 //! has anything to do at run time.
 #![tactic(auto)]
 
+mod limits;
+mod scale;
+
 ghost use Rattle.std.specs.Prelude.{◌≡◌, ◌++◌, ◌↔◌, ℕ, List, Some, Result};
 ghost use Rattle.loc_spec_text.specs.Bytes.{ended_lines, unfinished};
 ghost use Rattle.loc_spec_text.specs.Geometry.{IsTree, PointText, Polygon, numbers};
 ghost use Rattle.loc_spec_text.specs.Reader.{geometry_of};
 ghost use Rattle.loc_spec_text.specs.Reading.{Polygons, Reads, reading};
 ghost use Rattle.loc_spec_text.specs.declared.TextFault.{TextFault};
+
+pub use limits::{
+    MOST_FEATURES, MOST_ID_BYTES, MOST_INDEX, MOST_LINE, MOST_MEMBERS, MOST_PIECES, MOST_POINTS,
+    MOST_SCALE, MOST_TEXT,
+};
+pub use scale::Scale;
 
 /// What is wrong with a geometry text. Numbers and rings are counted from 1 through the text.
 #[derive(Clone, Copy, PartialEq, Eq, Debug, Drop)]

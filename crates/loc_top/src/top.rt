@@ -18,7 +18,7 @@ ghost use Rattle.loc_upgrade.specs.Upgrades.{Upgraded, Upgrades};
 ghost use Rattle.loc_top.specs.Run.{FilesOf, Ran, RefusesWords, RunSentences, course_of};
 
 use loc_breaches::valid;
-use loc_course::{Scale, Stop, report, write_text};
+use loc_course::{Stop, report, write_text};
 use loc_face::face;
 use loc_features::features;
 use loc_geom::Steps;
@@ -28,6 +28,7 @@ use loc_io::{Shelf, Sink};
 use loc_maps::check;
 use loc_query::query;
 use loc_reach::stab;
+use loc_spec_text::Scale;
 use loc_trial::{generate, trial};
 use loc_upgrade::{edges, upgrade};
 use loc_words::{Command, WordsFault, command_of, usage_text};

@@ -1,6 +1,7 @@
 // The order in which edges are added.
 
-ghost use Rattle.std.specs.Prelude.{◌≡◌, ℕ, ◌≤◌, ◌^◌, Ok, IfOk, IfErr, length};
+ghost use Rattle.std.specs.Prelude.{◌≡◌, ℕ, ◌≤◌, Ok, IfOk, IfErr, length};
+ghost use Rattle.loc_spec_text.specs.Limits.{most_text};
 ghost use Rattle.loc_spec_plane.specs.Lists.{numbers};
 ghost use Rattle.loc_trapdag.specs.Orders.{IsOrder, IsFaultOf, order_of, shuffled_order};
 
@@ -72,7 +73,7 @@ fn all_edges(alloc: Global, edges: u32) -> Result<Vec<u32>, AllocError>
 impl Order {
     /// The order of a text: an edge number in each line that is not blank.
     pub fn read(alloc: Global, text: &[u8], edges: u32) -> Result<Order, OrderFault>
-        requires size { length text.now ≤ 2 ^ 28 }
+        requires size { length text.now ≤ most_text }
         ensures ok { IfOk result (λ order. order_of edges text.now ≡ Ok order) }
         ensures permutation { IfOk result (IsOrder edges) }
         ensures err { IfErr result (IsFaultOf (order_of edges text.now)) }

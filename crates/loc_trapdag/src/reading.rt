@@ -4,6 +4,7 @@ ghost use Rattle.std.specs.Prelude.{◌≡◌, ℕ, ◌<◌, ◌≤◌, ◌^◌,
 ghost use Rattle.std.specs.Char.{is_ascii_digit};
 ghost use Rattle.std.specs.List.{list_all, prefix_len};
 ghost use Rattle.std.specs.Str.Parse.{digits_value};
+ghost use Rattle.loc_spec_text.specs.Limits.{most_text};
 ghost use Rattle.loc_spec_text.specs.Bytes.{is_white as is_white_byte};
 ghost use Rattle.loc_trapdag.specs.Orders.{IsOrder, IsFaultOf, order_of, digits_of, rest_of, line_number, number_fault, IsCapped};
 
@@ -92,7 +93,7 @@ fn put(order: &mut Vec<u32>, edge: u32) -> Result<(), AllocError>
 
 // The edges of a text, in order.
 pub(crate) fn read_order(alloc: Global, text: &[u8], edges: u32) -> Result<Vec<u32>, OrderFault>
-    requires size { length text.now ≤ 2 ^ 28 }
+    requires size { length text.now ≤ most_text }
     ensures ok { IfOk result (λ order. order_of edges text.now ≡ Ok order.items) }
     ensures permutation { IfOk result (λ order. IsOrder edges order.items) }
     ensures err { IfErr result (IsFaultOf (order_of edges text.now)) }

@@ -22,8 +22,8 @@ abbrev pub HangsBetween : VersionsMeaning → Option Link → Option ℕ → Opt
 HangsBetween m next lower upper = (path : List (Link × Turn)) × IsDescent (present_nodes m) m.list path next lower upper
 
 -- a way down the present tree between items that pass the test and items that do not; it did not turn left at the item where it is told to stop
-pub record IsWay (passes : ℕ → Bool) (stop : Option ℕ) (m : VersionsMeaning) (way : Way) : Type 0 where
-  pub descent : IsDescent (present_nodes m) m.list way.path.items way.next way.beside.below way.beside.above
+pub record IsWay (passes : ℕ → Bool) (stop : Option ℕ) (m : VersionsMeaning) (path : List (Link × Turn)) (way : Way) : Type 0 where
+  pub descent : IsDescent (present_nodes m) m.list path way.next way.beside.below way.beside.above
   pub passed : IfSome way.beside.below (λ item. passes item ≡ true)
   pub reached : IfSome way.beside.above (λ item. passes item ≡ false)
   pub apart : (item : ℕ) → stop ≡ Some item → way.beside.above ≢ Some item

@@ -18,6 +18,7 @@ use loc_edges::{Ranks, Views};
 use loc_geom::{Point, Steps};
 use loc_persist::Versions;
 use loc_place::{Deep, Locator, Place, Standing, search_corners};
+use loc_rb::Path;
 use loc_status::{Beside, InsertFault, Status, Target};
 use std::alloc::{AllocError, Global};
 use std::marker::Model;
@@ -62,22 +63,30 @@ impl Status for TreeIndex {
 
     fn insert(&mut self, ranks: &Ranks<'_>, edge: u32) -> Result<Beside, InsertFault> {
         ranks.law();
-        let way = place_for(&self.versions, ranks, edge)?;
-        let beside = way.beside;
-        match self.versions.insert_at(way.path, edge) {
+        let mut path = Path::new();
+        let beside = place_for(&self.versions, ranks, edge, &mut path)?;
+        match self.versions.insert_at(path, edge) {
             Err(AllocError) => Err(InsertFault::NoMemory),
             Ok(()) => Ok(beside),
         }
     }
 
     fn remove(&mut self, ranks: &Ranks<'_>, edge: u32) -> Result<Beside, AllocError> {
-        let (path, at, beside) = node_of(&self.versions, ranks, edge);
+        let mut path = Path::new();
+        let (at, beside) = node_of(&self.versions, ranks, edge, &mut path);
         self.versions.remove_at(path, at)?;
         Ok(beside)
     }
 
     fn floor(&self, ranks: &Ranks<'_>, corner: u32) -> Option<u32> {
-        let way = walk_to(&self.versions, ranks, Target::Corner(corner), None);
+        let mut path = Path::new();
+        let way = walk_to(
+            &self.versions,
+            ranks,
+            Target::Corner(corner),
+            None,
+            &mut path,
+        );
         way.beside.below
     }
 

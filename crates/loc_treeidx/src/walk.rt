@@ -12,10 +12,9 @@ use loc_pool::{Link, Turn};
 use loc_rb::Path;
 use loc_status::{Beside, Target};
 
-// The path that a walk went, what hangs at its end, and the edges just below and just above all that hangs there.
+// What hangs at the end of a walk, and the edges just below and just above all that hangs there.
 #[derive(Drop)]
 pub(crate) struct Way {
-    pub(crate) path: Path,
     pub(crate) next: Option<Link>,
     pub(crate) beside: Beside,
 }
@@ -40,22 +39,23 @@ fn is_stop(stop: Option<u32>, edge: u32) -> bool
 }
 
 // The way down to the missing child where the target stands: to the right of each edge that stands before it, and to the left of the
-// others. It ends before that at the node of the edge where it is told to stop.
+// others. It ends before that at the node of the edge where it is told to stop. The path, empty at first, is then that of the walk.
 pub(crate) fn walk_to(
     versions: &Versions,
     ranks: &Ranks<'_>,
     target: Target,
     stop: Option<u32>,
+    path: &mut Path,
 ) -> Way
     requires in_range { All (λ e. e < length ranks.now.ends) versions.now.list }
     requires target_in_range { IsTarget ranks.now target }
-    ensures way { IsWay (is_passed ranks.now target) stop versions.now result }
+    requires empty { path.old.items ≡ [] }
+    ensures way { IsWay (is_passed ranks.now target) stop versions.now path.new.items result }
     ensures stops { IfSome result.next (λ at. stop ≡ Some (row versions.now.rows at).item) }
 {
     // tells that the present tree is red-black
     let _sealed = versions.sealed();
     let mut way = Way {
-        path: Path::new(),
         next: versions.newest_root(),
         beside: Beside {
             below: None,
@@ -70,11 +70,11 @@ pub(crate) fn walk_to(
         if target.passes(ranks, edge) {
             way.beside.below = Some(edge);
             way.next = versions.newest_child(at, Turn::Right);
-            push(&mut way.path, at, Turn::Right);
+            push(path, at, Turn::Right);
         } else {
             way.beside.above = Some(edge);
             way.next = versions.newest_child(at, Turn::Left);
-            push(&mut way.path, at, Turn::Left);
+            push(path, at, Turn::Left);
         }
     }
     way

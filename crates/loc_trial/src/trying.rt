@@ -20,7 +20,7 @@ use crate::counts::line_of;
 use crate::layers::read_back;
 use crate::points::points_of;
 use loc_batch::{Batch, ByPlace, Tally, Unnumbered};
-use loc_course::{Scale, Stop, write_out};
+use loc_course::{Stop, write_out};
 use loc_cover::Legend;
 use loc_edges::EdgeTable;
 use loc_gen::Kind;
@@ -31,11 +31,9 @@ use loc_place::Locator;
 use loc_query::choose;
 use loc_rings::Layer;
 use loc_spec_asked::Index;
+use loc_spec_text::{MOST_TEXT, Scale};
 use std::alloc::{AllocError, Global};
 use std::sync::ledger::Ledger;
-
-// The most bytes of a points text.
-const LIMIT: u64 = 268_435_456;
 
 // The number from which the edges are shuffled.
 const SHUFFLE: u64 = 1;
@@ -59,7 +57,7 @@ fn tally_of<I: Locator, L: Ledger>(
     ensures within { steps.new ≤ steps.old + n * I.most index.now table.now }
 {
     let points = points_of(alloc, n, shift)?;
-    let mut batch = Batch::make(alloc, 0, LIMIT)?;
+    let mut batch = Batch::make(alloc, 0, MOST_TEXT as u64)?;
     let mut sink = SteadySink::new();
     let by = ByPlace {
         index,

@@ -16,7 +16,7 @@ use Rattle.loc_course.specs.Sentences.{IsDoing, OutSo, Sentences, Steady, Wrote}
 use Rattle.loc_course.specs.Stops.{source}
 use Rattle.loc_course.specs.Streams.{answered_file, out_of}
 use Rattle.loc_course.proofs.Told.{it_exactly}
-use Rattle.loc_maps.specs.MapCourses.{limit}
+use Rattle.loc_spec_text.specs.Limits.{most_text}
 use Rattle.loc_indexed.specs.FlawTexts.{flaw_text, index_text, is_clash, says}
 use Rattle.loc_indexed.specs.IndexedCourses.{answer_in, ask_course, asked_course}
 use Rattle.loc_indexed.specs.Verifying.{judged_course, verify_course}
@@ -81,7 +81,7 @@ module _ (c d : Course) (r s : Run) (a : RanWell c r) (b : RanWell d s) where
 -- the old file and the new one are asked
 module _ (bytes made : Text) (is : IsUpgradeOf bytes made) (old new points text : Text) (r s : Run) where
   abbrev of_points : Source
-  of_points = source points limit (ended (codes "points: too long"))
+  of_points = source points most_text (ended (codes "points: too long"))
 
   abbrev answers_to : Answered Text Text
   answers_to = answered_file of_points (answer_in is.content) text

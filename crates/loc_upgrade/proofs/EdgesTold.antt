@@ -18,7 +18,6 @@ use Rattle.loc_course.specs.Sentences.{NoneFailed, Sentences, Steady, Wrote}
 use Rattle.loc_indexed.specs.Asks.{IsDone, OrMemory}
 use Rattle.loc_indexed.specs.IndexBytes.{IsIndexFile}
 use Rattle.loc_indexed.specs.IndexTexts.{index_fault_text}
-use Rattle.loc_indexed.specs.IndexedCourses.{index_limit}
 use Rattle.loc_indexed.specs.Verifies.{AreHeld, IsRefused}
 use Rattle.loc_indexed.proofs.IndexOutcomes.{finished, grown, index_long, index_read, refused_by}
 use Rattle.loc_indexed.proofs.ReadBack.{file_reads}

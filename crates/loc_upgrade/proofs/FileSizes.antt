@@ -16,7 +16,7 @@ use Rattle.loc_spec_index.specs.IndexFile.{Field, number, order, follows, IsFile
 use Rattle.loc_laws_index.proofs.AgreeTable.{most-small}
 use Rattle.loc_laws_index.proofs.FileFacts.{facts}
 use Rattle.loc_laws_index.proofs.Progress.{flat-rows, map-rows, spelled_all-append}
-use Rattle.loc_indexed.specs.IndexedCourses.{index_limit}
+use Rattle.loc_spec_text.specs.Limits.{most_index}
 
 -- how many bytes fields take
 abbrev size : List Field → ℕ
@@ -90,7 +90,7 @@ all_parts [] = refl
 all_parts (part ∷ ps) = joined part (flat_map (λ p. p) ps) ∙ ap (λ n. size part + n) (all_parts ps)
 
 -- the bytes of a file are within the limit of a command
-pub file_within : (bytes : List ℕ) (v : ℕ) (c : Content) → IsFileOf v c bytes → length bytes ≤ index_limit
+pub file_within : (bytes : List ℕ) (v : ℕ) (c : Content) → IsFileOf v c bytes → length bytes ≤ most_index
 unfolding fields
 file_within bytes v c file =
     let f = facts c bytes file in

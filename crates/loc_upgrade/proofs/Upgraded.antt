@@ -24,11 +24,11 @@ use Rattle.loc_course.specs.Stops.{source}
 use Rattle.loc_course.proofs.Endings.{at_cut}
 use Rattle.loc_course.proofs.Statuses.{ended_so, rose_not, succeeds_case}
 use Rattle.loc_course.proofs.Told.{ends_so}
-use Rattle.loc_maps.specs.MapCourses.{limit}
+use Rattle.loc_spec_text.specs.Limits.{most_text}
 use Rattle.loc_indexed.specs.Asks.{OrMemory}
 use Rattle.loc_indexed.specs.IndexBytes.{IsIndexFile}
 use Rattle.loc_indexed.specs.IndexTexts.{index_fault_text}
-use Rattle.loc_indexed.specs.IndexedCourses.{answer_in, ask_course, asked_course, index_course, index_limit}
+use Rattle.loc_indexed.specs.IndexedCourses.{answer_in, ask_course, asked_course, index_course}
 use Rattle.loc_indexed.specs.Verifies.{AreHeld, IsRefused, IsToldFile}
 use Rattle.loc_indexed.specs.Verifying.{judged_course, verify_course}
 use Rattle.loc_indexed.proofs.IndexOutcomes.{index_long, index_read, memory, refused_by}
@@ -79,7 +79,7 @@ module _ (bytes : Text) (c : Content) (small : AreBytes bytes) (is : IsIndexFile
     made_reads = reads_second;
     same = λ d of. (let one : c ≡ d = (one_file bytes is.0 2 c d is.1 of).1 in ap (bytes_of 2) one ∙ sym of.spelled);
     as_true = (true_by c bytes (bytes_of 2 c) is.0 2 is.1 second, true_by c (bytes_of 2 c) bytes 2 is.0 second is.1);
-    asked = λ old new points told later first other also. same_behind told later old new first other (asked_course points) (ap (by_lines (source points limit (ended (codes "points: too long"))) (answer_in c)) also);
+    asked = λ old new points told later first other also. same_behind told later old new first other (asked_course points) (ap (by_lines (source points most_text (ended (codes "points: too long"))) (answer_in c)) also);
     judged = λ old new told later first other. same_behind told later old new first other judging (judged_same c told later (first_flaw c));
     listed = λ old new told later first other. same_behind told later old new first other listing refl;
   }

@@ -15,7 +15,7 @@ use Rattle.loc_course.specs.Sentences.{Steady, Wrote}
 use Rattle.loc_indexed.specs.Asks.{IsDone, OrMemory}
 use Rattle.loc_indexed.specs.IndexBytes.{IsIndexFile}
 use Rattle.loc_indexed.specs.IndexTexts.{index_fault_text}
-use Rattle.loc_indexed.specs.IndexedCourses.{index_limit}
+use Rattle.loc_spec_text.specs.Limits.{most_index}
 use Rattle.loc_indexed.specs.Verifies.{AreHeld, IsRefused, IsToldFile}
 use Rattle.loc_upgrade.specs.EdgeTexts.{edges_text}
 
@@ -30,9 +30,9 @@ pub record TellsEdges (index : Text) (old new : Moment) (n n' : Stream) (status 
   -- With status 0 what was told is an index file, and out has grown by the lines of its edges.
   pub only : (bytes : Text) → old.shelf.told index ≡ holds bytes → status ≡ 0 → (c : Content) × IsIndexFile c bytes × Appends old.out.written new.out.written (edges_text c)
   -- Bytes that are too long or at fault are refused by their line, unless a read failed.
-  pub too_long : (bytes : Text) → old.shelf.told index ≡ holds bytes → index_limit < length bytes → Steady old.shelf.read_faults new.shelf.read_faults
+  pub too_long : (bytes : Text) → old.shelf.told index ≡ holds bytes → most_index < length bytes → Steady old.shelf.read_faults new.shelf.read_faults
       → OrMemory old new status (IsRefused old new status × Wrote n n' (ended (codes "index: too long")))
-  pub at_fault : (bytes : Text) (fault : IndexFault) → old.shelf.told index ≡ holds bytes → length bytes ≤ index_limit → reading bytes ≡ Err fault → Steady old.shelf.read_faults new.shelf.read_faults
+  pub at_fault : (bytes : Text) (fault : IndexFault) → old.shelf.told index ≡ holds bytes → length bytes ≤ most_index → reading bytes ≡ Err fault → Steady old.shelf.read_faults new.shelf.read_faults
       → OrMemory old new status (IsRefused old new status × Wrote n n' (ended (index_fault_text fault)))
   -- With another status than 0 and 4 nothing is on out.
   pub out : status ≢ 0 → status ≢ 4 → new.out.written ≡ old.out.written

@@ -19,7 +19,8 @@ use Rattle.loc_course.specs.Sentences.{Steady, Wrote}
 use Rattle.loc_indexed.specs.Asks.{OrMemory}
 use Rattle.loc_indexed.specs.IndexBytes.{IsIndexFile}
 use Rattle.loc_indexed.specs.IndexTexts.{index_fault_text}
-use Rattle.loc_indexed.specs.IndexedCourses.{ask_course, index_limit}
+use Rattle.loc_indexed.specs.IndexedCourses.{ask_course}
+use Rattle.loc_spec_text.specs.Limits.{most_index}
 use Rattle.loc_indexed.specs.Verifies.{AreHeld, IsRefused, IsToldFile}
 use Rattle.loc_indexed.specs.Verifying.{verify_course}
 use Rattle.loc_upgrade.specs.UpgradeCourses.{edges_course}
@@ -58,9 +59,9 @@ pub record Upgrades (old new : Text) (from to : Moment) (n n' : Stream) (status 
   -- The status is 0 for every index file, true or not, unless a read or a write failed.
   pub upgrades : (bytes : Text) (c : Content) → AreHeld old from to bytes c → Steady from.shelf.write_faults to.shelf.write_faults → OrMemory from to status (status ≡ 0)
   -- Bytes that are too long or at fault are refused by their line, unless a read failed.
-  pub too_long : (bytes : Text) → from.shelf.told old ≡ holds bytes → index_limit < length bytes → Steady from.shelf.read_faults to.shelf.read_faults
+  pub too_long : (bytes : Text) → from.shelf.told old ≡ holds bytes → most_index < length bytes → Steady from.shelf.read_faults to.shelf.read_faults
       → OrMemory from to status (IsRefused from to status × Wrote n n' (ended (codes "index: too long")))
-  pub at_fault : (bytes : Text) (fault : IndexFault) → from.shelf.told old ≡ holds bytes → length bytes ≤ index_limit → reading bytes ≡ Err fault → Steady from.shelf.read_faults to.shelf.read_faults
+  pub at_fault : (bytes : Text) (fault : IndexFault) → from.shelf.told old ≡ holds bytes → length bytes ≤ most_index → reading bytes ≡ Err fault → Steady from.shelf.read_faults to.shelf.read_faults
       → OrMemory from to status (IsRefused from to status × Wrote n n' (ended (index_fault_text fault)))
   -- Nothing is on out, whatever the status.
   pub out : to.out ≡ from.out

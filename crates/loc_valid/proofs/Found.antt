@@ -14,9 +14,9 @@ use Rattle.loc_laws_valid.proofs.Least.{first_none, no_pair, none_passes}
 use Rattle.loc_laws_valid.proofs.OneRing.{one_ring}
 use Rattle.loc_geom.specs.declared.kinds.Meeting.{Meeting}
 use Rattle.loc_sweep.specs.Swept.{AreInConflict}
-use Rattle.loc_cover.specs.Legends.{FitsTable, IsTrueLegend, LegendRows, most_members}
+use Rattle.loc_cover.specs.Legends.{FitsTable, IsTrueLegend, LegendRows}
+use Rattle.loc_spec_text.specs.Limits.{most_members, most_pieces}
 use Rattle.loc_faces.specs.Subdivision.{face_at, next_at}
-use Rattle.loc_node.specs.Pieces.{most_pieces}
 use Rattle.loc_valid.specs.declared.fault.ValidFault.{ValidFault}
 use Rattle.loc_valid.specs.declared.fault.ValidFault.TheVariants.{ManyPieces, ManyCovers, NoMemory}
 use Rattle.loc_valid.specs.Hits.{AreHomes, IsLaidOut, IsLeastOf, nested_in, outside_in, overlap_in}

@@ -11,9 +11,8 @@ use Rattle.loc_spec_plane.specs.Tables.{Table, piece_count}
 use Rattle.loc_spec_plane.specs.Covers.{cover_sum}
 use Rattle.loc_spec_valid.specs.Breaches.{HasNoCrossing, HasSegments, feature_rings, part_count, polygon_table, ring_table}
 use Rattle.loc_laws_valid.specs.Laws.{NonePinched, NoneTwice}
-use Rattle.loc_cover.specs.Legends.{most_members}
+use Rattle.loc_spec_text.specs.Limits.{most_members, most_pieces}
 use Rattle.loc_faces.specs.Subdivision.{face_at, next_at}
-use Rattle.loc_node.specs.Pieces.{most_pieces}
 use Rattle.loc_spec_valid.specs.Breaches as rules
 use Rattle.loc_valid.specs.declared.breach.Breach.{Breach}
 use Rattle.loc_valid.specs.declared.breach.Breach.TheVariants.{PointRing, Cross, Twice, Pinch, Outside, Nested, Parts, Overlap}

@@ -1,6 +1,7 @@
 // The first breach of a feature.
 
-ghost use Rattle.std.specs.Prelude.{◌≡◌, ◌≤◌, ◌^◌, None, find, length, option_map, IfOk, IfErr};
+ghost use Rattle.std.specs.Prelude.{◌≡◌, ◌≤◌, None, find, length, option_map, IfOk, IfErr};
+ghost use Rattle.loc_spec_text.specs.Limits.{most_points};
 ghost use Rattle.loc_spec_plane.specs.Covers.{feature_count};
 ghost use Rattle.loc_spec_plane.specs.Tables.{AllEnds, AllEven, NoConflict, edge as edge_of, edge_numbers};
 ghost use Rattle.loc_spec_valid.specs.Breaches.{HasNoCrossing, HasSegments, IsBreachOf, feature_rings, is_twice, ring_table};
@@ -31,7 +32,7 @@ use std::alloc::Global;
 /// pieces of its rings are more than 2,097,152, or where, none of the first four breaches and not this, the distinct cover lists of its rings
 /// have more than 16,777,216 members together, want of memory aside.
 pub fn judge(alloc: Global, feature: &Feature) -> Result<Option<Breach>, ValidFault>
-    requires { point_count feature.now ≤ 2 ^ 20 }
+    requires { point_count feature.now ≤ most_points }
     ensures breach { IfOk result (λ breach. IsBreachOf next_at face_at feature.now.polygons (told breach)) }
     ensures few_pieces { IfOk result (λ _. HasManyPieces feature.now.polygons → ⊥) }
     ensures few_covers { IfOk result (λ _. HasManyCovers feature.now.polygons → ⊥) }
@@ -48,7 +49,7 @@ pub fn judge(alloc: Global, feature: &Feature) -> Result<Option<Breach>, ValidFa
 
 // The first breach of a feature in which each ring has a segment.
 fn judge_rings(alloc: Global, feature: &Feature) -> Result<Option<Breach>, ValidFault>
-    requires few { point_count feature.now ≤ 2 ^ 20 }
+    requires few { point_count feature.now ≤ most_points }
     requires segments { HasSegments feature.now.polygons }
     ensures breach { IfOk result (λ breach. IsBreachOf next_at face_at feature.now.polygons (told breach)) }
     ensures few_pieces { IfOk result (λ _. HasFewPieces feature.now.polygons) }
@@ -76,7 +77,7 @@ fn judge_calm(
     twice: Option<Edge>,
     floors: &Floors,
 ) -> Result<Option<Breach>, ValidFault>
-    requires few { point_count feature.now ≤ 2 ^ 20 }
+    requires few { point_count feature.now ≤ most_points }
     requires segments { HasSegments feature.now.polygons }
     requires few_pieces { HasFewPieces feature.now.polygons }
     requires of_rings { table.now ≡ ring_table feature.now.polygons }
@@ -138,7 +139,7 @@ fn judge_unpinched(
     table: &EdgeTable,
     floors: &Floors,
 ) -> Result<Option<Breach>, ValidFault>
-    requires few { point_count feature.now ≤ 2 ^ 20 }
+    requires few { point_count feature.now ≤ most_points }
     requires unpinched { IsUnpinched feature.now.polygons }
     requires few_pieces { HasFewPieces feature.now.polygons }
     requires of_rings { table.now ≡ ring_table feature.now.polygons }
@@ -165,7 +166,7 @@ fn judge_lists(
     table: &EdgeTable,
     legend: &Legend,
 ) -> Result<Option<Breach>, ValidFault>
-    requires few { point_count feature.now ≤ 2 ^ 20 }
+    requires few { point_count feature.now ≤ most_points }
     requires unpinched { IsUnpinched feature.now.polygons }
     requires few_pieces { HasFewPieces feature.now.polygons }
     requires of_rings { table.now ≡ ring_table feature.now.polygons }

@@ -9,7 +9,7 @@ ghost use Rattle.loc_spec_plane.specs.Tables.{AllEnds, AllEven, NoConflict, edge
 ghost use Rattle.loc_spec_valid.specs.Breaches.{part_count, polygon_table};
 ghost use Rattle.loc_edges.specs.Floors.{AreFloors};
 ghost use Rattle.loc_edges.specs.Layers.{layer_rings};
-ghost use Rattle.loc_node.specs.Pieces.{most_pieces};
+ghost use Rattle.loc_spec_text.specs.Limits.{most_pieces, most_points};
 ghost use Rattle.loc_rings.specs.Layers.{point_count};
 ghost use Rattle.loc_cover.specs.Legends.{IsTrueLegend, FitsTable as FitsLegend};
 ghost use Rattle.loc_half.specs.HalfEdgeLists.{HalfEdgeLists, next_in};
@@ -84,7 +84,7 @@ fn table_of_polygon(
     feature: &Feature,
     n: u32,
 ) -> Result<(Layer, EdgeTable, Floors), ValidFault>
-    requires few { point_count feature.now ≤ 2 ^ 20 }
+    requires few { point_count feature.now ≤ most_points }
     requires in_range { n < length feature.now.polygons }
     requires few_pieces { piece_count (get_or feature.now.polygons n [] ∷ []) ≤ most_pieces }
     requires apart { NoConflict (polygon_table feature.now.polygons n) }
@@ -171,7 +171,7 @@ fn covered_faces(
 
 /// How many parts the inside of polygon n has, where no two edges of its table conflict.
 pub(crate) fn parts_of(alloc: Global, feature: &Feature, n: u32) -> Result<u32, ValidFault>
-    requires few { point_count feature.now ≤ 2 ^ 20 }
+    requires few { point_count feature.now ≤ most_points }
     requires in_range { n < length feature.now.polygons }
     requires few_pieces { piece_count (get_or feature.now.polygons n [] ∷ []) ≤ most_pieces }
     requires apart { NoConflict (polygon_table feature.now.polygons n) }

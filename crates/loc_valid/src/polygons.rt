@@ -1,9 +1,9 @@
 // The first polygon that is not one part.
 
-ghost use Rattle.std.specs.Prelude.{◌≡◌, ℕ, ◌<◌, ◌≤◌, ◌^◌, ◌∷◌, [], find, get_or, length, option_map, IfOk, IfErr};
+ghost use Rattle.std.specs.Prelude.{◌≡◌, ℕ, ◌<◌, ◌≤◌, ◌∷◌, [], find, get_or, length, option_map, IfOk, IfErr};
 ghost use Rattle.loc_spec_plane.specs.Tables.{NoConflict, piece_count};
 ghost use Rattle.loc_spec_valid.specs.Breaches.{is_parted, part_count, polygon_numbers, polygon_table};
-ghost use Rattle.loc_node.specs.Pieces.{most_pieces};
+ghost use Rattle.loc_spec_text.specs.Limits.{most_pieces, most_points};
 ghost use Rattle.loc_rings.specs.Layers.{point_count};
 ghost use Rattle.loc_faces.specs.Subdivision.{face_at, next_at};
 ghost use Rattle.loc_valid.specs.Judged.{IsNoMemory, parts_at};
@@ -18,7 +18,7 @@ pub(crate) fn first_parted(
     alloc: Global,
     feature: &Feature,
 ) -> Result<Option<(u32, u32)>, ValidFault>
-    requires few { point_count feature.now ≤ 2 ^ 20 }
+    requires few { point_count feature.now ≤ most_points }
     requires few_pieces { (n : ℕ) → n < length feature.now.polygons → piece_count (get_or feature.now.polygons n [] ∷ []) ≤ most_pieces }
     requires apart { (n : ℕ) → n < length feature.now.polygons → NoConflict (polygon_table feature.now.polygons n) }
     ensures found { IfOk result (λ found. found ≡ option_map (λ n. (n, parts_at feature.now.polygons n)) (find (is_parted next_at face_at feature.now.polygons) (polygon_numbers feature.now.polygons))) }

@@ -1,10 +1,10 @@
 // The ring table of a feature.
 
-ghost use Rattle.std.specs.Prelude.{◌≡◌, ◌<◌, ◌≤◌, ◌^◌, [], ◌∷◌, find, length, map, option_map, IfOk, IfErr};
+ghost use Rattle.std.specs.Prelude.{◌≡◌, ◌<◌, ◌≤◌, [], ◌∷◌, find, length, map, option_map, IfOk, IfErr};
 ghost use Rattle.loc_spec_plane.specs.Covers.{feature_count};
 ghost use Rattle.loc_spec_plane.specs.Tables.{AllEnds, AllEven, edge as edge_of, edge_numbers, piece_count};
 ghost use Rattle.loc_spec_valid.specs.Breaches.{feature_rings, is_twice, ring_table};
-ghost use Rattle.loc_node.specs.Pieces.{most_pieces};
+ghost use Rattle.loc_spec_text.specs.Limits.{most_pieces, most_points};
 ghost use Rattle.loc_rings.specs.Layers.{point_count};
 ghost use Rattle.loc_valid.specs.Judged.{IsRefusedNode};
 
@@ -20,7 +20,7 @@ pub(crate) fn table_of_rings(
     alloc: Global,
     feature: &Feature,
 ) -> Result<(Layer, EdgeTable, Option<Edge>), ValidFault>
-    requires few { point_count feature.now ≤ 2 ^ 20 }
+    requires few { point_count feature.now ≤ most_points }
     ensures table { IfOk result (λ made. made.1 ≡ ring_table feature.now.polygons) }
     ensures all_ends { IfOk result (λ made. AllEnds made.1) }
     ensures all_even { IfOk result (λ made. AllEven made.1) }

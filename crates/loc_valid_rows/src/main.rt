@@ -3,11 +3,9 @@
 
 use loc_csvform::{Form, read_layer};
 use loc_rings::Layer;
+use loc_spec_text::MOST_TEXT;
 use loc_valid::judge;
 use std::io;
-
-// How long a line may be.
-const MOST_BYTES: usize = 1 << 28;
 
 // Says what is said of each feature.
 fn say(rt: &HostRuntime, layer: &Layer) -> io::Result<()> {
@@ -24,7 +22,7 @@ fn say(rt: &HostRuntime, layer: &Layer) -> io::Result<()> {
 fn main(rt: HostRuntime) -> io::Result<()> {
     for line in rt.lines(rt.alloc()) {
         let line = line?;
-        if line.len() > MOST_BYTES {
+        if line.len() > MOST_TEXT {
             println!(rt; "a long line")?;
             continue;
         }

@@ -1,6 +1,7 @@
 // The reading of a node beside the list that it is to be.
 
-ghost use Rattle.std.specs.Prelude.{◌≡◌, ◌≤◌, ◌^◌, ◌↔◌, IsTrue, Some, length, slice_get};
+ghost use Rattle.std.specs.Prelude.{◌≡◌, ◌≤◌, ◌↔◌, IsTrue, Some, length, slice_get};
+ghost use Rattle.loc_spec_text.specs.Limits.{most_pieces};
 ghost use Rattle.loc_verify.specs.Readings.{IsFollowed};
 
 use crate::nodes::{left_of, right_of};
@@ -33,7 +34,7 @@ pub(crate) fn follow(
 ) -> Followed
     requires node { node ≤ length held.now.content.nodes }
     requires within { read ≤ length list.now }
-    requires few { length list.now ≤ 2 ^ 21 }
+    requires few { length list.now ≤ most_pieces }
     ensures { IsFollowed held.now.content.nodes version node room list.now read result }
 {
     if node == 0 {

@@ -1,6 +1,7 @@
 // The versions of an index, one after another.
 
 ghost use Rattle.std.specs.Prelude.{ℕ, ◌≡◌, ◌+◌, ◌*◌, ◌<◌, ◌≤◌, ◌^◌, true, length, IfErr, OnOk};
+ghost use Rattle.loc_spec_text.specs.Limits.{most_pieces};
 ghost use Rattle.loc_spec_plane.specs.Tables.{NoConflict};
 ghost use Rattle.loc_spec_plane.specs.Places.{IsVersion};
 ghost use Rattle.loc_spec_index.specs.Content.{table_in};
@@ -21,7 +22,7 @@ use std::alloc::Global;
 
 // How many nodes a path may have where so many edges are alive.
 fn most_nodes(alive: usize) -> u32
-    requires { alive ≤ 2 ^ 21 }
+    requires { alive ≤ most_pieces }
     ensures within { 2 ^ result ≤ (alive + 1) * (alive + 1) }
     ensures past { (alive + 1) * (alive + 1) < 2 ^ (result + 1) }
 {
@@ -31,7 +32,7 @@ fn most_nodes(alive: usize) -> u32
 // Judges a version by the list at its corner.
 fn judge_version(alloc: Global, held: &Held, version: u32, list: &[u32]) -> Result<(), VerifyFault>
     requires in_range { version < length held.now.content.corners }
-    requires few { length list.now ≤ 2 ^ 21 }
+    requires few { length list.now ≤ most_pieces }
     requires list { IsVersion (table_in held.now.content) version list.now }
     ensures ok { OnOk result (IsTrueVersion held.now.content version) }
     ensures fault { IfErr result (IsVersionFault held.now.content version) }

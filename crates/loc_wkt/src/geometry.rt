@@ -1,6 +1,7 @@
 // The reader of geometry texts.
 
-ghost use Rattle.std.specs.Prelude.{◌≡◌, ◌≢◌, ◌≤◌, ◌<◌, ◌^◌, length, option_and_then, Ok, Err, IfOk, IfErr};
+ghost use Rattle.std.specs.Prelude.{◌≡◌, ◌≢◌, ◌≤◌, ◌<◌, length, option_and_then, Ok, Err, IfOk, IfErr};
+ghost use Rattle.loc_spec_text.specs.Limits.{most_text};
 ghost use Rattle.loc_spec_text.specs.Bytes.{after_word, capitals, first_word as first_word_of};
 ghost use Rattle.loc_spec_text.specs.Geometry.{symbols};
 ghost use Rattle.loc_spec_text.specs.Reader.{all_of, list_at, one_of, wide_geometry_of};
@@ -89,7 +90,7 @@ impl Values {
 /// The values of a whole geometry text whose points may have two, three or four numbers.
 fn read_values(alloc: Global, text: &[u8], scale: u8) -> Result<Values, TextFault>
     requires scale { scale ≤ 15 }
-    requires size { length text.now ≤ 2 ^ 28 }
+    requires size { length text.now ≤ most_text }
     ensures ok { IfOk result (λ values. IsTreeRead (wide_geometry_of text.now) (nothing_read scale) values) }
     ensures err { IfErr result (λ fault. IsUnread fault (wide_geometry_of text.now)) }
 {
@@ -111,7 +112,7 @@ fn read_values(alloc: Global, text: &[u8], scale: u8) -> Result<Values, TextFaul
 /// The polygons of a geometry text on the grid of a scale, or the text's first fault. `NoMemory` says nothing of the text.
 pub fn read_geometry(alloc: Global, text: &[u8], scale: u8) -> Result<Rings, TextFault>
     requires scale { scale ≤ 15 }
-    requires size { length text.now ≤ 2 ^ 28 }
+    requires size { length text.now ≤ most_text }
     ensures ok { IfOk result (λ rings. reading scale text.now ≡ Ok rings) }
     ensures err { IfErr result (λ fault. fault ≢ TextFault.NoMemory → reading scale text.now ≡ Err fault) }
 {

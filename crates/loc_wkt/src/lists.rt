@@ -128,25 +128,6 @@ impl Values {
         }
     }
 
-    /// What follows the polygons of a list behind its open mark.
-    fn behind_polygons<'a>(&mut self, alloc: Global, text: &'a [u8]) -> Result<&'a [u8], TextFault>
-        requires room { HasRoom self.old text.now }
-        ensures ok { IfOk result (λ rest. IsRead (listed_at wide_polygon_at) text.now rest.now (λ polygons. self.new ≡ fold after_polygon self.old polygons)) }
-        ensures err { IfErr result (λ fault. IsUnread fault (listed_at wide_polygon_at (symbols text.now))) }
-    {
-        let mut rest = text;
-        loop {
-            let more = self.behind_polygon(alloc, rest)?;
-            let Some((goes_on, behind)) = goes_on(more) else {
-                return Err(TextFault::Syntax);
-            };
-            if !goes_on {
-                return Ok(behind);
-            }
-            rest = behind;
-        }
-    }
-
     /// What follows EMPTY or a list of polygons at the front of a text.
     pub(crate) fn behind_polygon_list<'a>(
         &mut self,
@@ -163,6 +144,25 @@ impl Values {
         match behind_empty(text) {
             Some(rest) => Ok(rest),
             None => Err(TextFault::Syntax),
+        }
+    }
+
+    /// What follows the polygons of a list behind its open mark.
+    fn behind_polygons<'a>(&mut self, alloc: Global, text: &'a [u8]) -> Result<&'a [u8], TextFault>
+        requires room { HasRoom self.old text.now }
+        ensures ok { IfOk result (λ rest. IsRead (listed_at wide_polygon_at) text.now rest.now (λ polygons. self.new ≡ fold after_polygon self.old polygons)) }
+        ensures err { IfErr result (λ fault. IsUnread fault (listed_at wide_polygon_at (symbols text.now))) }
+    {
+        let mut rest = text;
+        loop {
+            let more = self.behind_polygon(alloc, rest)?;
+            let Some((goes_on, behind)) = goes_on(more) else {
+                return Err(TextFault::Syntax);
+            };
+            if !goes_on {
+                return Ok(behind);
+            }
+            rest = behind;
         }
     }
 }

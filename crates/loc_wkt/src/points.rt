@@ -13,9 +13,7 @@ use crate::grid_numbers::{GridNumber, NumberText, on_grid};
 use crate::marks::{behind_open, is_this_word, next_mark, next_number};
 use crate::tokens::next_symbol;
 use loc_geom::Point;
-
-/// The longest line that is read as a point.
-const MOST_BYTES: usize = 4096;
+use loc_spec_text::MOST_LINE;
 
 /// Two numbers at the front of a text, and what follows them.
 pub(crate) fn next_pair(text: &[u8]) -> Option<(NumberText<'_>, NumberText<'_>, &[u8])>
@@ -95,7 +93,7 @@ pub fn read_point(text: &[u8], scale: u8) -> Option<Point>
     requires { scale ≤ 15 }
     ensures { result ≡ point_of scale text.now }
 {
-    if text.len() > MOST_BYTES {
+    if text.len() > MOST_LINE {
         return None;
     }
     let (x, y) = point_numbers(text)?;

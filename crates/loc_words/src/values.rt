@@ -6,10 +6,9 @@ ghost use Rattle.loc_spec_asked.specs.Orders.{asked_order};
 ghost use Rattle.loc_words.specs.Words.{form_word, index_or_tree, index_word, kind_word, number_word, order_by_words, scale_word, scale_and_form};
 
 use crate::{EdgeOrder, Form, Index, Kind};
+use loc_spec_text::MOST_SCALE;
 
 const MOST_DIGITS: usize = 20;
-
-const MOST_SCALE: u64 = 15;
 
 // The number from which edges are shuffled where none is named.
 const FIRST_SHUFFLE: u64 = 1;
@@ -40,7 +39,7 @@ fn scale_of(word: &str) -> Option<u8>
     ensures bound { IfSome result (λ scale. scale ≤ 15) }
 {
     match number_of(word) {
-        Some(scale) if scale <= MOST_SCALE => Some(scale as u8),
+        Some(scale) if scale <= MOST_SCALE as u64 => Some(scale as u8),
         _ => None,
     }
 }

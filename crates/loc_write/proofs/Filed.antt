@@ -22,7 +22,7 @@ use Rattle.loc_write.proofs.Lists.{edge-at, length-edges}
 use Rattle.loc_write.proofs.Ranges.{floor-within}
 use Rattle.loc_write.proofs.Spelling.{length-marks}
 use Rattle.loc_write.proofs.Right.{each-at, rows-right, flat-right, map-right, id-right, corner-right, IsEdgeWithin, edge-right, chain-edges, mark-right, marks-each, features-each, chain-marks, IsListWithin, covers-right, node-right}
-use Rattle.loc_rings.specs.Values.{most_id_bytes}
+use Rattle.loc_spec_text.specs.Limits.{most_id_bytes}
 
 -- what is asked of a table, a legend and versions
 pub record AreFit (scale : ℕ) (t : Table) (l : LegendRows) (m : VersionsMeaning) : Type 0 where

@@ -20,7 +20,7 @@ use Rattle.loc_laws_index.proofs.RightFields.{Holds, holds-right, all-right}
 use Rattle.loc_laws_index.proofs.RightRows.{Chain, IsMarkIn, last-is}
 use Rattle.loc_persist.specs.Numbered.{IsWithin}
 use Rattle.loc_write.specs.Written.{edge_rows, marks_from}
-use Rattle.loc_rings.specs.Values.{most_id_bytes}
+use Rattle.loc_spec_text.specs.Limits.{most_id_bytes}
 
 -- ---- what holds of each of some rows
 

@@ -7,7 +7,7 @@ ghost use Rattle.loc_cover.specs.Legends.{FitsTable, IsSound};
 ghost use Rattle.loc_making.specs.Making.{PutsBytes};
 ghost use Rattle.loc_making.specs.Writing.{WritesFile};
 ghost use Rattle.loc_write.specs.Written.{content_of};
-ghost use Rattle.loc_rings.specs.Values.{most_id_bytes};
+ghost use Rattle.loc_spec_text.specs.Limits.{most_id_bytes, most_pieces};
 
 use crate::parts::{put_node_rows, put_numbers};
 use crate::writer::put_head;
@@ -32,7 +32,7 @@ fn put_rows<F: Shelf>(
     requires sound { IsSound legend.now }
     requires fits { FitsTable table.now legend.now }
     requires short { All (λ (id : List ℕ). length id ≤ most_id_bytes) legend.now.ids }
-    requires few_marks { sum_by length table.now.marks ≤ 2 ^ 21 }
+    requires few_marks { sum_by length table.now.marks ≤ most_pieces }
     requires few_nodes { length nodes.now < 2 ^ 32 }
     ensures put { PutsBytes (bytes_of 2 (content_of scale table.now legend.now roots.now nodes.now)) (F.meaning shelf.old) (F.meaning shelf.new) page.old page.new result }
     ensures making { OnOk result ((F.meaning shelf.new).is_making ≡ true) }
@@ -55,7 +55,7 @@ pub fn write_rows<F: Shelf>(
 ) -> Result<(), WriteFault>
     requires fits { FitsTable table.now legend.now }
     requires short_ids { All (λ (id : List ℕ). length id ≤ most_id_bytes) legend.now.ids }
-    requires few_marks { sum_by length table.now.marks ≤ 2 ^ 21 }
+    requires few_marks { sum_by length table.now.marks ≤ most_pieces }
     requires few_nodes { length nodes.now < 2 ^ 32 }
     ensures { WritesFile name.now (bytes_of 2 (content_of scale table.now legend.now roots.now nodes.now)) (F.meaning shelf.old) (F.meaning shelf.new) result }
 {

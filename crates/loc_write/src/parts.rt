@@ -1,6 +1,6 @@
 // The parts of a file, row by row from the tables.
 
-ghost use Rattle.std.specs.Prelude.{◌≡◌, ◌≤◌, ◌<◌, ◌^◌, ◌++◌, ◌∷◌, [], ℕ, List, All, OnOk, true, false, length, map, sum_by, get_or};
+ghost use Rattle.std.specs.Prelude.{◌≡◌, ◌≤◌, ◌<◌, ◌++◌, ◌∷◌, [], ℕ, List, All, OnOk, true, false, length, map, sum_by, get_or};
 ghost use Rattle.std.specs.List.{flat_map};
 ghost use Rattle.loc_spec_plane.specs.declared.Mark.{Mark as MarkOf};
 ghost use Rattle.loc_spec_index.specs.declared.NodeRow.{NodeRow as RowOf};
@@ -10,7 +10,7 @@ ghost use Rattle.loc_persist.specs.ByNumber.{AreRowsByNumber, AreRootsByNumber};
 ghost use Rattle.loc_making.specs.Making.{PutsBytes};
 ghost use Rattle.loc_write.specs.Bytes.{id_bytes, corner_bytes, edge_bytes, mark_bytes, cover_bytes, number_bytes, node_bytes};
 ghost use Rattle.loc_write.specs.Written.{edge_rows, marks_from};
-ghost use Rattle.loc_rings.specs.Values.{most_id_bytes};
+ghost use Rattle.loc_spec_text.specs.Limits.{most_id_bytes, most_members, most_pieces};
 
 use crate::rows::{corner_row, edge_row, floor_number, id_row, mark_row, node_row, number_row};
 use loc_cover::Legend;
@@ -78,7 +78,7 @@ pub(crate) fn put_edges<F: Shelf>(
 // How many marks all edges have.
 pub(crate) fn count_marks(table: &EdgeTable) -> u32
     requires as_many { length table.now.marks ≡ length table.now.ends }
-    requires few { sum_by length table.now.marks ≤ 2 ^ 21 }
+    requires few { sum_by length table.now.marks ≤ most_pieces }
     ensures { result ≡ sum_by length table.now.marks }
 {
     let mut count = 0;
@@ -143,7 +143,7 @@ pub(crate) fn put_numbers<F: Shelf>(
 // A cover list behind its length.
 fn put_cover<F: Shelf>(page: &mut FilePage, shelf: &mut F, list: &[u32]) -> Result<(), WriteFault>
     requires making { (F.meaning shelf.old).is_making ≡ true }
-    requires short { length list.now ≤ 2 ^ 24 }
+    requires short { length list.now ≤ most_members }
     ensures put { PutsBytes (cover_bytes list.now) (F.meaning shelf.old) (F.meaning shelf.new) page.old page.new result }
     ensures making { OnOk result ((F.meaning shelf.new).is_making ≡ true) }
 {
@@ -159,7 +159,7 @@ pub(crate) fn put_covers<F: Shelf>(
     legend: &Legend,
 ) -> Result<(), WriteFault>
     requires making { (F.meaning shelf.old).is_making ≡ true }
-    requires short { All (λ (list : List ℕ). length list ≤ 2 ^ 24) legend.now.lists }
+    requires short { All (λ (list : List ℕ). length list ≤ most_members) legend.now.lists }
     ensures put { PutsBytes (flat_map cover_bytes legend.now.lists) (F.meaning shelf.old) (F.meaning shelf.new) page.old page.new result }
     ensures making { OnOk result ((F.meaning shelf.new).is_making ≡ true) }
 {
@@ -178,7 +178,7 @@ pub(crate) fn put_floors<F: Shelf>(
 ) -> Result<(), WriteFault>
     requires making { (F.meaning shelf.old).is_making ≡ true }
     requires as_many { corners ≡ length legend.now.floors }
-    requires small { All (λ floor. none_or_next floor ≤ 2 ^ 21) legend.now.floors }
+    requires small { All (λ floor. none_or_next floor ≤ most_pieces) legend.now.floors }
     ensures put { PutsBytes (flat_map (λ floor. number_bytes (none_or_next floor)) legend.now.floors) (F.meaning shelf.old) (F.meaning shelf.new) page.old page.new result }
     ensures making { OnOk result ((F.meaning shelf.new).is_making ≡ true) }
 {
@@ -237,8 +237,7 @@ pub(crate) fn put_node_rows<F: Shelf>(
     ensures making { OnOk result ((F.meaning shelf.new).is_making ≡ true) }
 {
     for node in nodes {
-        let row = node_row(*node);
-        page.put(shelf, row.as_slice())?;
+        page.put(shelf, node_row(*node).as_slice())?;
     }
     Ok(())
 }

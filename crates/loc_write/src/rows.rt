@@ -1,10 +1,10 @@
 // The bytes of single rows.
 
-ghost use Rattle.std.specs.Prelude.{◌≡◌, ◌≤◌, ◌+◌, ◌++◌, ◌^◌, length};
+ghost use Rattle.std.specs.Prelude.{◌≡◌, ◌≤◌, ◌+◌, ◌++◌, length};
 ghost use Rattle.std.specs.Int.{w8, w32, w64, to_be_bytes, cast_unsigned};
 ghost use Rattle.loc_spec_index.specs.IndexFile.{none_or_next};
 ghost use Rattle.loc_write.specs.Bytes.{header_bytes, id_bytes, corner_bytes, edge_bytes, mark_bytes, number_bytes, node_bytes};
-ghost use Rattle.loc_rings.specs.Values.{most_id_bytes};
+ghost use Rattle.loc_spec_text.specs.Limits.{most_id_bytes, most_pieces};
 
 use arrayvec::ArrayVec;
 use byteorder::{BigEndian, ByteOrder};
@@ -69,7 +69,7 @@ pub(crate) fn number_row(number: u32) -> RowBytes
 
 // The number of a floor: one more than that of its edge, or 0 where there is none.
 pub(crate) fn floor_number(floor: Option<u32>) -> u32
-    requires { none_or_next floor ≤ 2 ^ 21 }
+    requires { none_or_next floor ≤ most_pieces }
     ensures { result ≡ none_or_next floor }
 {
     match floor {

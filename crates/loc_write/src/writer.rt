@@ -1,6 +1,6 @@
 // The writer of an index file.
 
-ghost use Rattle.std.specs.Prelude.{◌≡◌, ◌≤◌, ◌^◌, ◌*◌, ℕ, List, All, OnOk, true, false, length, sum_by};
+ghost use Rattle.std.specs.Prelude.{◌≡◌, ◌≤◌, ◌*◌, ℕ, List, All, OnOk, true, false, length, sum_by};
 ghost use Rattle.loc_spec_plane.specs.Covers.{feature_count};
 ghost use Rattle.loc_spec_plane.specs.Tables.{IsTable};
 ghost use Rattle.loc_spec_index.specs.Content.{Content};
@@ -10,7 +10,7 @@ ghost use Rattle.loc_making.specs.Making.{PutsBytes};
 ghost use Rattle.loc_making.specs.Writing.{WritesFile};
 ghost use Rattle.loc_write.specs.Texts.{front_text, head_text, list_text};
 ghost use Rattle.loc_write.specs.Written.{IsContentOf};
-ghost use Rattle.loc_rings.specs.Values.{most_id_bytes};
+ghost use Rattle.loc_spec_text.specs.Limits.{most_id_bytes, most_pieces};
 
 use crate::facts::{corners_on_grid, nodes_numbered, roots_numbered};
 use crate::parts::{
@@ -76,7 +76,7 @@ pub(crate) fn put_head<F: Shelf>(
     requires sound { IsSound legend.now }
     requires fits { FitsTable table.now legend.now }
     requires short { All (λ (id : List ℕ). length id ≤ most_id_bytes) legend.now.ids }
-    requires few_marks { sum_by length table.now.marks ≤ 2 ^ 21 }
+    requires few_marks { sum_by length table.now.marks ≤ most_pieces }
     ensures put { PutsBytes (head_text scale table.now legend.now nodes) (F.meaning shelf.old) (F.meaning shelf.new) page.old page.new result }
     ensures making { OnOk result ((F.meaning shelf.new).is_making ≡ true) }
 {
@@ -108,7 +108,7 @@ fn put_parts<F: Shelf>(
     requires sound { IsSound legend.now }
     requires fits { FitsTable table.now legend.now }
     requires short { All (λ (id : List ℕ). length id ≤ most_id_bytes) legend.now.ids }
-    requires few_marks { sum_by length table.now.marks ≤ 2 ^ 21 }
+    requires few_marks { sum_by length table.now.marks ≤ most_pieces }
     ensures put { (c : Content) → IsContentOf scale table.now legend.now versions.now c
         → PutsBytes (bytes_of 2 c) (F.meaning shelf.old) (F.meaning shelf.new) page.old page.new result }
     ensures making { OnOk result ((F.meaning shelf.new).is_making ≡ true) }
@@ -131,7 +131,7 @@ fn make_file<F: Shelf>(
     requires sound { IsSound legend.now }
     requires fits { FitsTable table.now legend.now }
     requires short { All (λ (id : List ℕ). length id ≤ most_id_bytes) legend.now.ids }
-    requires few_marks { sum_by length table.now.marks ≤ 2 ^ 21 }
+    requires few_marks { sum_by length table.now.marks ≤ most_pieces }
     ensures { (c : Content) → IsContentOf scale table.now legend.now versions.now c
         → WritesFile name.now (bytes_of 2 c) (F.meaning shelf.old) (F.meaning shelf.new) result }
 {
@@ -157,8 +157,8 @@ pub fn write_index<F: Shelf>(
     requires fits { FitsTable table.now legend.now }
     requires short_ids { All (λ (id : List ℕ). length id ≤ most_id_bytes) legend.now.ids }
     requires features { feature_count table.now ≤ length legend.now.ids }
-    requires few_edges { length table.now.ends ≤ 2 ^ 21 }
-    requires few_marks { sum_by length table.now.marks ≤ 2 ^ 21 }
+    requires few_edges { length table.now.ends ≤ most_pieces }
+    requires few_marks { sum_by length table.now.marks ≤ most_pieces }
     requires as_many_versions { length versions.now.roots ≡ length table.now.corners }
     requires settled { versions.now.is_changed ≡ false }
     requires items { versions.now.past_greatest ≤ length table.now.ends }

@@ -1,6 +1,7 @@
 use Rattle.std.proofs.Common.{◌≤◌, length, List, ℕ, subst}
 use Rattle.loc_laws_index.specs.IndexReading.{AreBytes}
-use Rattle.loc_rings.specs.Values.{Feature, most_id_bytes}
+use Rattle.loc_rings.specs.Values.{Feature}
+use Rattle.loc_spec_text.specs.Limits.{most_id_bytes}
 use Rattle.loc_indexed.specs.Followed.{AreShort}
 use Rattle.loc_indexed.proofs.WrittenIndex.{all_more, all_taken}
 use Rattle.loc_indexed.proofs.building.ids_are_short.Goals as goal

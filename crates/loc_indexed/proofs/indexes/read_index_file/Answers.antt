@@ -8,7 +8,8 @@ use Rattle.loc_course.specs.Courses.{Course}
 use Rattle.loc_course.specs.Following.{Moment, moment}
 use Rattle.loc_course.specs.Stops.{source}
 use Rattle.loc_course.proofs.Going.{goes_further}
-use Rattle.loc_indexed.specs.IndexedCourses.{index_in, index_limit}
+use Rattle.loc_indexed.specs.IndexedCourses.{index_in}
+use Rattle.loc_spec_text.specs.Limits.{most_index}
 use Rattle.loc_indexed.proofs.ToldFiles.{told_file, told_of}
 use Rattle.loc_indexed.proofs.indexes.read_index_file.Goals as goal
 
@@ -24,6 +25,6 @@ returns-clause-goes_on g c next o k =
 pub returns-clause-told : goal.returns-clause-told
 returns-clause-told g c =
     let at : Meaning → Moment = λ shelf. moment shelf (stream None 0 0) 0 in
-    let told = told_of (source c.args.name.now index_limit _) (at (g.F.Shelf.meaning c.args.shelf.now)) (at (g.F.Shelf.meaning c.read_source.new.shelf)) c.in_ok-bytes.bytes.items
+    let told = told_of (source c.args.name.now most_index _) (at (g.F.Shelf.meaning c.args.shelf.now)) (at (g.F.Shelf.meaning c.read_source.new.shelf)) c.in_ok-bytes.bytes.items
     (λ next end follows. c.in_ok-bytes.ensures.goes_on next (stream None 0 0) 0 _ end follows) in
     told_file _ _ c.read_index_in.result told (rw c.deref.ensures.value at c.read_index_in.ensures.small) (rw c.deref.ensures.value at c.read_index_in.ensures.file)

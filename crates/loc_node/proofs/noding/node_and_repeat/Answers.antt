@@ -13,7 +13,8 @@ use Rattle.loc_laws_noding.proofs.Tables as laws
 use Rattle.loc_rings.specs.Values.{IsRing, rings_of}
 use Rattle.loc_edges.specs.Layers.{layer_rings}
 use Rattle.loc_edges.proofs.Even.{closed_even}
-use Rattle.loc_node.specs.Pieces.{IsRefused, layer_pieces, most_pieces}
+use Rattle.loc_node.specs.Pieces.{IsRefused, layer_pieces}
+use Rattle.loc_spec_text.specs.Limits.{most_pieces}
 use Rattle.loc_node.proofs.noding.node_and_repeat.Goals as goal
 use Rattle.loc_node.proofs.noding.node_and_repeat.Goals.{After-noded_table}
 

@@ -16,28 +16,28 @@ record Stands (layer : List Feature) (ns : List ℕ) (features : List Feature) (
 
 pub loop-turn-init : goal.loop-turn-init
 loop-turn-init c =
-    let layer = c.args.layer in
+    let layer = c.args.layer.now in
     let own : c.in_ok-numbers_below.field-0.items ≡ numbers (length layer) = c.in_ok-numbers_below.ensures ∙ ap (λ fs. numbers (length fs)) c.features.ensures.value in
     let first = subst (λ ns. IsPartedBut layer (ns ∷ []) [] []) (sym own) (at_first layer) in
     record {
       few = omega (arith, ap length c.new-parts.ensures.items);
-      rest = subst (λ ns. IsRestOf layer ns layer) (sym own) (rest_of_all layer);
+      rest = subst (λ (fs : List Feature). IsRestOf layer c.in_ok-numbers_below.field-0.items fs) (sym c.in_ok-copy_layer.ensures) (subst (λ ns. IsRestOf layer ns layer) (sym own) (rest_of_all layer));
       parted = subst (λ (ps : List Part). IsPartedBut layer (c.in_ok-numbers_below.field-0.items ∷ []) ps c.new-left.result.items) (sym c.new-parts.ensures.items)
           (subst (λ (ls : List Left). IsPartedBut layer (c.in_ok-numbers_below.field-0.items ∷ []) [] ls) (sym c.new-left.ensures.items) first);
     }
 
 pub pass-requires : goal.pass-requires
-pass-requires c = rest_numbered c.args.layer c.loop-turn.rest.numbers.items c.loop-turn.rest.features c.loop-turn.invariant.rest
+pass-requires c = rest_numbered c.args.layer.now c.loop-turn.rest.numbers.items c.loop-turn.rest.features c.loop-turn.invariant.rest
 
 pub loop-turn-preserved : goal.loop-turn-preserved
 loop-turn-preserved c = record {
   few = omega (arith, c.in_ok-later.ensures.few, c.loop-turn.invariant.few);
-  rest = c.in_ok-later.ensures.rest c.args.layer c.loop-turn.invariant.rest;
-  parted = c.in_ok-later.ensures.parted c.args.layer [] c.loop-turn.invariant.rest c.loop-turn.invariant.parted;
+  rest = c.in_ok-later.ensures.rest c.args.layer.now c.loop-turn.invariant.rest;
+  parted = c.in_ok-later.ensures.parted c.args.layer.now [] c.loop-turn.invariant.rest c.loop-turn.invariant.parted;
 }
 
 -- behind the last pass
-behind : (c : goal.In_ok-leave) → Stands c.args.layer c.loop-turn-test.rest.numbers.items c.loop-turn-test.rest.features c.loop-turn-test.parts.items c.loop-turn-test.left.items
+behind : (c : goal.In_ok-leave) → Stands c.args.layer.now c.loop-turn-test.rest.numbers.items c.loop-turn-test.rest.features c.loop-turn-test.parts.items c.loop-turn-test.left.items
 behind c = elim c.loop-turn-test.branch [
   | else-loop-turn-test w ↦ rw (w.parts-is, w.left-is, w.rest-is) (record {
     few = omega (arith, c.loop-turn.invariant.few, c.loop-turn.auto._turn-end);
@@ -46,20 +46,20 @@ behind c = elim c.loop-turn-test.branch [
   })
   | then-loop-turn-test+in_ok-later+then-kept-len w ↦ rw (w.parts-is, w.left-is, w.rest-is) (record {
     few = omega (arith, w.in_ok-later.ensures.few, c.loop-turn.invariant.few, w.loop-turn-test.true);
-    rest = w.in_ok-later.ensures.rest c.args.layer c.loop-turn.invariant.rest;
-    parted = w.in_ok-later.ensures.parted c.args.layer [] c.loop-turn.invariant.rest c.loop-turn.invariant.parted;
+    rest = w.in_ok-later.ensures.rest c.args.layer.now c.loop-turn.invariant.rest;
+    parted = w.in_ok-later.ensures.parted c.args.layer.now [] c.loop-turn.invariant.rest c.loop-turn.invariant.parted;
   })
 ]
 
 pub returns : goal.returns
 returns c =
     let stands = behind c in
-    let all = c.in_ok-leave.ensures c.args.layer [] c.loop-turn-test.parts.items stands.rest stands.parted in
+    let all = c.in_ok-leave.ensures c.args.layer.now [] c.loop-turn-test.parts.items stands.rest stands.parted in
     record {
+      few_features = omega (arith, ap length c.features.ensures.value, c.features.ensures.within.few_features);
       few = stands.few;
       parts = all.parts_are;
       left = all.left_are;
-      all = at_last c.args.layer c.loop-turn-test.parts.items c.leave.new.left.items all;
-      once = once_last c.args.layer c.loop-turn-test.parts.items c.leave.new.left.items all;
-      names = c.in_ok-names.ensures.value;
+      all = at_last c.args.layer.now c.loop-turn-test.parts.items c.leave.new.left.items all;
+      once = once_last c.args.layer.now c.loop-turn-test.parts.items c.leave.new.left.items all;
     }

@@ -6,6 +6,6 @@ use Rattle.loc_parts.proofs.parting.in_parts.Given as goal
 abbrev pub invariant-loop-turn : goal.invariant-loop-turn
 invariant-loop-turn l = record {
   few : length l.parts.items ≤ l._turn;
-  rest : IsRestOf l.fn.layer l.rest.numbers.items l.rest.features;
-  parted : IsPartedBut l.fn.layer (l.rest.numbers.items ∷ []) l.parts.items l.left.items;
+  rest : IsRestOf l.layer l.rest.numbers.items l.rest.features;
+  parted : IsPartedBut l.layer (l.rest.numbers.items ∷ []) l.parts.items l.left.items;
 }

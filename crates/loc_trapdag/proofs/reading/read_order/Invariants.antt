@@ -1,4 +1,5 @@
-use Rattle.std.proofs.Common.{◌≡◌, ℕ, ◌+◌, ◌≤◌, ◌<◌, ◌^◌, length, get_or}
+use Rattle.std.proofs.Common.{◌≡◌, ℕ, ◌+◌, ◌≤◌, ◌<◌, length, get_or}
+use Rattle.loc_spec_text.specs.Limits.{most_text}
 use Rattle.loc_trapdag.specs.Orders.{rows_from}
 use Rattle.loc_trapdag.proofs.Readings.{IsRead}
 use Rattle.loc_trapdag.proofs.reading.read_order.Given as goal
@@ -8,7 +9,7 @@ abbrev pub invariant-loop-line : goal.invariant-loop-line
 invariant-loop-line l = record {
   read : IsRead l.edges (rows_from 1 l.text) (rows_from (l.number + 1) l.rest) l.line_of.items l.order.items;
   lines : l.number + length l.rest ≤ length l.text;
-  small : length l.text ≤ 2 ^ 28;
+  small : length l.text ≤ most_text;
 }
 
 abbrev pub decreases-loop-line : goal.decreases-loop-line

@@ -1,31 +1,19 @@
-use Rattle.std.proofs.Common.{◌++◌, [], ◌∷◌, refl, subst, Option, Some}
-use Rattle.loc_pool.specs.declared.Link.{Link}
+use Rattle.std.proofs.Common.{refl}
 use Rattle.loc_pool.specs.declared.Turn.TheVariants.{Left}
-use Rattle.loc_persist.specs.Meaning.{present_nodes}
-use Rattle.loc_treeidx.specs.Gaps.{IsDescent}
-use Rattle.loc_treeidx.proofs.Beside.{above_found}
-use Rattle.loc_treeidx.proofs.Descents.{descent-end, here_row, here_left}
-use Rattle.loc_treeidx.proofs.Heights.{here_lower}
+use Rattle.loc_treeidx.proofs.Hanging.{hanging_row, hanging_left, hanging_lower, neighbour_above}
 use Rattle.loc_treeidx.proofs.neighbours.next_above.Goals as goal
 
 pub item-requires : goal.item-requires
-item-requires c = here_row c.args.versions.now _ _ c.in-Some.at _ _ c.down.invariant.1 c.in-Some.is
+item-requires c = hanging_row c.args.versions.now _ c.in-Some.at _ _ c.down.invariant c.in-Some.is
 
 pub newest_child-next-requires : goal.newest_child-next-requires
-newest_child-next-requires c = here_row c.args.versions.now _ _ c.in-Some.at _ _ c.down.invariant.1 c.in-Some.is
+newest_child-next-requires c = hanging_row c.args.versions.now _ c.in-Some.at _ _ c.down.invariant c.in-Some.is
 
 pub down-smaller : goal.down-smaller
-down-smaller c = here_lower c.args.versions.now _ _ c.in-Some.at _ _ c.down.invariant.1 c.in-Some.is c.sealed-sealed.ensures.facts Left _ c.newest_child-next.ensures
+down-smaller c = hanging_lower c.args.versions.now _ c.in-Some.at _ _ c.down.invariant c.in-Some.is c.sealed-sealed.ensures.facts Left _ c.newest_child-next.ensures
 
 pub down-preserved : goal.down-preserved
-down-preserved c = (
-  c.down.invariant.0 ++ (c.in-Some.at, Left) ∷ [],
-  here_left c.args.versions.now _ _ c.in-Some.at _ _ c.down.invariant.1 c.in-Some.is c.item.result c.item.ensures _ c.newest_child-next.result c.newest_child-next.ensures refl,
-)
+down-preserved c = hanging_left c.args.versions.now _ c.in-Some.at _ _ c.down.invariant c.in-Some.is c.item.result c.item.ensures c.newest_child-next.result c.newest_child-next.ensures
 
 pub returns : goal.returns
-returns c =
-    let n = present_nodes c.args.versions.now in
-    let list = c.args.versions.now.list in
-    above_found n list c.down.invariant.0 (Some c.args.edge) c.down.above
-    (descent-end n list c.down.invariant.0 (Some c.args.edge) c.down.above (subst (λ (o : Option Link). IsDescent n list c.down.invariant.0 o (Some c.args.edge) c.down.above) c.in_default.is c.down.invariant.1)) c.args.edge refl
+returns c = neighbour_above c.args.versions.now _ _ _ c.down.invariant c.in_default.is c.args.edge refl

@@ -13,7 +13,7 @@ down-init c =
     let n = present_nodes c.args.versions.now in
     let list = c.args.versions.now.list in
     record {
-      descent = subst (λ (z : List (Link × Turn)). IsDescent n list z c.newest_root.result None None) (sym c.new.ensures) (subst (λ (o : Option Link). IsDescent n list [] o None None) (sym c.newest_root.ensures) (descent-start n list c.sealed-sealed.ensures.facts.present));
+      descent = subst (λ (z : List (Link × Turn)). IsDescent n list z c.newest_root.result None None) (sym c.requires.empty) (subst (λ (o : Option Link). IsDescent n list [] o None None) (sym c.newest_root.ensures) (descent-start n list c.sealed-sealed.ensures.facts.present));
       passed = tt;
       reached = tt;
       apart = λ item stop above. (let clash : None ≡ Some item = above in cc);
@@ -38,10 +38,10 @@ pub push-requires-else-passes : goal.push-requires-else-passes
 push-requires-else-passes c = let short = here_short c.args.versions.now _ _ c.in-Some.at _ _ c.down.invariant.descent c.in-Some.is c.sealed-sealed.ensures.facts in omega (arith, short)
 
 pub down-smaller-then-passes : goal.down-smaller-then-passes
-down-smaller-then-passes c = nearer c.down.way.path.items _ (c.in-Some.at, Right) c.push.ensures (here_short c.args.versions.now _ _ c.in-Some.at _ _ c.down.invariant.descent c.in-Some.is c.sealed-sealed.ensures.facts)
+down-smaller-then-passes c = nearer c.down.path.items _ (c.in-Some.at, Right) c.push.ensures (here_short c.args.versions.now _ _ c.in-Some.at _ _ c.down.invariant.descent c.in-Some.is c.sealed-sealed.ensures.facts)
 
 pub down-smaller : goal.down-smaller
-down-smaller c = nearer c.down.way.path.items _ (c.in-Some.at, Left) c.push-else-passes.ensures (here_short c.args.versions.now _ _ c.in-Some.at _ _ c.down.invariant.descent c.in-Some.is c.sealed-sealed.ensures.facts)
+down-smaller c = nearer c.down.path.items _ (c.in-Some.at, Left) c.push-else-passes.ensures (here_short c.args.versions.now _ _ c.in-Some.at _ _ c.down.invariant.descent c.in-Some.is c.sealed-sealed.ensures.facts)
 
 pub down-preserved-then-passes : goal.down-preserved-then-passes
 down-preserved-then-passes c = record {

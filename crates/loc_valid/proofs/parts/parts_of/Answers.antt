@@ -1,8 +1,9 @@
 use Rattle.std.proofs.Common.{◌≡◌, Bool, false, ◌&&◌, ◌-◌, ◌*◌, List, length, get_or, sym, ◌∙◌, ap, ap₂, subst, arith}
-use Rattle.std.specs.Prelude.{◌==◌, count_by}
+use Rattle.std.specs.Prelude.{◌==◌, count_by, IfErr}
 use Rattle.std.specs.List.{list_any, range_with_len}
 use Rattle.std.proofs.lemmas.List.FromFn.{length-range_with_len}
 use Rattle.std.proofs.lemmas.List.Sums.{count_by-le-length}
+use Rattle.std.proofs.lemmas.Result.{err_from_is_err_and}
 use Rattle.loc_spec_plane.specs.Lists.{is_in, numbers}
 use Rattle.loc_spec_plane.specs.Tables.{Table, NoConflict, edge_numbers}
 use Rattle.loc_spec_plane.specs.HalfEdges.{half_edge_count}
@@ -14,6 +15,7 @@ use Rattle.loc_half.specs.HalfEdgeLists.{next_in}
 use Rattle.loc_faces.specs.FaceLists.{face_in}
 use Rattle.loc_faces.specs.Subdivision.{face_at, next_at}
 use Rattle.loc_faces.proofs.Computed.{face_same, next_same}
+use Rattle.loc_valid.specs.Judged.{IsNoMemory}
 use Rattle.loc_valid.proofs.Covered.{count_agree}
 use Rattle.loc_valid.proofs.parts.parts_of.Goals as goal
 
@@ -36,3 +38,8 @@ returns-clause-parts c =
     ∙ (count_agree (λ f. get_or c.in_ok-covered.covered.items f false) (λ f. list_any (λ e. (face_in faces (2 * e) == f) && is_in 0 (cover_above t e)) (edge_numbers t)) 1 (count_by (leads_face t (next_in half)) (numbers (half_edge_count t))) (λ f ge lt. c.in_ok-covered.ensures.covered f (omega (arith, lt, c.in_ok-faces.ensures.count)))
     ∙ (ap₂ (part_count t) (next_same t planar half c.in_ok-half.ensures) (face_same t planar half c.in_ok-half.ensures faces c.in_ok-faces.ensures)
     ∙ ap (λ (s : Table). part_count s (next_at s) (face_at s)) is)))
+
+pub returns-in_err-covered-clause-refused : goal.returns-in_err-covered-clause-refused
+returns-in_err-covered-clause-refused c =
+    let come = err_from_is_err_and _ c.from_residual-in_err-covered.ensures.1 in
+    subst (λ r. IfErr r IsNoMemory) (sym come.1) (subst IsNoMemory (sym come.2) tt)

@@ -11,7 +11,8 @@ use Rattle.loc_laws_valid.proofs.OneRing.{all_segments}
 use Rattle.loc_laws_valid.proofs.Twice.{twice_by_pieces}
 use Rattle.loc_rings.specs.Values.{unnamed}
 use Rattle.loc_edges.specs.Layers.{layer_rings}
-use Rattle.loc_node.specs.Pieces.{layer_pieces, most_pieces}
+use Rattle.loc_node.specs.Pieces.{layer_pieces}
+use Rattle.loc_spec_text.specs.Limits.{most_pieces}
 use Rattle.loc_valid.proofs.PointRings.{lone_layer}
 use Rattle.loc_valid.proofs.tables.table_of_rings.Goals as goal
 

@@ -7,13 +7,13 @@ use Rattle.loc_write.proofs.parts.put_node_rows.Goals as goal
 
 pub returns-in_err-put-clause-put : goal.returns-in_err-put-clause-put
 returns-in_err-put-clause-put g c =
-    goes-stop _ _ _ _ _ c.in_err-put.was (err_from_is_err_and _ c.from_residual.ensures.1).1 (cut-at node_bytes c.args.nodes.now c.loop-node.node-index _ _ (omega arith) (c.as_slice.ensures.value ∙ c.node_row-row.ensures))
+    goes-stop _ _ _ _ _ c.in_err-put.was (err_from_is_err_and _ c.from_residual.ensures.1).1 (cut-at node_bytes c.args.nodes.now c.loop-node.node-index _ _ (omega arith) (c.as_slice.ensures.value ∙ c.node_row.ensures))
     c.loop-node.invariant.goes c.put.ensures.put
 
 pub loop-node-preserved : goal.loop-node-preserved
 loop-node-preserved g c = record {
   making = c.in_ok-put.ensures.making;
-  goes = goes-more _ _ _ _ _ c.in_ok-put.was (cut-at node_bytes c.args.nodes.now c.loop-node.node-index _ _ (omega arith) (c.as_slice.ensures.value ∙ c.node_row-row.ensures)) c.loop-node.invariant.goes c.put.ensures.put;
+  goes = goes-more _ _ _ _ _ c.in_ok-put.was (cut-at node_bytes c.args.nodes.now c.loop-node.node-index _ _ (omega arith) (c.as_slice.ensures.value ∙ c.node_row.ensures)) c.loop-node.invariant.goes c.put.ensures.put;
 }
 
 pub returns-clause-put : goal.returns-clause-put

@@ -1,8 +1,9 @@
-use Rattle.std.proofs.Common.{◌<◌, length, get_or, sym, ◌∙◌, ap, subst, arith, None}
+use Rattle.std.proofs.Common.{◌≡◌, ◌<◌, ◌≤◌, ◌^◌, length, get_or, sym, ◌∙◌, ap, subst, arith, None}
 use Rattle.std.specs.Prelude.{All, IfSome}
 use Rattle.std.proofs.lemmas.List.{get_or_default, length-map}
 use Rattle.loc_spec_plane.specs.Tables.{corner}
 use Rattle.loc_spec_plane.specs.Places.{IsFloor}
+use Rattle.loc_spec_plane.specs.Covers.{feature_count}
 use Rattle.loc_cover.specs.Legends.{AreLists}
 use Rattle.loc_cover.proofs.Sound.{are_lists, covers_named, floor_in_range}
 use Rattle.loc_cover.proofs.legend.Legend.with_ids.Goals as goal
@@ -10,8 +11,16 @@ use Rattle.loc_cover.proofs.legend.Legend.with_ids.Goals as goal
 pub assemble-requires-clause-lists : goal.assemble-requires-clause-lists
 assemble-requires-clause-lists c = subst (AreLists (length c.args.table.now.ends)) (sym c.in_ok-covers.ensures.lists) (are_lists c.args.table.now c.in_ok-covers.ensures.few)
 
+pub assemble-requires-clause-few_features : goal.assemble-requires-clause-few_features
+assemble-requires-clause-few_features c = subst (λ n. n ≤ 2 ^ 18) (sym (ap length c.in_ok-ids.ensures ∙ length-map c.args.ids.items (λ id. id.items))) c.requires.few_features
+
+pub assemble-requires-clause-features : goal.assemble-requires-clause-features
+assemble-requires-clause-features c = subst (λ n. feature_count c.args.table.now ≤ n) (sym (ap length c.in_ok-ids.ensures ∙ length-map c.args.ids.items (λ id. id.items))) c.requires.features
+
 pub assemble-requires-clause-lists_named : goal.assemble-requires-clause-lists_named
-assemble-requires-clause-lists_named c = subst (All (All (λ f. f < length c.args.ids.items))) (sym c.in_ok-covers.ensures.lists) (covers_named c.args.table.now (length c.args.ids.items) c.requires.features)
+assemble-requires-clause-lists_named c =
+    let as_many : length c.in_ok-ids.ids ≡ length c.args.ids.items = ap length c.in_ok-ids.ensures ∙ length-map c.args.ids.items (λ id. id.items) in
+    subst (All (All (λ f. f < length c.in_ok-ids.ids))) (sym c.in_ok-covers.ensures.lists) (covers_named c.args.table.now (length c.in_ok-ids.ids) (subst (λ n. feature_count c.args.table.now ≤ n) (sym as_many) c.requires.features))
 
 pub assemble-requires-clause-above_in_range : goal.assemble-requires-clause-above_in_range
 assemble-requires-clause-above_in_range c = λ e d fits.

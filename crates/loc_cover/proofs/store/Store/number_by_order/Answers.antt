@@ -2,7 +2,7 @@ use Rattle.std.proofs.Common.{◌≡◌, ◌<◌, ◌≤◌, false, [], ◌∷�
 use Rattle.std.specs.Prelude.{sum_by}
 use Rattle.loc_spec_plane.specs.Lists.{sorted_set}
 use Rattle.loc_spec_plane.specs.Covers.{list_before}
-use Rattle.loc_cover.specs.Legends.{most_members}
+use Rattle.loc_spec_text.specs.Limits.{most_members}
 use Rattle.loc_cover.specs.Stores.{StoreRows, IsStore, is_among, lists_of}
 use Rattle.loc_cover.proofs.Stored.{entry_past, is_new, number_is}
 use Rattle.loc_cover.proofs.store.Store.number_by_order.Goals as goal

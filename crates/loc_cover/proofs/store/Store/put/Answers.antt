@@ -3,7 +3,7 @@ use Rattle.std.specs.BTreeMap.{insert_entry}
 use Rattle.std.specs.Cmp.Lexicographic.{slice_cmp}
 use Rattle.std.specs.Ordering.{nat_cmp}
 use Rattle.std.proofs.lemmas.List.{length-map, map_push}
-use Rattle.loc_cover.specs.Legends.{most_members}
+use Rattle.loc_spec_text.specs.Limits.{most_members}
 use Rattle.loc_cover.specs.Stores.{AreShort, StoreRows, IsStore, is_among}
 use Rattle.loc_cover.proofs.ShortLists.{short_kept}
 use Rattle.loc_cover.proofs.Stored.{entry_stands, few_rows, stored}

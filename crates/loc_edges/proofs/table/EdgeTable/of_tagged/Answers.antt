@@ -1,38 +1,16 @@
-use Rattle.std.proofs.Common.{◌≡◌, List, sym, ◌∙◌, subst}
+use Rattle.std.proofs.Common.{◌≡◌, List}
 use Rattle.std.proofs.lemmas.Result.{IfOk-weaker}
 use Rattle.loc_spec_plane.specs.Points.{Edge}
 use Rattle.loc_spec_plane.specs.Rings.{Rings}
-use Rattle.loc_spec_plane.specs.Tables.{IsTable, pieces_of, table_by}
-use Rattle.loc_laws_noding.proofs.Tables.{is_table}
-use Rattle.loc_edges.specs.Kept.{AreEdges}
+use Rattle.loc_spec_plane.specs.Tables.{table_by}
 use Rattle.loc_edges.specs.Layers.{AreOfLayer}
-use Rattle.loc_edges.specs.Parts.{table_with}
-use Rattle.loc_edges.specs.Small.{IsSmallTable}
-use Rattle.loc_edges.proofs.Ordered.{table_is, table_is-edges, table_is-small}
 use Rattle.loc_edges.proofs.table.EdgeTable.of_tagged.Goals as goal
-use Rattle.loc_edges.proofs.table.EdgeTable.of_tagged.Goals.{In_ok-marks}
-
--- what is made
-made : (c : In_ok-marks) → table_with c.args.corners.items c.args.ends.items c.in_ok-marks.marks c.args.sources.items ≡ table_by c.requires.of_layer.0 c.requires.of_layer.1.0
-made c = table_is c.requires.of_layer.0 c.requires.of_layer.1.0 c.args.corners.items c.args.edges.items c.args.ends.items c.args.sources.items c.args.tagged.items _ c.requires.of_layer.1.1 c.in_ok-marks.ensures
 
 pub edge_marks-requires-clause-in_order : goal.edge_marks-requires-clause-in_order
 edge_marks-requires-clause-in_order c = c.requires.of_layer.1.1.in_order
 
-pub assemble-requires-clause-in_order : goal.assemble-requires-clause-in_order
-assemble-requires-clause-in_order c =
-    let of = c.requires.of_layer in
-    subst IsTable (sym (made c)) (is_table of.0 of.1.0 of.1.1.is_cutting)
-
-pub assemble-requires-clause-small : goal.assemble-requires-clause-small
-assemble-requires-clause-small c =
-    let of = c.requires.of_layer in
-    subst IsSmallTable (sym (made c)) (table_is-small of.0 of.1.0 c.args.corners.items c.args.edges.items of.1.1.corners_are of.1.1.edges_are c.requires.few_corners c.requires.few_edges)
-
-pub assemble-requires-clause-edges : goal.assemble-requires-clause-edges
-assemble-requires-clause-edges c =
-    let of = c.requires.of_layer in
-    subst (AreEdges _) (sym of.1.1.edges_are) (subst (λ t. AreEdges t (pieces_of of.0 of.1.0)) (sym (made c)) (table_is-edges of.0 of.1.0 of.1.1.is_cutting))
+pub of_marks-requires-clause-of_layer : goal.of_marks-requires-clause-of_layer
+of_marks-requires-clause-of_layer c = let of = c.requires.of_layer in (of.0, (of.1.0, (c.args.tagged.items, (of.1.1, c.in_ok-marks.ensures))))
 
 pub returns : goal.returns
-returns c = IfOk-weaker c.assemble.result _ (λ t. (cut : Edge → List Edge) (layer : List Rings) → AreOfLayer cut layer c.args.corners.items c.args.edges.items c.args.ends.items c.args.sources.items c.args.tagged.items → t ≡ table_by cut layer) (λ t is cut layer h. is ∙ table_is cut layer c.args.corners.items c.args.edges.items c.args.ends.items c.args.sources.items c.args.tagged.items _ h c.in_ok-marks.ensures) c.assemble.ensures
+returns c = IfOk-weaker c.of_marks.result _ (λ t. (cut : Edge → List Edge) (layer : List Rings) → AreOfLayer cut layer c.args.corners.items c.args.edges.items c.args.ends.items c.args.sources.items c.args.tagged.items → t ≡ table_by cut layer) (λ t is cut layer of. is cut layer c.args.tagged.items of c.in_ok-marks.ensures) c.of_marks.ensures

@@ -20,12 +20,13 @@ pub returns : goal.returns
 returns c =
     let t = c.args.ranks.now in
     let m = c.self.inside.versions in
+    let path = c.walk_to-way.new.path.items in
     let way = c.walk_to-way.result in
     let test : ℕ → Bool = λ e. is_above (edge t e) (corner t c.args.corner) in
     let none = never_stops m way.next c.walk_to-way.ensures.stops in
-    let g = way_end test None m way c.walk_to-way.ensures.way none in
-    let stop = way_search test None m way c.walk_to-way.ensures.way none in
+    let g = way_end test None m path way c.walk_to-way.ensures.way none in
+    let stop = way_search test None m path way c.walk_to-way.ensures.way none in
     let list_is = ap (λ (m : VersionsMeaning). m.list) c.self.view_is in
     let chain = subst (λ es. is_chain_at t c.args.corner es ≡ true) (sym list_is) c.requires.chain in
     subst (λ es. way.beside.below ≡ last_that test es) list_is
-    (last_found test m.list (length g.front) way.beside.below stop (none_above_later t c.args.corner m.list chain (length g.front) stop) g.below.none (below_there (present_nodes m) m.list way.path.items way.beside.below way.beside.above g))
+    (last_found test m.list (length g.front) way.beside.below stop (none_above_later t c.args.corner m.list chain (length g.front) stop) g.below.none (below_there (present_nodes m) m.list path way.beside.below way.beside.above g))

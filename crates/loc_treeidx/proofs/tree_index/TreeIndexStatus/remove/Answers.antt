@@ -7,7 +7,7 @@ use Rattle.loc_treeidx.proofs.Changes.{removes_edge}
 use Rattle.loc_treeidx.proofs.tree_index.TreeIndexStatus.remove.Goals as goal
 
 pub returns-clause-ok : goal.returns-clause-ok
-returns-clause-ok c = subst (λ (m : VersionsMeaning). Removes c.args.edge (meaning_of m) (meaning_of c.remove_at.new.self)) c.self.view_is (removes_edge c.args.edge c.self.inside.versions c.remove_at.new.self c.node_of-path.result.0.items c.node_of-path.result.1 c.node_of-path.ensures.node c.in_ok-remove_at.ensures.removes)
+returns-clause-ok c = subst (λ (m : VersionsMeaning). Removes c.args.edge (meaning_of m) (meaning_of c.remove_at.new.self)) c.self.view_is (removes_edge c.args.edge c.self.inside.versions c.remove_at.new.self c.node_of.new.path.items c.node_of.result.0 c.node_of.ensures.node c.in_ok-remove_at.ensures.removes)
 
 pub returns-clause-beside : goal.returns-clause-beside
-returns-clause-beside c = subst (λ (m : VersionsMeaning). IsBeside c.args.edge m.list c.node_of-path.result.2) c.self.view_is c.node_of-path.ensures.beside
+returns-clause-beside c = subst (λ (m : VersionsMeaning). IsBeside c.args.edge m.list c.node_of.result.1) c.self.view_is c.node_of.ensures.beside
