@@ -1,5 +1,5 @@
 -- The answers to the lines of a file that was taken up are those to a source.
-use Rattle.std.proofs.Common.{◌≡◌, ◌≢◌, ℕ, ◌+◌, List, [], ◌∷◌, ◌++◌, Option, Some, None, Result, Ok, Err, refl, sym, ◌∙◌, ap, subst, arith, append-nil, inl, inr}
+use Rattle.std.proofs.Common.{◌≡◌, ◌≢◌, ℕ, ◌+◌, Bool, List, [], ◌∷◌, ◌++◌, Option, Some, None, Result, Ok, Err, refl, sym, ◌∙◌, ap, subst, arith, append-nil, inl, inr}
 use Rattle.std.specs.Prelude.{option_map}
 use Rattle.std.specs.Io.KnownBytes.{Appends, Keeps}
 use Rattle.loc_io.specs.Causes.{Rose}
@@ -12,14 +12,15 @@ use Rattle.loc_spec_text.specs.Answered.{Answered, answered, with_answer}
 use Rattle.loc_spec_text.specs.Bytes.{Text, ended_lines, lines}
 use Rattle.loc_place.specs.declared.locator.Deep.{Deep}
 use Rattle.loc_batch.specs.Batches.{Answers, AnswersCut, AnswersRest, AnswersTo, AreSeen, IsFrontOf, IsLonger, IsWholeOf, ReadsAreCounted}
+use Rattle.loc_batch.specs.PointLines.{is_point_line}
 use Rattle.loc_batch.specs.Told.{Telling, Told, told_text}
 use Rattle.loc_batch.specs.declared.tally.Tally.{Tally}
 use Rattle.loc_batch.specs.declared.faults.BatchFault.{BatchFault}
 use Rattle.loc_batch.specs.declared.faults.BatchFault.TheVariants as b
-use Rattle.loc_course.specs.Courses.{Stopped}
+use Rattle.loc_course.specs.Courses.{Stopped, unread}
 use Rattle.loc_course.specs.Moments.{moment, IsToldLong, IsToldText}
 use Rattle.loc_course.specs.Stops.{source}
-use Rattle.loc_course.specs.Streams.{AnswersAreCounted, AnswersSource, IsToldFront, out_of, AreSeen as AreTold, AnswersTo as TellsTo}
+use Rattle.loc_course.specs.Streams.{Answering, AnswersAreCounted, AnswersSource, IsToldFront, out_of, AreSeen as AreTold, AnswersTo as TellsTo}
 use Rattle.loc_answering.specs.ByLine.{deep_text, stopped_by, told_by_line, told_bytes}
 
 abbrev note_of : Deep → Text
@@ -90,10 +91,42 @@ counts answer too_long limit rest n text t t' o o' k r r' (Err b.PointsLong) sam
 counts answer too_long limit rest n text t t' o o' k r r' (Err b.ReadFault) same p c = (subst (λ (q : ℕ). Rose q r') same c, p.1.steady)
 counts answer too_long limit rest n text t t' o o' k r r' (Err b.WriteFault) same p c = (c ∙ same, p.2.rose)
 
+-- nothing is written
+adds_nothing : (written : Option Text) → Appends written written []
+adds_nothing None = tt
+adds_nothing (Some bytes) = sym (append-nil bytes)
+
+-- nothing was seen of a file
+none_told : (told : FileTold) → IsToldFront told []
+none_told untold = tt
+none_told absent = refl
+none_told (holds bytes) = (bytes, refl)
+
+-- a file that could not be taken up
+pub unread_source : {T E : Type 0} {name too_long : Text} {limit each : ℕ} {searched : Text → Bool} {answer : Answering} {old new : Meaning} {o : Stream} {k : ℕ} {e : E}
+    → TakesUp {T = T} {E = E} name old new (Err e) → AnswersSource (source name limit too_long) searched each answer (moment old o k) (moment new o k) (Some unread)
+unread_source {name = name} {old = old} {new = new} {o = o} up = record {
+  files = up.files;
+  making = up.making;
+  taken = 0;
+  entries = up.entries;
+  there = λ gone. refl;
+  text = [];
+  within = omega arith;
+  of_taken = inl refl;
+  told = none_told (old.told name);
+  comes = ([], [], refl, adds_nothing o.written);
+  counts = (up.cause.failed, refl);
+  in_time = in_time_by old new up.late;
+  out_in_time = λ none_failed. refl;
+  up = omega arith;
+  steps = ([], inl refl, omega arith);
+}
+
 -- a file that was taken up and answered
-pub answered_source : {E : Type 0} {answer : Telling} {name too_long : Text} {each limit : ℕ} {old mid new : Meaning} {t t' : Tally} {o o' : Stream} {k k' : ℕ} {x : Unit {0}}
-    → TakesUp {T = Unit {0}} {E = E} name old mid (Ok x) → (r : Result (Unit {0}) BatchFault) → AnswersRest answer each limit mid new t t' o o' k k' r
-    → AnswersSource (source name limit too_long) each (told_by_line answer) (moment old o k) (moment new o' k') (came_of too_long r)
+pub answered_source : {E : Type 0} {answer : Telling} {name too_long : Text} {scale each limit : ℕ} {old mid new : Meaning} {t t' : Tally} {o o' : Stream} {k k' : ℕ} {x : Unit {0}}
+    → TakesUp {T = Unit {0}} {E = E} name old mid (Ok x) → (r : Result (Unit {0}) BatchFault) → AnswersRest answer scale each limit mid new t t' o o' k k' r
+    → AnswersSource (source name limit too_long) (is_point_line scale) each (told_by_line answer) (moment old o k) (moment new o' k') (came_of too_long r)
 answered_source {answer = answer} {name = name} {too_long = too_long} {limit = limit} {old = old} {mid = mid} {new = new} {t = t} {t' = t'} {o = o} {o' = o'} up r p = record {
   files = files_then old mid new up.files p.files;
   making = making_then old mid new up.making p.making;
@@ -110,5 +143,5 @@ answered_source {answer = answer} {name = name} {too_long = too_long} {limit = l
   in_time = λ no_read no_write. p.reads_in_time (up.cause.steady ∙ no_read) (up.making.write_faults ∙ no_write) ∙ in_time_by old mid up.late no_read no_write;
   out_in_time = p.in_time;
   up = p.up;
-  steps = p.steps;
+  steps = (p.steps.0, seen_told (old.told name) mid.rest up.opened.0 up.opened.2 p.taken p.text p.steps.0 p.steps.1, p.steps.2);
 }

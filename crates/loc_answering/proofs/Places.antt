@@ -1,5 +1,5 @@
 -- What is told by places, as bytes, is what is answered by them.
-use Rattle.std.proofs.Common.{◌≡◌, ℕ, ◌+◌, Option, Result, Ok, Err, refl, ◌∙◌, ap, subst, arith}
+use Rattle.std.proofs.Common.{◌≡◌, ℕ, ◌+◌, Bool, Option, Result, Ok, Err, refl, ◌∙◌, ap, subst, arith}
 use Rattle.std.proofs.Math.Path.{fun_ext}
 use Rattle.loc_spec_plane.specs.Points.{Point}
 use Rattle.loc_spec_plane.specs.declared.Place.{Place}
@@ -24,9 +24,9 @@ module _ (scale : ℕ) (finds : Point → Result Place Deep) (shown : Option ℕ
       by (Err d) = refl
 
   -- a source that was answered by places
-  pub places_source : (source : Source) (most : ℕ) (old new : Moment) (end : Option Stopped) → AnswersSource source (most + 0) (told_by_line (told_by scale finds (told_place shown rows))) old new end
-      → AnswersSource source most (by_line (answer_by scale finds shown rows)) old new end
-  places_source source most old new end p =
+  pub places_source : (source : Source) (searched : Text → Bool) (most : ℕ) (old new : Moment) (end : Option Stopped) → AnswersSource source searched (most + 0) (told_by_line (told_by scale finds (told_place shown rows))) old new end
+      → AnswersSource source searched most (by_line (answer_by scale finds shown rows)) old new end
+  places_source source searched most old new end p =
       let same : most + 0 ≡ most = omega arith in
-      subst (λ (k : ℕ). AnswersSource source k (by_line (answer_by scale finds shown rows)) old new end) same
-      (subst (λ (answer : Text → Result Text Text). AnswersSource source (most + 0) answer old new end) lines_are p)
+      subst (λ (k : ℕ). AnswersSource source searched k (by_line (answer_by scale finds shown rows)) old new end) same
+      (subst (λ (answer : Text → Result Text Text). AnswersSource source searched (most + 0) answer old new end) lines_are p)

@@ -1,7 +1,10 @@
+pub mod Counting
 pub mod Cutting
 pub mod Feeding
 pub mod Lines
+pub mod Marks
 pub mod Named
+pub mod Pieces
 pub mod Placed
 pub mod Points
 pub mod Streamed

@@ -1,8 +1,7 @@
 -- Lines that are answered one after the other.
-use Rattle.std.proofs.Common.{◌≡◌, ℕ, ◌+◌, ◌-◌, ◌*◌, ◌<◌, ◌≤◌, List, [], ◌∷◌, ◌++◌, length, drop, get_or, map, Option, Some, None, Result, Ok, Err, refl, sym, ◌∙◌, ap, subst, arith, append_assoc, append-nil, length-append, inl, inr}
+use Rattle.std.proofs.Common.{◌≡◌, ℕ, ◌+◌, ◌-◌, ◌<◌, ◌≤◌, List, [], ◌∷◌, ◌++◌, length, drop, get_or, map, Option, Some, None, Result, Ok, Err, refl, sym, ◌∙◌, ap, subst, arith, append_assoc, append-nil, inl, inr}
 use Rattle.std.specs.Prelude.{option_map}
 use Rattle.std.specs.Io.KnownBytes.{Appends}
-use Rattle.std.proofs.Math.Nat.{add-mul, mul-add}
 use Rattle.std.proofs.lemmas.List.{at_drop_more, drop_all}
 use Rattle.std.proofs.lemmas.Grind.{flat_map-append}
 use Rattle.loc_spec_plane.specs.Points.{Point}
@@ -170,27 +169,3 @@ sent_in_time a t t1 o m n h i (Ok y) result q s late = in_time_after o m n q.2.i
 sent_in_time a t t1 o m n h i (Err (f.Deep version)) result q s late = in_time_after o m n q.2.in_time q.2.steady late
 sent_in_time a t t1 o m n h i (Err f.PointsLong) result q s late = absurd q
 sent_in_time a t t1 o m n h i (Err f.WriteFault) result q s late = subst (λ (p : Stream). InTime o p) (sym s.1) q.1.in_time
-
--- so many lines less are left
-pub fewer : (steps steps' most bound found : ℕ) (now lines more : List (List ℕ)) → now ≡ lines ++ more → found ≡ length lines → steps' ≤ steps + found * most → steps + length now * most ≤ bound → steps' + length more * most ≤ bound
-fewer steps steps' most bound found now lines more cut many within so_far =
-    let longer : length now ≡ length lines + length more = ap length cut ∙ length-append lines more in
-    let product : length now * most ≡ length lines * most + length more * most = ap (λ k. k * most) longer ∙ add-mul (length lines) (length more) most in
-    let same : found * most ≡ length lines * most = ap (λ k. k * most) many in
-    omega (arith, within, so_far, product, same)
-
--- one line more was answered
-pub next_few : (i steps before after most : ℕ) → before ≤ steps + i * most → after ≤ before + most → after ≤ steps + (i + 1) * most
-next_few i steps before after most few within = omega (arith, few, within, add-mul i 1 most)
-
--- and no more lines are
-pub no_more_few : (i all steps after most : ℕ) → i ≤ all → after ≤ steps + i * most → after ≤ steps + all * most
-no_more_few i all steps after most below few =
-    let rest : all ≡ i + (all - i) = omega (arith, below) in
-    omega (arith, few, ap (λ k. k * most) rest, add-mul i (all - i) most)
-
--- what was found for the lines of a block, and then answered
-pub sought_and_put : (lines steps mid after asked answered most more : ℕ) → mid ≤ steps + asked * most → after ≤ mid + answered * more → answered ≡ lines → asked ≡ lines → after ≤ steps + asked * (most + more)
-sought_and_put lines steps mid after asked answered most more sought put all many =
-    let same : answered * more ≡ asked * more = ap (λ k. k * more) (all ∙ sym many) in
-    omega (arith, sought, put, same, mul-add asked most more)

@@ -1,7 +1,9 @@
 -- What is found for the queries of a block, in any order, is what is found for each of its points.
 use Rattle.std.proofs.Common.{◌≡◌, ◌≢◌, ℕ, zero, suc, ◌<◌, ◌≤◌, ◌⊎◌, inl, inr, List, [], ◌∷◌, ◌++◌, length, get_or, map, Option, Some, None, refl, sym, ◌∙◌, ap, subst, arith}
 use Rattle.std.specs.Prelude.{set, option_map, slice_index_or, ◌==◌}
-use Rattle.std.proofs.Common.{take, true, false, ap₂, append_assoc, length-append}
+use Rattle.std.proofs.Common.{take, true, false, ap₂, append_assoc, cond, count_by, length-append}
+use Rattle.std.specs.Option.{is_some}
+use Rattle.std.proofs.lemmas.List.Sums.{sum_by_push}
 use Rattle.std.proofs.lemmas.List.Elements.{All-append, All-cons, All-nil, Contains-push}
 use Rattle.std.proofs.lemmas.List.{map-append}
 use Rattle.loc_spec_text.specs.Bytes.{ended_lines, unfinished}
@@ -25,7 +27,7 @@ held_again points b queries order h = record {
   empty = h.empty;
   right = All-permutation (λ (q : Query). get_or points q.line None ≡ Some q.point) b.queries queries order h.right;
   asked = λ i p is. Contains-permutation b.queries queries (record { point = p; line = i }) order (h.asked i p is);
-  few = subst (λ n. n ≤ length points) (sym (length_permutation b.queries queries order)) h.few;
+  few = subst (λ n. n ≤ count_by is_some points) (sym (length_permutation b.queries queries order)) h.few;
 }
 
 -- a query of the line is among them
@@ -121,7 +123,7 @@ holds_more points None b h = record {
   empty = none_more b.found h.empty;
   right = right_more points None b.queries h.right;
   asked = λ i p is. elim (at_last points None i p is) [ inl old ↦ h.asked i p old | inr new ↦ absurd (cc (new.1)) ];
-  few = omega (arith, h.few, length-append points (None ∷ []));
+  few = omega (arith, h.few, sum_by_push (λ (p : Option Point). cond (is_some p) 1 0) points None);
 }
 holds_more points (Some last) b h = record {
   as_many = omega (arith, h.as_many, length-append b.found (None ∷ []), length-append points (Some last ∷ []));
@@ -131,7 +133,7 @@ holds_more points (Some last) b h = record {
     | inl old ↦ contains_before b.queries (record { point = p; line = i }) query (h.asked i p old)
     | inr new ↦ subst (λ (q : Query). Contains (b.queries ++ query ∷ []) q) (same_query p i (cc (new.1)) (h.as_many ∙ sym new.0)) (Contains-push b.queries query)
   ];
-  few = omega (arith, h.few, length-append b.queries (query ∷ []), length-append points (Some last ∷ []));
+  few = omega (arith, h.few, length-append b.queries (query ∷ []), sum_by_push (λ (p : Option Point). cond (is_some p) 1 0) points (Some last));
 }
   where
     query : Query

@@ -3,8 +3,9 @@
 --   Holds                            the block has lines that read as these points
 --   placed, AreKnown                 what is found for the queries, each in its line; and that each is known to what answers
 --   ReadsLines                       lines of a text were read into a block
-use Rattle.std.specs.Prelude.{◌≡◌, ℕ, ◌+◌, ◌≤◌, List, [], ◌∷◌, ◌++◌, length, get_or, map, set, Option, Some, None, IfSome}
+use Rattle.std.specs.Prelude.{◌≡◌, ℕ, ◌+◌, ◌≤◌, List, [], ◌∷◌, ◌++◌, count_by, length, get_or, map, set, Option, Some, None, IfSome}
 use Rattle.std.specs.List.{All, Contains}
+use Rattle.std.specs.Option.{is_some}
 use Rattle.loc_spec_plane.specs.Points.{Point}
 use Rattle.loc_spec_text.specs.Bytes.{ended_lines, split_lines, unfinished}
 use Rattle.loc_spec_text.specs.Points.{point_of}
@@ -42,13 +43,13 @@ placed finds (q ∷ queries) found = placed finds queries (placed_one finds q fo
 abbrev pub AreKnown : {F : Type 0} → (F → Type 0) → List (Option F) → Type 0
 AreKnown knows found = All (λ f. IfSome f knows) found
 
--- The block has lines that read as these points or as none: nothing is found yet, each query is of its line, and each point has a query.
+-- The block has lines that read as these points or as none: nothing is found yet, each query is of its line, each point has a query, and there are no more queries than points.
 pub record Holds {F : Type 0} (points : List (Option Point)) (b : BlockState F) : Type 0 where
   pub as_many : length b.found ≡ length points
   pub empty : All (λ f. f ≡ None) b.found
   pub right : All (λ q. get_or points q.line None ≡ Some q.point) b.queries
   pub asked : (i : ℕ) (p : Point) → get_or points i None ≡ Some p → Contains b.queries (record { point = p; line = i })
-  pub few : length b.queries ≤ length points
+  pub few : length b.queries ≤ count_by is_some points
 
 -- Lines were read into a block from a text behind an unfinished line, and what follows them is left.
 pub record ReadsLines {F : Type 0} (scale : ℕ) (line text line' rest : List ℕ) (b : BlockState F) : Type 0 where

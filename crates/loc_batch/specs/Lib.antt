@@ -6,5 +6,8 @@ pub mod Faces
 pub mod Faults
 pub mod Kept
 pub mod Lists
+pub mod Marked
+pub mod Pieces
+pub mod PointLines
 pub mod Streams
 pub mod Told

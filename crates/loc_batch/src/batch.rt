@@ -1,8 +1,9 @@
 // A batch: the lines of a stream that comes in pieces, and their answers.
 
-ghost use Rattle.std.specs.Prelude.{◌≡◌, ◌+◌, ◌*◌, ◌<◌, ◌≤◌, ◌^◌, Err, None, false, true, length, IfErr, IfOk, OnErr, OnOk};
+ghost use Rattle.std.specs.Prelude.{◌≡◌, ◌+◌, ◌*◌, ◌<◌, ◌≤◌, ◌^◌, Err, None, false, true, IfErr, IfOk, OnErr, OnOk};
 ghost use Rattle.loc_io.specs.Streams.{InTime};
 ghost use Rattle.loc_batch.specs.Batches.{Ends, Feeds, IsFresh, StaysSo, fault_or, lines_ended, within_limit};
+ghost use Rattle.loc_batch.specs.PointLines.{point_count};
 ghost use Rattle.loc_batch.specs.Streams.{last_line};
 ghost use Rattle.loc_batch.specs.Told.{told_by};
 
@@ -138,7 +139,7 @@ impl<F: Copy + Drop> Stream<F> {
         ensures stays { StaysSo self.old self.new }
         ensures closed { self.new.closed ≡ self.old.closed }
         ensures counted { steps.old ≤ steps.new }
-        ensures within { steps.new ≤ steps.old + length (lines_ended self.old piece.now) * (D.most_found by.now + D.most_put by.now) }
+        ensures within { steps.new ≤ steps.old + point_count self.old.scale (lines_ended self.old piece.now) * (D.most_found by.now + D.most_put by.now) }
     {
         if let Some(fault) = self.fault {
             return Err(fault);
@@ -169,7 +170,7 @@ impl<F: Copy + Drop> Stream<F> {
         ensures stays { StaysSo self.old self.new }
         ensures closed { self.old.closed ≡ true → self.new.closed ≡ true }
         ensures counted { steps.old ≤ steps.new }
-        ensures within { steps.new ≤ steps.old + length (last_line self.old.line) * (D.most_found by.now + D.most_put by.now) }
+        ensures within { steps.new ≤ steps.old + point_count self.old.scale (last_line self.old.line) * (D.most_found by.now + D.most_put by.now) }
     {
         if let Some(fault) = self.fault {
             return Err(fault);
@@ -230,7 +231,7 @@ impl<F: Copy + Drop> Batch<F> {
         ensures stays { StaysSo self.old self.new }
         ensures open { self.new.closed ≡ false }
         ensures counted { steps.old ≤ steps.new }
-        ensures within { steps.new ≤ steps.old + length (lines_ended self.old piece.now) * (D.most_found by.now + D.most_put by.now) }
+        ensures within { steps.new ≤ steps.old + point_count self.old.scale (lines_ended self.old piece.now) * (D.most_found by.now + D.most_put by.now) }
     {
         self.stream.feed(by, piece, sink, steps)
     }
@@ -248,7 +249,7 @@ impl<F: Copy + Drop> Batch<F> {
         ensures in_time { InTime (O.meaning sink.old) (O.meaning sink.new) }
         ensures stays { StaysSo self.old self.new }
         ensures counted { steps.old ≤ steps.new }
-        ensures within { steps.new ≤ steps.old + length (last_line self.old.line) * (D.most_found by.now + D.most_put by.now) }
+        ensures within { steps.new ≤ steps.old + point_count self.old.scale (last_line self.old.line) * (D.most_found by.now + D.most_put by.now) }
     {
         self.stream.end(by, sink, steps)
     }

@@ -13,7 +13,7 @@ use std::marker::Model;
 use std::sync::ledger::Ledger;
 
 /// How many lines a block has room for.
-const MOST_LINES: usize = 262_144;
+const MOST_LINES: usize = 131_072;
 
 /// A point that is sought, and the line of the block that reads as it.
 #[derive(Clone, Copy, PartialEq, Eq, PartialOrd, Ord, Drop)]
@@ -37,7 +37,7 @@ impl<F: Copy + Drop> Model for Block<F> {
 
     ghost view = { λ b. record { queries = b.queries.items; found = b.found.items } };
 
-    ghost invariant = { λ b. (vec_len b.queries ≤ vec_len b.found) × (vec_len b.found ≤ 262144) × (262144 ≤ vec_capacity b.queries) × (262144 ≤ vec_capacity b.found) };
+    ghost invariant = { λ b. (vec_len b.queries ≤ vec_len b.found) × (vec_len b.found ≤ 131072) × (131072 ≤ vec_capacity b.queries) × (131072 ≤ vec_capacity b.found) };
 }
 
 // What is found for each query stands in its line.
@@ -82,22 +82,22 @@ impl<F: Copy + Drop> Block<F> {
     // The number of lines.
     pub(crate) fn len(&self) -> usize
         ensures count { result ≡ length self.now.found }
-        ensures few { result ≤ 262144 }
+        ensures few { result ≤ 131072 }
     {
         self.found.len()
     }
 
     // Whether no further line has room.
     pub(crate) fn is_full(&self) -> bool
-        ensures room { result ≡ false → length self.now.found < 262144 }
-        ensures full { result ≡ true → 262144 ≤ length self.now.found }
+        ensures room { result ≡ false → length self.now.found < 131072 }
+        ensures full { result ≡ true → 131072 ≤ length self.now.found }
     {
         self.found.len() >= MOST_LINES
     }
 
     // One line more, by the point that it reads as.
     pub(crate) fn note(&mut self, point: Option<Point>)
-        requires { length self.old.found < 262144 }
+        requires { length self.old.found < 131072 }
         ensures { self.new ≡ with_line self.old point }
     {
         let line = self.found.len();
@@ -114,7 +114,7 @@ impl<F: Copy + Drop> Block<F> {
         ensures found { (points : List (Option PointValue)) → Holds points self.old → self.new.found ≡ map (option_map (D.finds by.now)) points }
         ensures known { AreKnown (D.knows by.now) self.new.found }
         ensures counted { steps.old ≤ steps.new }
-        ensures within { steps.new ≤ steps.old + length self.old.found * D.most_found by.now }
+        ensures within { steps.new ≤ steps.old + length self.old.queries * D.most_found by.now }
     {
         self.queries.sort_unstable();
         seek(&self.queries, &mut self.found, by, steps);

@@ -1,6 +1,7 @@
 // Where lines are answered: the unfinished line, the tally, the page before the sink and the block of lines.
 
-ghost use Rattle.std.specs.Prelude.{◌≡◌, ◌⊎◌, ◌+◌, ◌*◌, ◌<◌, ◌≤◌, ◌++◌, ◌∷◌, [], length, position, ◌==◌, IfOk, IfSome, MatchOption, OnOk};
+ghost use Rattle.std.specs.Prelude.{◌≡◌, ◌⊎◌, ◌+◌, ◌*◌, ◌<◌, ◌≤◌, ◌++◌, ◌∷◌, [], None, count_by, length, position, ◌==◌, IfOk, IfSome, MatchOption, OnOk};
+ghost use Rattle.std.specs.Option.{is_some};
 ghost use Rattle.loc_spec_text.specs.Answered.{answered};
 ghost use Rattle.loc_spec_text.specs.Bytes.{ended_lines, unfinished};
 ghost use Rattle.loc_spec_text.specs.Points.{no_point, point_of};
@@ -9,6 +10,7 @@ ghost use Rattle.loc_batch.specs.Batches.{no_tally};
 ghost use Rattle.loc_batch.specs.Blocks.{AreKnown, ReadsLines, no_lines, with_line};
 ghost use Rattle.loc_batch.specs.Desks.{PutsAll, PutsAnswer, PutsOne, SendsPage, WritesLines};
 ghost use Rattle.loc_batch.specs.Kept.{IsUnbroken, kept};
+ghost use Rattle.loc_batch.specs.PointLines.{point_count};
 ghost use Rattle.loc_batch.specs.Streams.{last_line, with_one};
 ghost use Rattle.loc_batch.specs.Told.{told_by, told_found, told_of};
 
@@ -113,6 +115,7 @@ impl<F: Copy + Drop> Desk<F> {
         ensures block { self.new.block ≡ self.old.block }
         ensures counted { steps.old ≤ steps.new }
         ensures within { steps.new ≤ steps.old + D.most_put by.now }
+        ensures unsought { found ≡ None → steps.new ≡ steps.old }
     {
         match found {
             Some(found) => by.put(
@@ -130,7 +133,7 @@ impl<F: Copy + Drop> Desk<F> {
     // The line that this text ends is one more of the block.
     fn read_line(&mut self, scale: u8, text: &[u8])
         requires scale { scale ≤ 15 }
-        requires room { length self.old.block.found < 262144 }
+        requires room { length self.old.block.found < 131072 }
         ensures block { self.new.block ≡ with_line self.old.block (point_of scale (self.old.line.items ++ text.now)) }
         ensures line { self.new.line.items ≡ [] }
         ensures tally { self.new.tally ≡ self.old.tally }
@@ -144,7 +147,7 @@ impl<F: Copy + Drop> Desk<F> {
     // The next line of a text, if the block has room for it, and what follows it.
     fn next_line<'a>(&self, text: &'a [u8]) -> Option<(&'a [u8], &'a [u8])>
         ensures cuts { MatchOption result (IsUnbroken text.now ⊎ (0 < length self.now.block.found)) (λ l. (text.now ≡ l.0.now ++ 10 ∷ l.1.now) × IsUnbroken l.0.now) }
-        ensures room { IfSome result (λ _. length self.now.block.found < 262144) }
+        ensures room { IfSome result (λ _. length self.now.block.found < 131072) }
         ensures shorter { IfSome result (λ l. length l.1.now < length text.now) }
     {
         if self.block.is_full() {
@@ -201,7 +204,7 @@ impl<F: Copy + Drop> Desk<F> {
         ensures answers { PutsAll (answered (told_found (D.tells by.now)) self.old.block.found) self.old.tally self.new.tally (O.meaning sink.old) (O.meaning sink.new) self.old.page self.new.page result }
         ensures line { self.new.line ≡ self.old.line }
         ensures counted { steps.old ≤ steps.new }
-        ensures within { steps.new ≤ steps.old + length self.old.block.found * D.most_put by.now }
+        ensures within { steps.new ≤ steps.old + count_by is_some self.old.block.found * D.most_put by.now }
     {
         for line in 0..self.block.len() {
             let found = self.block.found(line);
@@ -226,7 +229,7 @@ impl<F: Copy + Drop> Desk<F> {
         ensures line { OnOk result (self.new.line.items ≡ kept (unfinished (self.old.line.items ++ text.now))) }
         ensures unbroken { IsUnbroken self.new.line.items }
         ensures counted { steps.old ≤ steps.new }
-        ensures within { steps.new ≤ steps.old + length (ended_lines (self.old.line.items ++ text.now)) * (D.most_found by.now + D.most_put by.now) }
+        ensures within { steps.new ≤ steps.old + point_count scale (ended_lines (self.old.line.items ++ text.now)) * (D.most_found by.now + D.most_put by.now) }
     {
         let mut rest = text;
         while let Some(more) = self.read_lines(scale, rest) {
@@ -273,7 +276,7 @@ impl<F: Copy + Drop> Desk<F> {
         ensures line { OnOk result (self.new.line.items ≡ kept (unfinished (self.old.line.items ++ text.now))) }
         ensures unbroken { IsUnbroken self.new.line.items }
         ensures counted { steps.old ≤ steps.new }
-        ensures within { steps.new ≤ steps.old + length (ended_lines (self.old.line.items ++ text.now)) * (D.most_found by.now + D.most_put by.now) }
+        ensures within { steps.new ≤ steps.old + point_count scale (ended_lines (self.old.line.items ++ text.now)) * (D.most_found by.now + D.most_put by.now) }
     {
         self.page.clear();
         let answered = self.put_lines(scale, by, text, sink, steps);
@@ -295,7 +298,7 @@ impl<F: Copy + Drop> Desk<F> {
         ensures in_time { InTime (O.meaning sink.old) (O.meaning sink.new) }
         ensures unbroken { IsUnbroken self.new.line.items }
         ensures counted { steps.old ≤ steps.new }
-        ensures within { steps.new ≤ steps.old + length (last_line self.old.line.items) * (D.most_found by.now + D.most_put by.now) }
+        ensures within { steps.new ≤ steps.old + point_count scale (last_line self.old.line.items) * (D.most_found by.now + D.most_put by.now) }
     {
         if self.line.is_empty() {
             return Ok(());

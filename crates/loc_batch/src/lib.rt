@@ -21,7 +21,7 @@ pub use answers::{
 pub use batch::Batch;
 pub use faces::{FaceNumbers, Unnumbered};
 pub use faults::{BatchFault, FeedFault};
-pub use laws::kept_law;
+pub use laws::{kept_answers_law, kept_law, marks_law, pieces_law};
 pub use places::ByPlace;
 pub use tally::Tally;
 pub use whole::answer_all;

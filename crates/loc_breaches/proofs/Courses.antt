@@ -4,7 +4,7 @@ use Rattle.std.proofs.lemmas.List.{at_drop_more, take-append-drop}
 use Rattle.loc_spec_text.specs.Bytes.{Text}
 use Rattle.loc_spec_text.specs.Points.{ended}
 use Rattle.loc_rings.specs.Values.{Feature}
-use Rattle.loc_course.specs.Courses.{Course, Stopped, no_memory, refused, unread, unwritten, writes}
+use Rattle.loc_course.specs.Courses.{Stopped, no_memory, refused, unread, unwritten, writes}
 use Rattle.loc_course.specs.Following.{Follows, Moment, lacks, refuses_by}
 use Rattle.loc_course.proofs.Told.{exactly_it}
 use Rattle.loc_breaches.specs.BreachCourses.{IsRefusedBy, are_lines, first_refusal, judged_course, refusal_of, refused_or}

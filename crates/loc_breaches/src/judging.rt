@@ -44,7 +44,7 @@ fn judged_lines(alloc: Global, layer: &Layer, scale: Scale) -> Result<Vec<u8>, S
     let mut text = Vec::new(alloc);
     for feature in layer.features() {
         let breach = judged(alloc, feature)?;
-        push_line(&mut text, feature.id(), breach, scale.decimals())?;
+        push_line(&mut text, feature.id(), breach, scale)?;
     }
     Ok(text)
 }

@@ -1,6 +1,6 @@
 //! The line of a feature.
 
-ghost use Rattle.std.specs.Prelude.{◌≡◌, ◌≤◌, ◌++◌, OnOk, Some, codes};
+ghost use Rattle.std.specs.Prelude.{◌≡◌, ◌++◌, OnOk, Some, codes};
 ghost use Rattle.std.specs.Fmt.{decimal};
 ghost use Rattle.std.specs.List.{flat_map};
 ghost use Rattle.loc_spec_text.specs.Points.{grid_text, position_text, quoted_byte};
@@ -9,6 +9,7 @@ ghost use Rattle.loc_valid.specs.Judged.{told};
 
 use itoa::Buffer;
 use loc_geom::{Edge, Point};
+use loc_spec_text::Scale;
 use loc_valid::Breach;
 use loc_wkt::put_grid;
 use std::alloc::AllocError;
@@ -32,18 +33,16 @@ fn push_numbered(
 }
 
 // A coordinate at a scale.
-fn push_value(text: &mut Vec<u8>, value: i64, scale: u8) -> Result<(), AllocError>
-    requires scale { scale ≤ 15 }
+fn push_value(text: &mut Vec<u8>, value: i64, scale: Scale) -> Result<(), AllocError>
     ensures { OnOk result (text.new.items ≡ text.old.items ++ grid_text scale value) }
 {
     let mut room = [b'0'; ROOM];
-    let start = put_grid(&mut room, value, scale);
+    let start = put_grid(&mut room, value, scale.decimals());
     text.extend_from_slice(&room[start..])
 }
 
 // x, a space, y.
-fn push_position(text: &mut Vec<u8>, point: Point, scale: u8) -> Result<(), AllocError>
-    requires scale { scale ≤ 15 }
+fn push_position(text: &mut Vec<u8>, point: Point, scale: Scale) -> Result<(), AllocError>
     ensures { OnOk result (text.new.items ≡ text.old.items ++ position_text scale point) }
 {
     push_value(text, point.x(), scale)?;
@@ -52,8 +51,7 @@ fn push_position(text: &mut Vec<u8>, point: Point, scale: u8) -> Result<(), Allo
 }
 
 // The two ends of an edge.
-fn push_edge(text: &mut Vec<u8>, edge: Edge, scale: u8) -> Result<(), AllocError>
-    requires scale { scale ≤ 15 }
+fn push_edge(text: &mut Vec<u8>, edge: Edge, scale: Scale) -> Result<(), AllocError>
     ensures { OnOk result (text.new.items ≡ text.old.items ++ edge_text scale edge) }
 {
     push_position(text, edge.lo(), scale)?;
@@ -67,9 +65,8 @@ fn push_edge_in(
     before: &[u8],
     edge: Edge,
     after: &[u8],
-    scale: u8,
+    scale: Scale,
 ) -> Result<(), AllocError>
-    requires scale { scale ≤ 15 }
     ensures { OnOk result (text.new.items ≡ text.old.items ++ (before.now ++ edge_text scale edge ++ after.now)) }
 {
     text.extend_from_slice(before)?;
@@ -78,8 +75,7 @@ fn push_edge_in(
 }
 
 // Two edges that cross.
-fn push_crossing(text: &mut Vec<u8>, a: Edge, b: Edge, scale: u8) -> Result<(), AllocError>
-    requires scale { scale ≤ 15 }
+fn push_crossing(text: &mut Vec<u8>, a: Edge, b: Edge, scale: Scale) -> Result<(), AllocError>
     ensures { OnOk result (text.new.items ≡ text.old.items ++ (codes "edges " ++ edge_text scale a ++ codes " and " ++ edge_text scale b ++ codes " cross")) }
 {
     push_edge_in(text, b"edges ", a, b" and ", scale)?;
@@ -87,8 +83,7 @@ fn push_crossing(text: &mut Vec<u8>, a: Edge, b: Edge, scale: u8) -> Result<(), 
 }
 
 // A ring that is twice at a point.
-fn push_pinch(text: &mut Vec<u8>, ring: u32, at: Point, scale: u8) -> Result<(), AllocError>
-    requires scale { scale ≤ 15 }
+fn push_pinch(text: &mut Vec<u8>, ring: u32, at: Point, scale: Scale) -> Result<(), AllocError>
     ensures { OnOk result (text.new.items ≡ text.old.items ++ (codes "ring " ++ decimal ring ++ codes " twice at " ++ position_text scale at)) }
 {
     push_numbered(text, b"ring ", ring, b" twice at ")?;
@@ -111,8 +106,7 @@ fn push_pair(
 }
 
 // What is said of a breach.
-fn push_breach(text: &mut Vec<u8>, breach: Breach, scale: u8) -> Result<(), AllocError>
-    requires scale { scale ≤ 15 }
+fn push_breach(text: &mut Vec<u8>, breach: Breach, scale: Scale) -> Result<(), AllocError>
     ensures { OnOk result (text.new.items ≡ text.old.items ++ breach_text scale (told (Some breach))) }
 {
     match breach {
@@ -134,8 +128,7 @@ fn push_breach(text: &mut Vec<u8>, breach: Breach, scale: u8) -> Result<(), Allo
 }
 
 // What is said of a feature.
-fn push_said(text: &mut Vec<u8>, breach: Option<Breach>, scale: u8) -> Result<(), AllocError>
-    requires scale { scale ≤ 15 }
+fn push_said(text: &mut Vec<u8>, breach: Option<Breach>, scale: Scale) -> Result<(), AllocError>
     ensures { OnOk result (text.new.items ≡ text.old.items ++ breach_text scale (told breach)) }
 {
     match breach {
@@ -170,9 +163,8 @@ pub(crate) fn push_line(
     text: &mut Vec<u8>,
     id: &[u8],
     breach: Option<Breach>,
-    scale: u8,
+    scale: Scale,
 ) -> Result<(), AllocError>
-    requires scale { scale ≤ 15 }
     ensures { OnOk result (text.new.items ≡ text.old.items ++ breach_line scale id.now (told breach)) }
 {
     text.push(b'"')?;

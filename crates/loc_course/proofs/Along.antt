@@ -143,7 +143,7 @@ within (reads_not shelf read) k most = omega arith
 within (reads_by {next = next} text shelf read rest) k most =
     within rest k (subst (λ (told : Text → Told). WithinSteps told (next text) k) (sym (fun_ext read.files)) (most text (omega (arith, read.comes.0, read.comes.1)) read.comes.2))
 within (searches_by steps more few rest) k most = let l = within rest most.0 most.2 in omega (arith, few, most.1, l)
-within (answers_by done) k most = let l = most done.text done.within done.told in omega (arith, done.steps, l)
+within (answers_by done) k most = let l = most done.taken done.text done.steps.0 done.within done.told done.steps.1 in omega (arith, done.steps.2, l)
 within (writes_by text out is w) k most = omega arith
 within (makes_by text shelf is made) k most = omega arith
 

@@ -66,8 +66,8 @@ did_at (reads_by {s = s} {next = next} {m = m} {n = n} {end = end} text shelf re
       behind_reading (next text) m.shelf.told shelf.told m n m.shelf.write_faults shelf.write_faults e (fun_ext read.files) read.making.write_faults more,
     )) end (did_at rest)
 did_at (searches_by steps up within rest) = did_at rest
-did_at (answers_by {s = s} {each = each} {answer = answer} {m = m} {n = n} {came = came} done) =
-    at_any (Did (answers s each answer) m n) came (done.taken, done.text, done.within, done.told, done.comes)
+did_at (answers_by {s = s} {searched = searched} {each = each} {answer = answer} {m = m} {n = n} {came = came} done) =
+    at_any (Did (answers s searched each answer) m n) came (done.taken, done.text, done.within, done.told, done.comes)
 did_at (writes_by {passes = passes} {m = m} {came = came} text out is w) = at_any (Did (writes passes) m (record m { out = out })) came (text, is, w.wrote)
 did_at (makes_by {name = name} {passes = passes} {m = m} {came = came} text shelf is made) =
     at_any (Did (makes name passes) m (record m { shelf = shelf })) came (record { made = text; is = is; file = made.made; counts = made.counts })

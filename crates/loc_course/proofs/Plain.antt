@@ -21,6 +21,6 @@ pub none_behind : (c : Course) (line : Text) → AtOnce c → MayRefuseBehind c 
 none_behind (refuses passes) line once by = by
 none_behind (reads s next) line once by = none_behind (next by.0) line (once by.0) by.1
 none_behind (searches k c) line once by = none_behind c line once by
-none_behind (answers s each answer) line once by = once
+none_behind (answers s searched each answer) line once by = once
 none_behind (writes passes) line once by = by
 none_behind (makes name passes) line once by = by

@@ -33,7 +33,7 @@ abbrev pub DidSo : Course → (Text → Told) → Stream → ℕ → Moment → 
 DidSo (refuses passes) told out faults new end = ⊥
 DidSo (reads s next) told out faults new end = (text : Text) × (length text ≤ s.limit) × IsToldText (told s.name) text × DidSo (next text) told out faults new end
 DidSo (searches k c) told out faults new end = DidSo c told out faults new end
-DidSo (answers s each answer) told out faults new end =
+DidSo (answers s searched each answer) told out faults new end =
     (taken : ℕ) × (text : Text) × (length text ≤ s.limit) × IsToldFront (told s.name) text × AnswersTo s answer (told s.name) taken text out.written new.out.written end
 DidSo (writes passes) told out faults new end = (text : Text) × IsTrue (passes text) × WroteSo text out new.out end
 DidSo (makes name passes) told out faults new end = MadeOf passes (told name) (new.shelf.told name) faults new.shelf.write_faults end

@@ -2,19 +2,19 @@
 -- `Done`, `RefusedOnly`, `MayMake`, `MakesNone`, `Steady`, `NoneFailed`, `IsDoing`, `Succeeds`, `Refuses`, `RefusesPartly`, `Misses`, `ReadsFail`,
 -- `WritesFail`, `NoCountRose`, `OutSo`, `AtOnce`, `MayRefuseBehind`, `OutGrows`, `Hands`, `HasLength`, `AreWhole`, `Names`, `Files`, `IsPlain`,
 -- `WithinSteps`, `SearchesNothing`, `Counts`, `InTimes`, `Ended`, `Sentences`.
-use Rattle.std.specs.Prelude.{◌≡◌, ◌≢◌, ◌⊎◌, ℕ, ◌+◌, ◌*◌, ◌-◌, ◌^◌, ◌<◌, ◌≤◌, Bool, true, [], ◌∷◌, ◌++◌, length, Option, Some, None, Result, Err, IsTrue, ⊤, codes}
+use Rattle.std.specs.Prelude.{◌≡◌, ◌≢◌, ◌⊎◌, ℕ, ◌+◌, ◌*◌, ◌-◌, ◌^◌, ◌<◌, ◌≤◌, Bool, true, List, [], ◌∷◌, ◌++◌, count_by, length, Option, Some, None, Result, Err, IsTrue, ⊤, codes}
 use Rattle.std.specs.Io.KnownBytes.{Keeps, Appends}
 use Rattle.loc_io.specs.Causes.{Rose}
 use Rattle.loc_io.specs.Entries.{Entries}
 use Rattle.loc_io.specs.Meaning.{KeepsFiles, NoneLate, Told, untold, absent, holds}
 use Rattle.loc_io.specs.Reading.{WroteFront}
 use Rattle.loc_io.specs.Streams.{InTime, Stream}
-use Rattle.loc_spec_text.specs.Bytes.{Text, lines}
+use Rattle.loc_spec_text.specs.Bytes.{Text}
 use Rattle.loc_spec_text.specs.Points.{ended}
 use Rattle.loc_course.specs.Courses.{Source, Course, refuses, reads, searches, answers, writes, makes, Stopped, refused, unread, unwritten, no_memory}
 use Rattle.loc_course.specs.Following.{Follows, IsToldAtMost, IsMade}
 use Rattle.loc_course.specs.Moments.{Moment, IsToldText}
-use Rattle.loc_course.specs.Streams.{IsToldFront}
+use Rattle.loc_course.specs.Streams.{AreSeen, IsToldFront}
 use Rattle.loc_course.specs.Outcomes.{Outcome, unknown, missing, refusal, output, partly, file, outcome}
 
 -- the status of a command
@@ -90,7 +90,7 @@ abbrev pub MayMake : Course → Text → Type 0
 MayMake (refuses passes) name = ⊥
 MayMake (reads s next) name = (text : Text) × MayMake (next text) name
 MayMake (searches k c) name = MayMake c name
-MayMake (answers s each answer) name = ⊥
+MayMake (answers s searched each answer) name = ⊥
 MayMake (writes passes) name = ⊥
 MayMake (makes made passes) name = name ≡ made
 
@@ -165,7 +165,7 @@ abbrev pub AtOnce : Course → Type 0
 AtOnce (refuses passes) = ⊤
 AtOnce (reads s next) = (text : Text) → AtOnce (next text)
 AtOnce (searches k c) = AtOnce c
-AtOnce (answers s each answer) = ⊥
+AtOnce (answers s searched each answer) = ⊥
 AtOnce (writes passes) = ⊤
 AtOnce (makes name passes) = ⊤
 
@@ -174,7 +174,7 @@ abbrev pub MayRefuseBehind : Course → Text → Type 0
 MayRefuseBehind (refuses passes) line = ⊥
 MayRefuseBehind (reads s next) line = (text : Text) × MayRefuseBehind (next text) line
 MayRefuseBehind (searches k c) line = MayRefuseBehind c line
-MayRefuseBehind (answers s each answer) line = (line ≡ s.too_long) ⊎ ((asked : Text) × (answer asked ≡ Err line))
+MayRefuseBehind (answers s searched each answer) line = (line ≡ s.too_long) ⊎ ((asked : Text) × (answer asked ≡ Err line))
 MayRefuseBehind (writes passes) line = ⊥
 MayRefuseBehind (makes name passes) line = ⊥
 
@@ -193,7 +193,7 @@ pub data Hands (told : Text → Told) : Course → Entries → Type 0 where
   hands_last : {s : Source} {next : Text → Course} (taken : ℕ) → Hands told (reads s next) ((s.name, taken) ∷ [])
   hands_on : {s : Source} {next : Text → Course} {more : Entries} (text : Text) → length text ≤ s.limit → IsToldText (told s.name) text
       → Hands told (next text) more → Hands told (reads s next) ((s.name, length text) ∷ more)
-  hands_answered : {s : Source} {each : ℕ} {answer : Text → Result Text Text} (taken : ℕ) → Hands told (answers s each answer) ((s.name, taken) ∷ [])
+  hands_answered : {s : Source} {searched : Text → Bool} {each : ℕ} {answer : Text → Result Text Text} (taken : ℕ) → Hands told (answers s searched each answer) ((s.name, taken) ∷ [])
   hands_searched : {k : ℕ} {c : Course} {more : Entries} → Hands told c more → Hands told (searches k c) more
 
 -- a file has so many bytes, where it is told
@@ -234,7 +234,8 @@ abbrev pub WithinSteps : (Text → Told) → Course → ℕ → Type 0
 WithinSteps told (refuses passes) k = ⊤
 WithinSteps told (reads s next) k = (text : Text) → length text ≤ s.limit → IsToldText (told s.name) text → WithinSteps told (next text) k
 WithinSteps told (searches j c) k = (rest : ℕ) × (j + rest ≤ k) × WithinSteps told c rest
-WithinSteps told (answers s each answer) k = (text : Text) → length text ≤ s.limit → IsToldFront (told s.name) text → length (lines text) * each ≤ k
+WithinSteps told (answers s searched each answer) k =
+    (taken : ℕ) (text : Text) (seen : List Text) → length text ≤ s.limit → IsToldFront (told s.name) text → AreSeen (told s.name) taken text seen → count_by searched seen * each ≤ k
 WithinSteps told (writes passes) k = ⊤
 WithinSteps told (makes name passes) k = ⊤
 
@@ -243,7 +244,7 @@ abbrev pub SearchesNothing : Course → Type 0
 SearchesNothing (refuses passes) = ⊤
 SearchesNothing (reads s next) = (text : Text) → SearchesNothing (next text)
 SearchesNothing (searches k c) = ⊥
-SearchesNothing (answers s each answer) = ⊥
+SearchesNothing (answers s searched each answer) = ⊥
 SearchesNothing (writes passes) = ⊤
 SearchesNothing (makes name passes) = ⊤
 

@@ -72,13 +72,13 @@ told_same layer p l on covering =
     ap₂ (λ (line : List ℕ) (c : Tally → Tally). record { line = line; counted = c }) (ap ended (ap₂ features_text on_names in_names)) (ap₂ counted on_count in_count)
 
 -- what is told to a line
-told_line : (scale : ℕ) (layer : List Feature) (parts : List Part) (line : List ℕ) → told_by_line (told_by scale (found_at parts) (λ (found : Found). Ok (told_at layer found.point))) line ≡ Ok (features_line scale layer line)
+told_line : (most scale : ℕ) (layer : List Feature) (parts : List Part) (line : List ℕ) → told_by_line (told_by scale (found_at {most = most} parts) (λ (found : Found most). Ok (told_at layer found.point))) line ≡ Ok (features_line scale layer line)
 unfolding told_by
-told_line scale layer parts line = by (point_of scale line)
+told_line most scale layer parts line = by (point_of scale line)
   where
-    by : (o : Option Point) → told_bytes (told_found (λ (found : Found). Ok (told_at layer found.point)) (option_map (found_at parts) o)) ≡ Ok (ended (option_map_or (features_at layer) o (codes "unread")))
+    by : (o : Option Point) → told_bytes (told_found (λ (found : Found most). Ok (told_at layer found.point)) (option_map (found_at {most = most} parts) o)) ≡ Ok (ended (option_map_or (features_at layer) o (codes "unread")))
     by None = refl
     by (Some p) = refl
 
-pub told_lines : (scale : ℕ) (layer : List Feature) (parts : List Part) → told_by_line (told_by scale (found_at parts) (λ (found : Found). Ok (told_at layer found.point))) ≡ (λ line. Ok (features_line scale layer line))
-told_lines scale layer parts = fun_ext (λ line. told_line scale layer parts line)
+pub told_lines : (most scale : ℕ) (layer : List Feature) (parts : List Part) → told_by_line (told_by scale (found_at {most = most} parts) (λ (found : Found most). Ok (told_at layer found.point))) ≡ (λ line. Ok (features_line scale layer line))
+told_lines most scale layer parts = fun_ext (λ line. told_line most scale layer parts line)

@@ -1,5 +1,5 @@
 -- What `features` answers, by what its told files come to.
-use Rattle.std.proofs.Common.{◌≡◌, ℕ, ◌*◌, ◌<◌, ◌≤◌, List, length, take, Option, None, Ok, Err, sym, ◌∙◌, ap, subst, inl, inr, arith, le_trans, mul-le-mul_right}
+use Rattle.std.proofs.Common.{◌≡◌, ℕ, ◌*◌, ◌<◌, ◌≤◌, List, length, take, Option, None, Ok, Err, sym, ◌∙◌, ap, subst, inl, inr, arith}
 use Rattle.std.specs.Prelude.{Bool, codes, nat_lt}
 use Rattle.std.proofs.lemmas.Bool.{cond-true}
 use Rattle.std.proofs.lemmas.Bool.Decides.{Decides-ltb}
@@ -9,16 +9,16 @@ use Rattle.loc_spec_text.specs.Answered.{Answered, answered}
 use Rattle.loc_spec_text.specs.Bytes.{Text, ended_lines, lines}
 use Rattle.loc_spec_text.specs.Points.{ended}
 use Rattle.loc_spec_text.proofs.AnsweredLaws.{all_answered, joined}
-use Rattle.loc_spec_text.proofs.LineLaws.{lines-front}
 use Rattle.loc_rings.specs.Values.{Feature}
 use Rattle.loc_csvform.specs.Layer.{LayerRead, layer_of}
+use Rattle.loc_batch.specs.PointLines.{is_point_line, point_count}
 use Rattle.loc_course.specs.Courses.{Course, Source, reads as reads_from, refuses}
 use Rattle.loc_course.specs.Moments.{IsToldText, Moment}
 use Rattle.loc_course.specs.Outcomes.{by_lines, by_refusal, exactly, outcome, output, partly}
 use Rattle.loc_course.specs.Sentences.{EndsSo, MakesNone, MayRefuseBehind, Sentences, WithinSteps}
 use Rattle.loc_course.specs.Stops.{source}
-use Rattle.loc_course.specs.Streams.{Answering, IsToldFront, answered_long, out_of}
-use Rattle.loc_course.proofs.Streamed.{long_or_short, of_whole}
+use Rattle.loc_course.specs.Streams.{Answering, answered_long, out_of}
+use Rattle.loc_course.proofs.Streamed.{long_or_short, of_whole, seen_steps}
 use Rattle.loc_told.proofs.Ends.{done_by, grown, refused_behind, refused_by}
 use Rattle.loc_maps.specs.LineTexts.{layer_fault_text}
 use Rattle.loc_maps.specs.MapCourses.{IsRead, LayerFile, read_in}
@@ -85,18 +85,15 @@ module _ (told : Text → Told) (file : LayerFile) (points layer text : Text) (i
         | inr short ↦ (read.0, read.1, short.0)
       ]
 
-  steps_within : (k : ℕ) → length (lines text) * steps_in (layer_of file.form file.scale layer) ≤ k → WithinSteps told (features_course file points) k
+  steps_within : (k : ℕ) → point_count file.scale (lines text) * steps_in (layer_of file.form file.scale layer) ≤ k → WithinSteps told (features_course file points) k
   steps_within k most other few told_so =
       let same : other ≡ layer = subst (λ (t : Told). IsToldText t other) is told_so in
       subst (λ (t : Text). WithinSteps told (read_in file.form (layer_of file.form file.scale t) (features_points file.scale points)) k) (sym same)
       (by_read (layer_of file.form file.scale layer) most)
     where
-      by_read : (r : LayerRead) → length (lines text) * steps_in r ≤ k → WithinSteps told (read_in file.form r (features_points file.scale points)) k
+      by_read : (r : LayerRead) → point_count file.scale (lines text) * steps_in r ≤ k → WithinSteps told (read_in file.form r (features_points file.scale points)) k
       by_read (Err fault) most = tt
-      by_read (Ok features) most = λ more short told_too.
-          let front = subst (λ (t : Told). IsToldFront t more) also told_too in
-          let fewer : length (lines more) ≤ length (lines text) = subst (λ (t : Text). length (lines more) ≤ length (lines t)) (sym front.1) (lines-front more front.0) in
-          le_trans (mul-le-mul_right (features_steps features) fewer) most
+      by_read (Ok features) most = λ taken more seen short told_too are. seen_steps (is_point_line file.scale) (features_steps features) k (told points) text more taken seen also told_too are most
 
 -- what the command answers
 pub features_told : (file : LayerFile) (points : Text) (old new : Moment) (n n' : Stream) (status : ℕ) → Sentences (features_course file points) old new n n' status → FeaturesTold file points old new n n' status

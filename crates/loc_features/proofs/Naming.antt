@@ -1,6 +1,6 @@
 -- Members of a list that are named while it is gone through: boxes about features with some numbers of a layer.
 use Rattle.std.proofs.Common.{◌≡◌, ℕ, zero, suc, ◌+◌, ◌-◌, ◌<◌, ◌≤◌, Bool, true, false, not, ◌&&◌, List, [], ◌∷◌, ◌++◌, length, map, filter, take, get_or, refl, sym, ◌∙◌, ap, subst, arith, append-nil, append_assoc, cond, length-append, length-take, inl, inr}
-use Rattle.std.specs.Prelude.{◌==◌, Option, Some, None, nat_lt, sum_by}
+use Rattle.std.specs.Prelude.{◌==◌, Option, Some, None, sum_by}
 use Rattle.std.specs.List.{list_any, range_with_len}
 use Rattle.std.proofs.lemmas.Bool.{cases_Bool, cond-true, cond-false, eqb-true, true≢false}
 use Rattle.std.proofs.lemmas.List.{length-map, map-append, take-take, take_all, take_more}
@@ -18,7 +18,7 @@ use Rattle.loc_spec_plane.specs.Tables.{layer_segments}
 use Rattle.loc_laws_order.proofs.Kept.{is_in-filter}
 use Rattle.loc_laws_order.proofs.Sets.{any_weaker}
 use Rattle.loc_laws_rays.proofs.Picked.{member_any}
-use Rattle.loc_laws_any.specs.Unions.{by_place, part_of, passing}
+use Rattle.loc_laws_any.specs.Unions.{part_of, passing}
 use Rattle.loc_laws_any.proofs.Joining.{part_answers}
 use Rattle.loc_cover.proofs.Lexicographic.{any_map}
 use Rattle.loc_batch.specs.Lists.{ListsState}

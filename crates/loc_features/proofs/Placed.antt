@@ -1,6 +1,6 @@
 -- The place of a point in a part, and what its legend names there.
-use Rattle.std.proofs.Common.{◌≡◌, ℕ, suc, ◌+◌, ◌-◌, ◌*◌, ◌^◌, ◌<◌, ◌≤◌, Bool, true, List, [], ◌∷◌, ◌++◌, length, length-append, map, filter, take, drop, get_or, Option, Some, None, refl, sym, ◌∙◌, ap, append_assoc, subst, inl, inr, arith}
-use Rattle.std.specs.Prelude.{All, IfSome, not, replicate, set}
+use Rattle.std.proofs.Common.{◌≡◌, ℕ, suc, ◌+◌, ◌-◌, ◌*◌, ◌^◌, ◌<◌, ◌≤◌, Bool, List, [], ◌∷◌, ◌++◌, length, length-append, map, filter, take, drop, get_or, Some, None, refl, sym, ◌∙◌, ap, append_assoc, subst, inl, inr, arith}
+use Rattle.std.specs.Prelude.{All, not, replicate, set}
 use Rattle.std.proofs.Math.Seq.{set-append_seam}
 use Rattle.std.proofs.Math.Pow.{pow_mono}
 use Rattle.std.proofs.lemmas.Bool.{cases_lt}
@@ -16,7 +16,7 @@ use Rattle.loc_rings.specs.Values.{Feature}
 use Rattle.loc_edges.specs.Small.{IsSmallTable}
 use Rattle.loc_place.specs.Answers.{IsInRange}
 use Rattle.loc_place.specs.Found.{place_at}
-use Rattle.loc_place.specs.Steps.{most_steps, search_bound}
+use Rattle.loc_place.specs.Steps.{search_bound}
 use Rattle.loc_cover.specs.Legends.{AreNamed, FitsTable, LegendRows, covering, touching}
 use Rattle.loc_batch.specs.Answering.{IsPlaceIn}
 use Rattle.loc_parts.specs.Parts.{IsPartOf, features_with, no_rings}
@@ -63,12 +63,12 @@ few_front test ns k =
     omega (arith, ap (λ ms. length (filter test ms)) (take-append-drop k ns), ap length (filter-append test (take k ns) (drop k ns)), length-append (filter test (take k ns)) (filter test (drop k ns)))
 
 -- the places in the first parts, and behind them what stands at first: one part more
-pub places_more : (parts : List Part) (p : Point) (k : ℕ) (part : Part) (places : List Place) (place : Place) → length parts ≤ 16 → k < length parts → part ≡ get_or parts k part → place ≡ place_at part.plane.table p
-    → places ≡ map (λ (one : Part). place_at one.plane.table p) (take k parts) ++ replicate (16 - k) (Area None) → set places k place ≡ map (λ (one : Part). place_at one.plane.table p) (take (k + 1) parts) ++ replicate (16 - (k + 1)) (Area None)
-places_more parts p k part places place few lt is at was =
+pub places_more : (most : ℕ) (parts : List Part) (p : Point) (k : ℕ) (part : Part) (places : List Place) (place : Place) → length parts ≤ most → k < length parts → part ≡ get_or parts k part → place ≡ place_at part.plane.table p
+    → places ≡ map (λ (one : Part). place_at one.plane.table p) (take k parts) ++ replicate (most - k) (Area None) → set places k place ≡ map (λ (one : Part). place_at one.plane.table p) (take (k + 1) parts) ++ replicate (most - (k + 1)) (Area None)
+places_more most parts p k part places place few lt is at was =
     let places_in : List Part → List Place = map (λ (one : Part). place_at one.plane.table p) in
-    let behind : List Place = replicate (16 - (k + 1)) (Area None) in
-    let next : 16 - k ≡ suc (16 - (k + 1)) = omega (arith, few, lt) in
+    let behind : List Place = replicate (most - (k + 1)) (Area None) in
+    let next : most - k ≡ suc (most - (k + 1)) = omega (arith, few, lt) in
     let many : length (places_in (take k parts)) ≡ k = length-map (take k parts) (λ (one : Part). place_at one.plane.table p) ∙ length-take-le k parts (omega (arith, lt)) in
     ap (λ ps. set ps k place) (was ∙ ap (λ n. places_in (take k parts) ++ replicate n (Area None)) next)
     ∙ (ap (λ n. set (places_in (take k parts) ++ Area None ∷ behind) n place) (sym many)
@@ -76,17 +76,17 @@ places_more parts p k part places place few lt is at was =
     ∙ (sym (append_assoc (places_in (take k parts)) (place ∷ []) behind)
     ∙ ap (λ ps. ps ++ behind) (ap (λ q. places_in (take k parts) ++ q ∷ []) (at ∙ ap (λ (one : Part). place_at one.plane.table p) is) ∙ sym (map_more (λ (one : Part). place_at one.plane.table p) parts k part lt)))))
 
--- there are sixteen of them
-pub places_many : (parts : List Part) (p : Point) (k : ℕ) (places : List Place) → length parts ≤ 16 → k ≤ length parts
-    → places ≡ map (λ (one : Part). place_at one.plane.table p) (take k parts) ++ replicate (16 - k) (Area None) → length places ≡ 16
-places_many parts p k places few le was =
+-- there are as many as there is room for
+pub places_many : (most : ℕ) (parts : List Part) (p : Point) (k : ℕ) (places : List Place) → length parts ≤ most → k ≤ length parts
+    → places ≡ map (λ (one : Part). place_at one.plane.table p) (take k parts) ++ replicate (most - k) (Area None) → length places ≡ most
+places_many most parts p k places few le was =
     omega (
       arith,
       few,
       le,
       ap length was,
-      length-append (map (λ (one : Part). place_at one.plane.table p) (take k parts)) (replicate (16 - k) (Area None)),
+      length-append (map (λ (one : Part). place_at one.plane.table p) (take k parts)) (replicate (most - k) (Area None)),
       length-map (take k parts) (λ (one : Part). place_at one.plane.table p),
       length-take-le k parts le,
-      length-replicate (16 - k) (Area None),
+      length-replicate (most - k) (Area None),
     )

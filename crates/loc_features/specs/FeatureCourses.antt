@@ -8,6 +8,7 @@ use Rattle.loc_spec_text.specs.Bytes.{Text}
 use Rattle.loc_spec_text.specs.Points.{ended}
 use Rattle.loc_rings.specs.Values.{Feature}
 use Rattle.loc_edges.specs.Layers.{layer_rings}
+use Rattle.loc_batch.specs.PointLines.{is_point_line}
 use Rattle.loc_course.specs.Courses.{Course, answers}
 use Rattle.loc_course.specs.Stops.{source}
 use Rattle.loc_maps.specs.MapCourses.{LayerFile, read_course}
@@ -18,9 +19,9 @@ use Rattle.loc_features.specs.Features.{features_line}
 abbrev pub features_steps : List Feature → ℕ
 features_steps layer = 1008 + length (layer_segments (layer_rings layer))
 
--- the points' file is read in pieces, and its lines are answered in a layer
+-- the points' file is read in pieces, its lines are answered in a layer, and those that read as points are sought
 abbrev pub features_points : ℕ → Text → List Feature → Course
-features_points scale points layer = answers (source points most_text (ended (codes "points: too long"))) (features_steps layer) (λ line. Ok (features_line scale layer line))
+features_points scale points layer = answers (source points most_text (ended (codes "points: too long"))) (is_point_line scale) (features_steps layer) (λ line. Ok (features_line scale layer line))
 
 -- The layer's file is read whole and then the points, and the lines are answered. No layer that reads is refused.
 abbrev pub features_course : LayerFile → Text → Course

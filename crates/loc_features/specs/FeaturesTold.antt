@@ -12,6 +12,7 @@ use Rattle.loc_spec_text.specs.Points.{ended}
 use Rattle.loc_rings.specs.Values.{Feature}
 use Rattle.loc_csvform.specs.Layer.{LayerRead, layer_of}
 use Rattle.loc_csvform.specs.declared.faults.LayerFault.{LayerFault}
+use Rattle.loc_batch.specs.PointLines.{point_count}
 use Rattle.loc_course.specs.Moments.{Moment}
 use Rattle.loc_course.specs.Sentences.{Steady, Wrote}
 use Rattle.loc_maps.specs.LineTexts.{layer_fault_text}
@@ -49,6 +50,6 @@ pub record FeaturesTold (file : LayerFile) (points : Text) (old new : Moment) (n
   pub points_long : (layer text : Text) (features : List Feature) → old.shelf.told file.name ≡ holds layer → old.shelf.told points ≡ holds text → IsRead file layer features → most_text < length text
       → Steady old.shelf.read_faults new.shelf.read_faults → Steady old.out.faults new.out.faults
       → OrMemory old new status ((status ≡ 1) × Appends old.out.written new.out.written (features_within most_text file.scale features text) × Wrote n n' (ended (codes "points: too long")))
-  -- For each line of the points at most 1,008 steps were counted, and one for each segment of the layer.
+  -- For each line of the points that reads as a point at most 1,008 steps were counted, and one for each segment of the layer.
   pub steps : (layer text : Text) → old.shelf.told file.name ≡ holds layer → old.shelf.told points ≡ holds text
-      → new.steps ≤ old.steps + length (lines text) * steps_in (layer_of file.form file.scale layer)
+      → new.steps ≤ old.steps + point_count file.scale (lines text) * steps_in (layer_of file.form file.scale layer)

@@ -11,13 +11,13 @@ use Rattle.loc_place.specs.Found.{place_at}
 use Rattle.loc_parts.specs.declared.parts.Part.{Part}
 use Rattle.loc_features.specs.declared.placing.Found.{Found}
 
--- the place of a point in each of at most sixteen parts, and behind them an area without a floor
-abbrev pub places_at : List Part → Point → List Place
-places_at parts p = map (λ (part : Part). place_at part.plane.table p) parts ++ replicate (16 - length parts) (Area None)
+-- the place of a point in each part, and behind them an area without a floor, as many together as there is room for
+abbrev pub places_at : ℕ → List Part → Point → List Place
+places_at most parts p = map (λ (part : Part). place_at part.plane.table p) parts ++ replicate (most - length parts) (Area None)
 
 -- the same with the point
-abbrev pub found_at : List Part → Point → Found
-found_at parts p = record { point = p; places = places_at parts p }
+abbrev pub found_at : {most : ℕ} → List Part → Point → Found most
+found_at {most} parts p = record { point = p; places = places_at most parts p }
 
 -- the place is that of the point in the part, and has numbers of its corners and edges
 pub record IsAt (part : Part) (p : Point) (place : Place) : Type 0 where
@@ -25,5 +25,5 @@ pub record IsAt (part : Part) (p : Point) (place : Place) : Type 0 where
   pub in_range : IsInRange part.plane.table place
 
 -- the first places are those of the point in the parts
-abbrev pub AreAt : List Part → Found → Type 0
+abbrev pub AreAt : {most : ℕ} → List Part → Found most → Type 0
 AreAt parts found = (k : ℕ) (d : Part) (e : Place) → k < length parts → IsAt (get_or parts k d) found.point (get_or found.places k e)

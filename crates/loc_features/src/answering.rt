@@ -125,16 +125,17 @@ fn put_told<O: Sink>(
 }
 
 // The answer to a point that was found, put and counted.
-fn answer_found<O: Sink, L: Ledger>(
+fn answer_found<const N: usize, O: Sink, L: Ledger>(
     parted: &Parted,
     layer: &Layer,
-    found: &Found,
+    found: &Found<N>,
     lists: &mut Lists,
     tally: &mut Tally,
     page: &mut Page,
     sink: &mut O,
     steps: &mut Steps<L>,
 ) -> Result<(), FeedFault>
+    requires few { length parted.now.parts.items ≤ N }
     requires parted { IsParted layer.now parted.now }
     requires known { AreAt parted.now.parts.items found.now }
     ensures puts { PutsAnswer (told_at layer.now found.now.point) tally.old tally.new (O.meaning sink.old) (O.meaning sink.new) page.old page.new result }
@@ -145,22 +146,22 @@ fn answer_found<O: Sink, L: Ledger>(
     put_told(page, sink, layer, lists, tally)
 }
 
-// What answers a point by the parts of a layer.
+// What answers a point by the parts of a layer, which are at most so many.
 #[derive(Drop)]
-pub(crate) struct ByParts<'a> {
+pub(crate) struct ByParts<'a, const N: usize> {
     pub(crate) parted: &'a Parted,
     pub(crate) layer: &'a Layer,
 }
 
-impl<'a> Answerer<Found> for ByParts<'a> {
-    ghost use Rattle.std.specs.Prelude.{Ok, length};
+impl<'a, const N: usize> Answerer<Found<N>> for ByParts<'a, N> {
+    ghost use Rattle.std.specs.Prelude.{◌≤◌, Ok, length};
     ghost use Rattle.loc_spec_plane.specs.Tables.{layer_segments};
     ghost use Rattle.loc_edges.specs.Layers.{layer_rings};
     ghost use Rattle.loc_parts.specs.Parts.{IsParted};
     ghost use Rattle.loc_features.specs.Places.{AreAt, found_at};
     ghost use Rattle.loc_features.specs.Told.{told_at};
 
-    ghost fits = { λ d. IsParted d.layer.now d.parted.now };
+    ghost fits = { λ d. IsParted d.layer.now d.parted.now × (length d.parted.now.parts.items ≤ N) };
 
     ghost finds = { λ d p. found_at d.parted.now.parts.items p };
 
@@ -172,13 +173,13 @@ impl<'a> Answerer<Found> for ByParts<'a> {
 
     ghost most_put = { λ d. length (layer_segments (layer_rings d.layer.now)) };
 
-    fn find<L: Ledger>(&self, p: Point, steps: &mut Steps<L>) -> Found {
+    fn find<L: Ledger>(&self, p: Point, steps: &mut Steps<L>) -> Found<N> {
         find_in(self.parted, p, steps)
     }
 
     fn put<O: Sink, L: Ledger>(
         &self,
-        found: Found,
+        found: Found<N>,
         lists: &mut Lists,
         tally: &mut Tally,
         page: &mut Page,

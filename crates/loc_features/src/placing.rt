@@ -21,14 +21,11 @@ use loc_place::{Locator, Place};
 use loc_treeidx::laws::{most_is_greatest, swept_stands};
 use std::sync::ledger::Ledger;
 
-// How many parts a layer has at most.
-const MOST_PARTS: usize = 16;
-
-/// A point, and its place in each part of a layer.
+/// A point, and its place in each part of a layer that has at most so many.
 #[derive(Clone, Copy, Drop)]
-pub(crate) struct Found {
+pub(crate) struct Found<const N: usize> {
     pub(crate) point: Point,
-    places: [Place; MOST_PARTS],
+    places: [Place; N],
 }
 
 // The place of a point in a part. It takes at most 63 steps.
@@ -41,23 +38,28 @@ fn place_in<L: Ledger>(part: &Part, p: Point, steps: &mut Steps<L>) -> Place
 {
     let table = &part.plane.table;
     table.law();
-    swept_stands(table, &part.plane.status);
+    swept_stands(table, &part.plane.tree);
     most_is_greatest(table);
-    match part.plane.status.locate(&table.views(), p, steps) {
+    match part.plane.tree.locate(&table.views(), p, steps) {
         Ok(place) => place,
         Err(_) => unreachable!(),
     }
 }
 
 /// The place of a point in each part.
-pub(crate) fn find_in<L: Ledger>(parted: &Parted, p: Point, steps: &mut Steps<L>) -> Found
+pub(crate) fn find_in<const N: usize, L: Ledger>(
+    parted: &Parted,
+    p: Point,
+    steps: &mut Steps<L>,
+) -> Found<N>
+    requires few { length parted.now.parts.items ≤ N }
     requires parted { (layer : List Feature) × IsParted layer parted.now }
     ensures found { result ≡ found_at parted.now.parts.items p }
     ensures known { AreAt parted.now.parts.items result }
     ensures counted { steps.old ≤ steps.new }
     ensures within { steps.new ≤ steps.old + 1008 }
 {
-    let mut places = [Place::Area(None); MOST_PARTS];
+    let mut places = [Place::Area(None); N];
     for (k, part) in parted.parts.iter().enumerate() {
         places[k] = place_in(part, p, steps);
     }
@@ -134,7 +136,8 @@ fn name_part(part: &Part, p: Point, place: Place, lists: &mut Lists)
 }
 
 /// Names the features of all parts that touch a point and those that cover it, by its places.
-pub(crate) fn name_parts(parted: &Parted, found: &Found, lists: &mut Lists)
+pub(crate) fn name_parts<const N: usize>(parted: &Parted, found: &Found<N>, lists: &mut Lists)
+    requires few { length parted.now.parts.items ≤ N }
     requires parted { (layer : List Feature) × IsParted layer parted.now }
     requires known { AreAt parted.now.parts.items found.now }
     requires empty { lists.old ≡ no_lists }

@@ -30,12 +30,13 @@ fn name_rest<L: Ledger>(parted: &Parted, p: Point, lists: &mut Lists, steps: &mu
 }
 
 /// The features of the layer that touch a point and those that cover it, in the order of the layer, by its places in the parts.
-pub(crate) fn name_at<L: Ledger>(
+pub(crate) fn name_at<const N: usize, L: Ledger>(
     parted: &Parted,
-    found: &Found,
+    found: &Found<N>,
     lists: &mut Lists,
     steps: &mut Steps<L>,
 )
+    requires few { length parted.now.parts.items ≤ N }
     requires parted { (layer : List Feature) × IsParted layer parted.now }
     requires known { AreAt parted.now.parts.items found.now }
     ensures touching { (layer : List Feature) → IsParted layer parted.now → lists.new.touching ≡ passing (λ rings. touches rings found.now.point) (layer_rings layer) }

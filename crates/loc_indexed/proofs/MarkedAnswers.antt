@@ -1,9 +1,8 @@
 -- The answers of a true index are those by its marks, and those of the index of a layer are those of the layer.
-use Rattle.std.proofs.Common.{◌≡◌, ℕ, ◌<◌, ◌≤◌, Bool, true, false, not, ◌&&◌, List, [], ◌∷◌, length, map, filter, get_or, Option, Some, None, Ok, refl, sym, ◌∙◌, ap, ap₂, subst, arith, inl, inr}
+use Rattle.std.proofs.Common.{◌≡◌, ℕ, ◌<◌, ◌≤◌, Bool, true, false, not, List, [], length, map, filter, get_or, Option, Some, None, Ok, refl, sym, ◌∙◌, ap, ap₂, subst, arith}
 use Rattle.std.specs.Prelude.{◌^◌, if◌then◌else◌, nat_lt, option_map, unwrap_or, Result, codes}
-use Rattle.std.specs.List.{list_any}
 use Rattle.std.proofs.Math.Path.{fun_ext}
-use Rattle.std.proofs.lemmas.Bool.{and_left, and_parts, and_right, cases_lt, false_from_ne_true, ltb-true, true≢false}
+use Rattle.std.proofs.lemmas.Bool.{and_parts, ltb-true}
 use Rattle.std.proofs.lemmas.List.Elements.{filter_agree}
 use Rattle.std.proofs.lemmas.List.FromFn.{get_or-map-range_with_len, length-map-range_with_len}
 use Rattle.loc_spec_text.specs.Bytes.{Text}
@@ -11,13 +10,12 @@ use Rattle.loc_spec_asked.specs.declared.Index.TheVariants.{Tree}
 use Rattle.loc_spec_plane.specs.declared.Place.{Place}
 use Rattle.loc_spec_plane.specs.declared.Place.TheVariants.{Corner, Border, Area}
 use Rattle.loc_spec_plane.specs.Covers.{IsCoverOf, cover_above, cover_of_floor, feature_count, has_at}
-use Rattle.loc_spec_plane.specs.Lists.{IsRisingListOf, is_in, is_rising, odd_many}
+use Rattle.loc_spec_plane.specs.Lists.{IsRisingListOf, is_in, is_rising}
 use Rattle.loc_spec_plane.specs.Places.{IsFloor, IsPlace, alive, alive_at, is_edge}
 use Rattle.loc_spec_plane.specs.Points.{Point, is_above, lies_on, same_point}
-use Rattle.loc_spec_plane.specs.Rays.{crosses_right}
 use Rattle.loc_spec_plane.specs.Rings.{Rings, covers, touches}
-use Rattle.loc_spec_plane.specs.Tables.{IsTable, Table, corner, covers_by_marks, edge, edge_numbers, has, has_odd, noded_table_of, own_sources, touches_by_marks}
-use Rattle.loc_spec_text.specs.Points.{answer_text, answer_to, ended, in_face, no_point, on_border, on_corner, point_of}
+use Rattle.loc_spec_plane.specs.Tables.{IsTable, Table, corner, covers_by_marks, edge, has, noded_table_of, own_sources, touches_by_marks}
+use Rattle.loc_spec_text.specs.Points.{answer_text, answer_to, ended, no_point, point_of}
 use Rattle.loc_spec_index.specs.Content.{Content, search_in, table_in}
 use Rattle.loc_spec_index.specs.IndexFile.{names_sources}
 use Rattle.loc_file.proofs.Holding.{most-edges}
@@ -27,8 +25,6 @@ use Rattle.loc_laws_index.proofs.FlawKinds.{as_many, as_many_corners}
 use Rattle.loc_laws_index.proofs.HeldTable.{file_holds_table}
 use Rattle.loc_laws_order.proofs.Kept.{rising_kept}
 use Rattle.loc_laws_rays.proofs.Covering.{cover_law}
-use Rattle.loc_laws_rays.proofs.Members.{feature_below, has-from_odd}
-use Rattle.loc_laws_rays.proofs.Parity.{never, odd_many-same}
 use Rattle.loc_laws_search.proofs.FindsPlace.{search_finds_place}
 use Rattle.loc_rings.specs.Values.{Feature}
 use Rattle.loc_edges.specs.Layers.{layer_rings}
@@ -39,12 +35,15 @@ use Rattle.loc_place.proofs.FoundPlace.{place_is_found}
 use Rattle.loc_cover.specs.Legends.{FitsTable, covering, list_above, list_over, touching}
 use Rattle.loc_cover.proofs.Covered.{touching_touches}
 use Rattle.loc_cover.proofs.Numbering.{above_rises, under_rises}
-use Rattle.loc_file.specs.Searches.{IsIndexFor, answer_of}
+use Rattle.loc_file.specs.Searches.{answer_of}
 use Rattle.loc_laws_index.proofs.FileFacts.{facts}
 use Rattle.loc_file.specs.Depths.{most_of}
 use Rattle.loc_file.proofs.TrueSteps.{true-most}
 use Rattle.loc_batch.specs.Answering.{answer_at as answer_by_rows, answer_by, face_at, found_answer, names}
 use Rattle.loc_batch.specs.Faces.{unnumbered}
+use Rattle.loc_batch.specs.Marked.{features_where, ids_marked}
+use Rattle.loc_batch.specs.PointLines.{is_point_line}
+use Rattle.loc_batch.proofs.Marks.{at_place, covering_below, listed, listed_only, touching_below}
 use Rattle.loc_answering.specs.ByLine.{as_bytes}
 use Rattle.loc_course.specs.Courses.{answers}
 use Rattle.loc_course.specs.Stops.{source}
@@ -54,37 +53,9 @@ use Rattle.loc_maps.proofs.TableLaws.{covers_is, touches_is}
 use Rattle.loc_query.specs.Answered.{answer_at, answer_line, ids_where, located}
 use Rattle.loc_query.specs.QueryCourses.{points_course}
 use Rattle.loc_query.proofs.LegendAnswers.{named_are}
-use Rattle.loc_indexed.specs.IndexedCourses.{answer_in, asked_course, features_where, rows_in}
-use Rattle.loc_indexed.specs.Marked.{ids_marked, marked, marked_course, marked_line}
-use Rattle.loc_indexed.proofs.OwnRows.{corner_listed, edge_listed, listed, listed_only}
-
--- ---- features that are not marked
-
-any_none : (g : ℕ → Bool) (ns : List ℕ) → ((n : ℕ) → g n ≡ false) → list_any g ns ≡ false
-any_none g [] none = refl
-any_none g (n ∷ ns) none = rw (none n) (any_none g ns none)
-
-module _ (t : Table) (f : ℕ) (p : Point) (past : feature_count t ≤ f) where
-  unmarked : (e : ℕ) → has t f e ≡ false
-  unmarked e = false_from_ne_true (has t f e) (λ h. (let less = feature_below t f e h in omega (arith, less, past)))
-
-  -- touch and cover nothing
-  touches_not : touches_by_marks t f p ≡ false
-  touches_not = any_none (λ e. has t f e && lies_on (edge t e) p) (edge_numbers t) (λ e. and_left (has t f e) (lies_on (edge t e) p) (unmarked e))
-
-  covers_not : covers_by_marks t f p ≡ false
-  covers_not = and_right (not (touches_by_marks t f p)) (odd_many (λ e. has_odd t f e && crosses_right (edge t e) p) (edge_numbers t))
-      (odd_many-same (λ e. has_odd t f e && crosses_right (edge t e) p) (λ e. false) (edge_numbers t)
-      (λ e. and_left (has_odd t f e) (crosses_right (edge t e) p) (false_from_ne_true (has_odd t f e) (λ h. true≢false (sym (has-from_odd t f e h) ∙ unmarked e)))) ∙ never (edge_numbers t))
-
-below : (t : Table) (test : ℕ → Bool) → ((f : ℕ) → feature_count t ≤ f → test f ≡ false) → (f : ℕ) → test f ≡ true → f < feature_count t
-below t test none f passes = elim (cases_lt f (feature_count t)) [ inl less ↦ less | inr past ↦ absurd (true≢false (sym passes ∙ none f past)) ]
-
-touching_below : (t : Table) (p : Point) (f : ℕ) → touches_by_marks t f p ≡ true → f < feature_count t
-touching_below t p = below t (λ f. touches_by_marks t f p) (λ f past. touches_not t f p past)
-
-covering_below : (t : Table) (p : Point) (f : ℕ) → covers_by_marks t f p ≡ true → f < feature_count t
-covering_below t p = below t (λ f. covers_by_marks t f p) (λ f past. covers_not t f p past)
+use Rattle.loc_indexed.specs.IndexedCourses.{answer_in, asked_course, rows_in}
+use Rattle.loc_indexed.specs.Marked.{marked, marked_course, marked_line}
+use Rattle.loc_indexed.proofs.OwnRows.{corner_listed, edge_listed}
 
 ids_are : (c : Content) → (rows_in c).ids ≡ c.ids
 unfolding rows_in
@@ -156,13 +127,13 @@ module _ (c : Content) (bytes : Text) (file : IsIndexFile c bytes) (is_true : Is
   touching_rises p (Area floor) is = refl
 
   module _ (p : Point) (place : Place) (is : IsPlace (table_in c) p place) where
-    touching_named : names (rows_in c) (touching (rows_in c) place) ≡ ids_marked c (λ f. touches_by_marks (table_in c) f p)
+    touching_named : names (rows_in c) (touching (rows_in c) place) ≡ ids_marked c.ids (table_in c) (λ f. touches_by_marks (table_in c) f p)
     touching_named =
         ap₂ (λ (ids : List (List ℕ)) (fs : List ℕ). map (λ f. get_or ids f []) fs) (ids_are c)
         (listed_only (table_in c) (λ f. touches_by_marks (table_in c) f p) (touching_below (table_in c) p) (touching (rows_in c) place)
         (record { rising = touching_rises p place is; exact = touching_touches (table_in c) (rows_in c) fits ok is_true.ended is_true.even is_true.apart p place is }))
 
-    covering_named : names (rows_in c) (covering (rows_in c) place) ≡ ids_marked c (λ f. covers_by_marks (table_in c) f p)
+    covering_named : names (rows_in c) (covering (rows_in c) place) ≡ ids_marked c.ids (table_in c) (λ f. covers_by_marks (table_in c) f p)
     covering_named =
         let list = covering_is p place is in
         ap₂ (λ (ids : List (List ℕ)) (fs : List ℕ). map (λ f. get_or ids f []) fs) (ids_are c)
@@ -170,10 +141,8 @@ module _ (c : Content) (bytes : Text) (file : IsIndexFile c bytes) (is_true : Is
         (record { rising = covering_rises place (covering (rows_in c) place) list; exact = cover_law (table_in c) ok is_true.ended is_true.even is_true.apart p place (covering (rows_in c) place) is list }))
 
   answer_is : (p : Point) (place : Place) → IsPlace (table_in c) p place
-      → answer_by_rows (rows_in c) (face_at unnumbered place) place ≡ answer_at unnumbered place (ids_marked c (λ f. touches_by_marks (table_in c) f p)) (ids_marked c (λ f. covers_by_marks (table_in c) f p))
-  answer_is p (Corner n) is = ap₂ (on_corner n) (touching_named p (Corner n) is) (covering_named p (Corner n) is)
-  answer_is p (Border e) is = ap₂ (on_border e) (touching_named p (Border e) is) (covering_named p (Border e) is)
-  answer_is p (Area floor) is = ap (in_face None) (covering_named p (Area floor) is)
+      → answer_by_rows (rows_in c) (face_at unnumbered place) place ≡ answer_at unnumbered place (ids_marked c.ids (table_in c) (λ f. touches_by_marks (table_in c) f p)) (ids_marked c.ids (table_in c) (λ f. covers_by_marks (table_in c) f p))
+  answer_is p place is = at_place (rows_in c) unnumbered place ∙ ap₂ (answer_at unnumbered place) (touching_named p place is) (covering_named p place is)
 
   -- what is answered to a line is what is answered by the marks
   line_is : (line : List ℕ) → answer_by c.scale (λ p. answer_of (search_in c p)) unnumbered (rows_in c) line ≡ Ok (answer_to (point_of c.scale) (marked c) line)
@@ -185,7 +154,7 @@ module _ (c : Content) (bytes : Text) (file : IsIndexFile c bytes) (is_true : Is
       by (Some p) =
           let found = search_finds_place c ok is_true few p in
           ap (λ (r : Result Place ℕ). found_answer (rows_in c) unnumbered (Some (answer_of r))) found.1
-          ∙ ap Ok (answer_is p found.0 found.2 ∙ ap (λ (q : Place). answer_at unnumbered q (ids_marked c (λ f. touches_by_marks (table_in c) f p)) (ids_marked c (λ f. covers_by_marks (table_in c) f p))) (place_is_found (table_in c) planar p found.0 found.2))
+          ∙ ap Ok (answer_is p found.0 found.2 ∙ ap (λ (q : Place). answer_at unnumbered q (ids_marked c.ids (table_in c) (λ f. touches_by_marks (table_in c) f p)) (ids_marked c.ids (table_in c) (λ f. covers_by_marks (table_in c) f p))) (place_is_found (table_in c) planar p found.0 found.2))
 
   pub true_answers : answer_in c ≡ (λ line. Ok (marked_line c line))
   true_answers = fun_ext (λ line. ap as_bytes (line_is line))
@@ -196,7 +165,7 @@ module _ (c : Content) (bytes : Text) (file : IsIndexFile c bytes) (is_true : Is
 
   -- so the course is that by the marks
   pub true_course : (points : Text) → asked_course points c ≡ marked_course points c
-  true_course points = ap₂ (answers (source points most_text (ended (codes "points: too long")))) true_bound true_answers
+  true_course points = ap₂ (answers (source points most_text (ended (codes "points: too long"))) (is_point_line c.scale)) true_bound true_answers
 
 -- ---- the index of a layer
 
@@ -212,7 +181,7 @@ module _ (v scale : ℕ) (layer : List Feature) (c : Content) (of : IsIndexOf v 
 
   ids_same : (p : Point) (by_marks : Table → ℕ → Point → Bool) (test : Rings → Point → Bool) → test [] p ≡ false → ((f : ℕ) → by_marks (own_sources (noded_table_of (layer_rings layer))) f p ≡ by_marks (noded_table_of (layer_rings layer)) f p)
       → ((f : ℕ) → by_marks (maps.table_in layer) f p ≡ test (get_or (layer_rings layer) f []) p) → ((f : ℕ) → by_marks (table_in c) f p ≡ true → f < feature_count (table_in c))
-      → ids_marked c (λ f. by_marks (table_in c) f p) ≡ ids_where (λ rings. test rings p) layer
+      → ids_marked c.ids (table_in c) (λ f. by_marks (table_in c) f p) ≡ ids_where (λ rings. test rings p) layer
   ids_same p by_marks test none unsourced same few =
       let list = listed (table_in c) (λ f. by_marks (table_in c) f p) few in
       ap (λ (ids : List (List ℕ)). map (λ f. get_or ids f []) (features_where (table_in c) (λ f. by_marks (table_in c) f p))) (sym (ids_are c))
@@ -224,7 +193,7 @@ module _ (v scale : ℕ) (layer : List Feature) (c : Content) (of : IsIndexOf v 
   marked_is p =
       let on = ids_same p (λ t f p. touches_by_marks t f p) touches refl (λ f. refl) (λ f. touches_is layer f p) (touching_below (table_in c) p) in
       let over = ids_same p (λ t f p. covers_by_marks t f p) covers refl (λ f. refl) (λ f. covers_is layer f p) (covering_below (table_in c) p) in
-      ap₂ (λ (place : Place) (ids : List (List ℕ)). answer_at unnumbered place ids (ids_marked c (λ f. covers_by_marks (table_in c) f p))) (said_of_table (λ t. place_at t p) refl) on
+      ap₂ (λ (place : Place) (ids : List (List ℕ)). answer_at unnumbered place ids (ids_marked c.ids (table_in c) (λ f. covers_by_marks (table_in c) f p))) (said_of_table (λ t. place_at t p) refl) on
       ∙ ap (answer_at unnumbered (place_at (maps.table_in layer) p) (ids_where (λ rings. touches rings p) layer)) over
 
   line_same : (line : List ℕ) → marked_line c line ≡ answer_line false scale layer line
@@ -235,4 +204,7 @@ module _ (v scale : ℕ) (layer : List Feature) (c : Content) (of : IsIndexOf v 
 
   -- is asked as the layer is queried with the tree
   pub layer_course : (points : Text) → marked_course points c ≡ points_course Tree false scale points layer
-  layer_course points = ap₂ (answers (source points most_text (ended (codes "points: too long")))) (said_of_table most_steps refl) (fun_ext (λ line. ap Ok (line_same line)))
+  layer_course points =
+      let of_points = source points most_text (ended (codes "points: too long")) in
+      ap (λ (k : ℕ). answers of_points (is_point_line k) (most_steps (table_in c)) (λ line. Ok (marked_line c line))) of.0
+      ∙ ap₂ (answers of_points (is_point_line scale)) (said_of_table most_steps refl) (fun_ext (λ line. ap Ok (line_same line)))

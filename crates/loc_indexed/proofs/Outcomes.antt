@@ -1,5 +1,5 @@
 -- What asking an index file answers, by what the told files come to.
-use Rattle.std.proofs.Common.{◌≡◌, ℕ, ◌*◌, ◌≤◌, List, length, map, Option, Some, None, Result, Ok, Err, false, refl, sym, ◌∙◌, ap, subst, inl, inr, mul-le-mul_right}
+use Rattle.std.proofs.Common.{◌≡◌, ℕ, ◌*◌, ◌≤◌, List, length, map, Option, Some, None, Result, Ok, Err, false, refl, sym, ◌∙◌, ap, subst, inl, inr, arith}
 use Rattle.std.specs.Prelude.{codes}
 use Rattle.std.specs.List.{flat_map}
 use Rattle.loc_io.specs.Streams.{Stream}
@@ -7,7 +7,6 @@ use Rattle.loc_io.specs.Meaning.{Told, holds}
 use Rattle.loc_spec_text.specs.Answered.{Answered, answered}
 use Rattle.loc_spec_text.specs.Bytes.{Text, lines}
 use Rattle.loc_spec_text.specs.Points.{ended}
-use Rattle.loc_spec_text.proofs.LineLaws.{lines-front}
 use Rattle.loc_spec_text.proofs.AnsweredLaws.{all_of, all_answered, joined}
 use Rattle.loc_spec_index.specs.declared.IndexFault.{IndexFault}
 use Rattle.loc_file.specs.Depths.{most_of}
@@ -16,13 +15,14 @@ use Rattle.loc_indexed.specs.IndexBytes.{IsIndexFile}
 use Rattle.loc_spec_index.specs.TrueIndex.{IsIndexOf, IsTrueIndex}
 use Rattle.loc_laws_index.specs.IndexReading.{AreBytes, reading}
 use Rattle.loc_rings.specs.Values.{Feature, rings_of}
+use Rattle.loc_batch.specs.PointLines.{is_point_line, point_count}
 use Rattle.loc_course.specs.Courses.{Source}
 use Rattle.loc_course.specs.Moments.{IsToldText, Moment}
 use Rattle.loc_course.specs.Outcomes.{by_lines, by_refusal, outcome}
 use Rattle.loc_course.specs.Sentences.{NoneFailed, Sentences, Steady, WithinSteps}
 use Rattle.loc_course.specs.Stops.{source}
-use Rattle.loc_course.specs.Streams.{Answering, IsToldFront, out_of}
-use Rattle.loc_course.proofs.Streamed.{of_whole}
+use Rattle.loc_course.specs.Streams.{Answering, out_of}
+use Rattle.loc_course.proofs.Streamed.{of_whole, seen_steps}
 use Rattle.loc_spec_text.specs.Limits.{most_index, most_text}
 use Rattle.loc_query.specs.Answered.{output_of}
 use Rattle.loc_indexed.specs.IndexedCourses.{answer_in, ask_course, asked_course, index_in}
@@ -47,13 +47,11 @@ module _ (told : Text → Told) (index points bytes : Text) (is : told index ≡
 
 -- the steps of a course on told files
 asked_within : (told : Text → Told) (index points bytes text : Text) (c : Content) (each : ℕ) → told index ≡ holds bytes → told points ≡ holds text → reading bytes ≡ Ok c → most_of c (table_in c) ≡ each
-    → WithinSteps told (ask_course index points) (length (lines text) * each)
+    → WithinSteps told (ask_course index points) (point_count c.scale (lines text) * each)
 asked_within told index points bytes text c each is also reads most other few told_so =
     let same : other ≡ bytes = subst (λ (t : Told). IsToldText t other) is told_so in
-    subst (λ (r : Result Content IndexFault). WithinSteps told (index_in r (asked_course points)) (length (lines text) * each)) (sym (ap reading same ∙ reads)) (λ more short told_too.
-    let front = subst (λ (t : Told). IsToldFront t more) also told_too in
-    let fewer : length (lines more) ≤ length (lines text) = subst (λ (t : Text). length (lines more) ≤ length (lines t)) (sym front.1) (lines-front more front.0) in
-    subst (λ k. length (lines more) * k ≤ length (lines text) * each) (sym most) (mul-le-mul_right each fewer))
+    subst (λ (r : Result Content IndexFault). WithinSteps told (index_in r (asked_course points)) (point_count c.scale (lines text) * each)) (sym (ap reading same ∙ reads)) (λ taken more seen short told_too are.
+    seen_steps (is_point_line c.scale) (most_of c (table_in c)) (point_count c.scale (lines text) * each) (told points) text more taken seen also told_too are (omega (arith, ap (λ (q : ℕ). point_count c.scale (lines text) * q) most)))
 
 module _ (index points : Text) (old new : Moment) (n n' : Stream) (status : ℕ) (s : Sentences (ask_course index points) old new n n' status) where
   none_failed : Steady old.shelf.read_faults new.shelf.read_faults → Steady old.out.faults new.out.faults → NoneFailed (ask_course index points) old new

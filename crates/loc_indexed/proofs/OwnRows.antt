@@ -1,36 +1,17 @@
 -- The rows of a legend whose touching features are those of the marks are those of a content.
-use Rattle.std.proofs.Common.{◌≡◌, ℕ, ◌<◌, Bool, true, ◌&&◌, List, [], length, get_or, Option, sym, ◌∙◌, ap, arith, inl, inr}
+use Rattle.std.proofs.Common.{◌≡◌, ℕ, ◌<◌, true, List, [], length, get_or, Option, arith}
 use Rattle.std.specs.Prelude.{nat_lt}
-use Rattle.std.proofs.lemmas.Bool.{and_left, cases_lt, false_from_ne_true, ltb-true}
 use Rattle.std.proofs.lemmas.List.FromFn.{fill_by_all}
 use Rattle.loc_spec_plane.specs.Covers.{feature_count, has_at}
-use Rattle.loc_spec_plane.specs.Lists.{IsRisingListOf, is_in, numbers}
+use Rattle.loc_spec_plane.specs.Lists.{IsRisingListOf}
 use Rattle.loc_spec_plane.specs.Tables.{Table, edge_numbers, has}
-use Rattle.loc_spec_plane.proofs.Checks.{is_in-past}
 use Rattle.loc_spec_index.specs.Content.{Content, cover_numbers, table_in}
-use Rattle.loc_laws_order.proofs.Kept.{numbers_rise, rising_kept}
-use Rattle.loc_laws_order.proofs.TableOrder.{numbers_within}
-use Rattle.loc_laws_order.proofs.Unique.{rising-unique}
-use Rattle.loc_laws_rays.proofs.Members.{feature_below, in_numbers, is_in-filter}
+use Rattle.loc_laws_rays.proofs.Members.{feature_below}
 use Rattle.loc_cover.specs.Legends.{FitsTable, LegendRows}
 use Rattle.loc_cover.proofs.Sound.{marked_there}
-use Rattle.loc_indexed.specs.IndexedCourses.{features_where, rows_in}
-
-module _ (t : Table) (test : ℕ → Bool) (below : (f : ℕ) → test f ≡ true → f < feature_count t) where
-  -- features that are marked where they pass a test are listed
-  pub listed : IsRisingListOf nat_lt test (features_where t test)
-  listed = record {
-    rising = rising_kept test nat_lt (numbers (feature_count t)) (numbers_rise (feature_count t));
-    exact = λ f. is_in-filter test f (numbers (feature_count t)) ∙ elim (cases_lt f (feature_count t)) [
-      | inl less ↦ ap (λ b. b && test f) (in_numbers f (feature_count t) less)
-      | inr past ↦ and_left (is_in f (numbers (feature_count t))) (test f) (is_in-past (numbers (feature_count t)) (feature_count t) f (numbers_within (feature_count t)) past)
-          ∙ sym (false_from_ne_true (test f) (λ passes. (let less = below f passes in omega (arith, less, past))))
-    ];
-  }
-
-  -- and there is no other list of them
-  pub listed_only : (fs : List ℕ) → IsRisingListOf nat_lt test fs → fs ≡ features_where t test
-  listed_only fs are = rising-unique nat_lt (λ a b h k. (let lt : a < b = ltb-true a b h in let gt : b < a = ltb-true b a k in omega arith)) fs (features_where t test) are.rising listed.rising (λ f. are.exact f ∙ sym (listed.exact f))
+use Rattle.loc_batch.specs.Marked.{features_where}
+use Rattle.loc_batch.proofs.Marks.{listed, listed_only}
+use Rattle.loc_indexed.specs.IndexedCourses.{rows_in}
 
 at_corner : (t : Table) (c f : ℕ) → has_at t c f ≡ true → f < feature_count t
 at_corner t c f = marked_there t c f (edge_numbers t)

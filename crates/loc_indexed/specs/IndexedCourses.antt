@@ -1,15 +1,13 @@
 -- The courses of commands on an index file. The words:
---   features_where  the marked features that pass a test
 --   rows_in         what answers are made of, as a content has it
 --   answer_in       what is answered to a line by the search of a content and by its rows
 --   index_in, index_course  bytes are read as an index, and a file is
 --   asked_course    the lines of a file are answered from a content
 --   ask_course      an index file is asked for the points of another
-use Rattle.std.specs.Prelude.{ℕ, Bool, List, map, filter, Result, Ok, Err, codes}
+use Rattle.std.specs.Prelude.{map, Result, Ok, Err, codes}
 use Rattle.loc_spec_text.specs.Bytes.{Text}
-use Rattle.loc_spec_plane.specs.Covers.{feature_count, has_at}
-use Rattle.loc_spec_plane.specs.Lists.{numbers}
-use Rattle.loc_spec_plane.specs.Tables.{Table, corner_numbers, edge_numbers, has}
+use Rattle.loc_spec_plane.specs.Covers.{has_at}
+use Rattle.loc_spec_plane.specs.Tables.{corner_numbers, edge_numbers, has}
 use Rattle.loc_spec_text.specs.Points.{ended}
 use Rattle.loc_spec_index.specs.declared.IndexFault.{IndexFault}
 use Rattle.loc_spec_index.specs.Content.{Content, cover_numbers, search_in, table_in}
@@ -20,16 +18,14 @@ use Rattle.loc_file.specs.Searches.{answer_of}
 use Rattle.loc_batch.specs.Answering.{answer_by}
 use Rattle.loc_batch.specs.Faces.{unnumbered}
 use Rattle.loc_answering.specs.ByLine.{by_line}
+use Rattle.loc_batch.specs.Marked.{features_where}
+use Rattle.loc_batch.specs.PointLines.{is_point_line}
 use Rattle.loc_course.specs.Courses.{Course, answers, reads, refuses}
 use Rattle.loc_course.specs.Outcomes.{exactly}
 use Rattle.loc_course.specs.Stops.{source}
 use Rattle.loc_course.specs.Streams.{Answering}
 use Rattle.loc_spec_text.specs.Limits.{most_index, most_text}
 use Rattle.loc_indexed.specs.IndexTexts.{index_fault_text}
-
--- the features that are marked and pass a test, in order
-abbrev pub features_where : Table → (ℕ → Bool) → List ℕ
-features_where t test = filter test (numbers (feature_count t))
 
 -- What answers are made of: the features that touch a corner or an edge are those of the marks; all else is as the file has it.
 unfoldable pub rows_in : Content → LegendRows
@@ -55,9 +51,9 @@ index_in (Err fault) next = refuses (exactly (ended (index_fault_text fault)))
 abbrev pub index_course : Text → (Content → Course) → Course
 index_course index next = reads (source index most_index (ended (codes "index: too long"))) (λ bytes. index_in (reading bytes) next)
 
--- the points' file is read in pieces, and its lines are answered from an index
+-- the points' file is read in pieces, its lines are answered from an index, and those that read as points are sought
 abbrev pub asked_course : Text → Content → Course
-asked_course points c = answers (source points most_text (ended (codes "points: too long"))) (most_of c (table_in c)) (answer_in c)
+asked_course points c = answers (source points most_text (ended (codes "points: too long"))) (is_point_line c.scale) (most_of c (table_in c)) (answer_in c)
 
 -- an index file is asked for the points of another
 abbrev pub ask_course : Text → Text → Course

@@ -1,5 +1,5 @@
 -- Why a layer has no plane, from what is wrong with its table.
-use Rattle.std.proofs.Common.{◌≡◌, ◌<◌, ◌≤◌, List, length, subst}
+use Rattle.std.proofs.Common.{◌≡◌, ◌∙◌, ◌<◌, ◌≤◌, List, length, subst}
 use Rattle.loc_spec_plane.specs.Covers.{cover_sum, feature_count}
 use Rattle.loc_spec_plane.specs.Tables.{Table, AllEnds, AllEven, noded_table_of, piece_count}
 use Rattle.loc_rings.specs.Values.{Feature}
@@ -24,7 +24,7 @@ noded_is layer t is few ended even features = record {
 
 -- what is wrong with the table of a layer
 pub by_table : (layer : List Feature) (t : Table) (fault : PlaneFault) → t ≡ table_in layer → IsFaultOf t fault → IsRefusedBy layer fault
-by_table layer t f.Conflict is wrong = subst HasConflict is wrong
-by_table layer t f.Covers is wrong = subst (λ (s : Table). most_members < cover_sum s) is wrong.1
+by_table layer t (f.Conflict table) is wrong = (wrong.0 ∙ is, subst HasConflict is wrong.1)
+by_table layer t (f.Covers table) is wrong = (wrong.0 ∙ is, subst (λ (s : Table). most_members < cover_sum s) is wrong.1.1)
 by_table layer t f.Pieces is wrong = absurd wrong
 by_table layer t f.NoMemory is wrong = wrong

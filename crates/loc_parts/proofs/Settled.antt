@@ -66,7 +66,7 @@ rest_of_all layer = record { numbers = all_numbers layer; are = sym (all_feature
 
 -- features with these numbers that are swept are a part
 pub as_part : (layer : List Feature) (ns : List ℕ) (features : List Feature) (part : Part) → IsRestOf layer ns features → part.numbers.items ≡ ns → IsMapOf features part.plane.table part.plane.legend
-    → IsSwept part.plane.table (meaning_of part.plane.status) → IsPartOf layer part
+    → IsSwept part.plane.table (meaning_of part.plane.tree) → IsPartOf layer part
 as_part layer ns features part rest same map swept = record {
   numbers = subst (AreNumbersOf layer) (sym same) rest.numbers;
   map = subst (λ (fs : List Feature). IsMapOf fs part.plane.table part.plane.legend) (rest.are ∙ ap (λ ms. features_with ms layer) (sym same)) map;

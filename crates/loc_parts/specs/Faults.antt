@@ -1,5 +1,5 @@
 -- Why a layer has no plane. The words: `HasConflict`, `IsFaultOf`, `IsRefusedBy`.
-use Rattle.std.specs.Prelude.{ℕ, ◌<◌, List, length, IsTrue}
+use Rattle.std.specs.Prelude.{◌≡◌, ℕ, ◌<◌, List, length, IsTrue}
 use Rattle.loc_spec_plane.specs.Covers.{cover_sum}
 use Rattle.loc_spec_plane.specs.Points.{conflict}
 use Rattle.loc_spec_plane.specs.Tables.{Table, NoConflict, edge, piece_count}
@@ -18,16 +18,16 @@ pub record HasConflict (t : Table) : Type 0 where
   pub in_range : second < length t.ends
   pub conflict : IsTrue (conflict (edge t first) (edge t second))
 
--- what a fault says of the table that is judged; want of memory may come at any time
+-- what a fault says of the table that is judged, and hands back; want of memory may come at any time
 abbrev pub IsFaultOf : Table → PlaneFault → Type 0
-IsFaultOf t f.Conflict = HasConflict t
-IsFaultOf t f.Covers = NoConflict t × (most_members < cover_sum t)
+IsFaultOf t (f.Conflict table) = (table ≡ t) × HasConflict t
+IsFaultOf t (f.Covers table) = (table ≡ t) × (NoConflict t × (most_members < cover_sum t))
 IsFaultOf t f.Pieces = ⊥
 IsFaultOf t f.NoMemory = Unit {0}
 
--- why a layer has no plane; want of memory may come at any time
+-- why a layer has no plane, with its table; want of memory may come at any time
 abbrev pub IsRefusedBy : List Feature → PlaneFault → Type 0
-IsRefusedBy layer f.Conflict = HasConflict (table_in layer)
-IsRefusedBy layer f.Covers = most_members < cover_sum (table_in layer)
+IsRefusedBy layer (f.Conflict table) = (table ≡ table_in layer) × HasConflict (table_in layer)
+IsRefusedBy layer (f.Covers table) = (table ≡ table_in layer) × (most_members < cover_sum (table_in layer))
 IsRefusedBy layer f.Pieces = most_pieces < piece_count (layer_rings layer)
 IsRefusedBy layer f.NoMemory = Unit {0}

@@ -38,7 +38,7 @@ pub record AreNumbersOf (layer : List Feature) (ns : List ℕ) : Type 0 where
 pub record IsPartOf (layer : List Feature) (part : Part) : Type 0 where
   pub numbers : AreNumbersOf layer part.numbers.items
   pub map : IsMapOf (features_with part.numbers.items layer) part.plane.table part.plane.legend
-  pub swept : IsSwept part.plane.table (meaning_of part.plane.status)
+  pub swept : IsSwept part.plane.table (meaning_of part.plane.tree)
 
 -- what is left has numbers of the layer, and boxes about the features with these numbers
 pub record IsLeftOf (layer : List Feature) (left : Left) : Type 0 where

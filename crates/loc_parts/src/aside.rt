@@ -1,6 +1,7 @@
 // Which features of a layer go aside so that the others do not conflict: a sweep that goes on behind a conflict.
 
-ghost use Rattle.std.specs.Prelude.{◌≡◌, ◌<◌, IfOk, length};
+ghost use Rattle.std.specs.Prelude.{◌≡◌, ◌<◌, ◌≤◌, IfOk, length};
+ghost use Rattle.loc_spec_text.specs.Limits.{most_features};
 
 use crate::line::Line;
 use crate::related::Related;
@@ -294,18 +295,33 @@ fn swept_aside(
     Ok(())
 }
 
-/// What becomes of each feature of a layer. No more is said than that each has a fate: what is kept is judged.
-pub(crate) fn aside(alloc: Global, layer: &Layer) -> Result<Vec<Fate>, AllocError>
+// What becomes of so many features, by their noded table.
+fn fates_by(alloc: Global, table: &EdgeTable, count: usize) -> Result<Vec<Fate>, AllocError>
+    requires { count ≤ most_features }
+    ensures { IfOk result (λ fates. length fates.items ≡ count) }
+{
+    let mut fates = vec![in alloc; Fate::Kept; count]?;
+    let related = Related::make(alloc, table, count as u32)?;
+    swept_aside(alloc, table, &related, &mut fates)?;
+    Ok(fates)
+}
+
+/// What becomes of each feature of a layer, whose noded table may be made already. No more is said than that each has a fate: what is kept is
+/// judged.
+pub(crate) fn aside(
+    alloc: Global,
+    layer: &Layer,
+    noded: Option<EdgeTable>,
+) -> Result<Vec<Fate>, AllocError>
     ensures { IfOk result (λ fates. length fates.items ≡ length layer.now) }
 {
-    let table = match node(alloc, layer) {
-        Ok(table) => table,
-        Err(NodeFault::ManyPieces) => return Ok(vec![in alloc; Fate::Crossed; layer.len()]?),
-        Err(NodeFault::NoMemory) => return Err(AllocError),
-    };
     let count = layer.features().len();
-    let mut fates = vec![in alloc; Fate::Kept; count]?;
-    let related = Related::make(alloc, &table, count as u32)?;
-    swept_aside(alloc, &table, &related, &mut fates)?;
-    Ok(fates)
+    if let Some(table) = noded {
+        return fates_by(alloc, &table, count);
+    }
+    match node(alloc, layer) {
+        Ok(table) => fates_by(alloc, &table, count),
+        Err(NodeFault::ManyPieces) => vec![in alloc; Fate::Crossed; count],
+        Err(NodeFault::NoMemory) => Err(AllocError),
+    }
 }

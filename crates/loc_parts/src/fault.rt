@@ -1,13 +1,14 @@
 // Why a layer has no plane.
 
+use loc_edges::EdgeTable;
 use std::alloc::AllocError;
 
-/// Why a layer has no plane: two of its edges conflict, its distinct cover lists or the pieces of its segments are too many together, or there
-/// was no memory.
-#[derive(Clone, Copy, PartialEq, Eq, Debug, Drop)]
+/// Why a layer has no plane: two edges of its noded table conflict, the distinct cover lists of that are too many together, the pieces of its
+/// segments are, or there was no memory. Where the noded table was made it is handed back.
+#[derive(Drop)]
 pub enum PlaneFault {
-    Conflict,
-    Covers,
+    Conflict(EdgeTable),
+    Covers(EdgeTable),
     Pieces,
     NoMemory,
 }

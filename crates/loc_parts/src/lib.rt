@@ -16,4 +16,4 @@ mod rest;
 pub use fault::PlaneFault;
 pub use judging::{judged, judged_layer};
 pub use laws::{left_law, part_law};
-pub use parts::{Left, Part, Parted};
+pub use parts::{Left, Part, PartPlane, Parted};

@@ -13,12 +13,11 @@ use crate::aside::{Fate, aside};
 use crate::copying::copy_layer;
 use crate::fault::PlaneFault;
 use crate::judging::judged_layer;
-use crate::parts::{Left, Part, Parted};
+use crate::parts::{Left, Part, PartPlane, Parted};
 use crate::placing::{leave, settle};
 use crate::rest::{Rest, parted_by};
-use loc_maps::Plane;
+use loc_edges::EdgeTable;
 use loc_rings::Layer;
-use loc_treeidx::TreeIndex;
 use std::alloc::{AllocError, Global};
 
 // How many parts a layer may have.
@@ -40,9 +39,9 @@ fn numbers_below(alloc: Global, count: usize) -> Result<Vec<u32>, AllocError>
 }
 
 // A layer that is accepted, as one part.
-fn one_part(alloc: Global, layer: &Layer, plane: Plane<TreeIndex>) -> Result<Parted, AllocError>
+fn one_part(alloc: Global, layer: &Layer, plane: PartPlane) -> Result<Parted, AllocError>
     requires map { IsMapOf layer.now plane.table plane.legend }
-    requires swept { IsSwept plane.table (meaning_of plane.status) }
+    requires swept { IsSwept plane.table (meaning_of plane.tree) }
     ensures { IfOk result (IsParted layer.now) }
 {
     let numbers = numbers_below(alloc, layer.features().len())?;
@@ -66,19 +65,20 @@ fn with_fate(alloc: Global, fates: &[Fate], fate: Fate) -> Result<Vec<bool>, All
 }
 
 // One pass over features that are in no part yet: those that are kept become a part, those that are crossed are left, and the others wait. It
-// tells how many were kept.
+// tells how many were kept. Their noded table may be made already.
 fn pass(
     alloc: Global,
     parts: &mut Vec<Part>,
     left: &mut Vec<Left>,
     rest: Rest,
+    noded: Option<EdgeTable>,
 ) -> Result<(Rest, usize), AllocError>
     requires { length rest.numbers.items ≡ length rest.features }
     ensures few { IfOk result (λ _. length parts.new.items ≤ length parts.old.items + 1) }
     ensures rest { (layer : List Feature) → IsRestOf layer rest.numbers.items rest.features → IfOk result (λ later. IsRestOf layer later.0.numbers.items later.0.features) }
     ensures parted { (layer : List Feature) (rests : List (List ℕ)) → IsRestOf layer rest.numbers.items rest.features → IsPartedBut layer (rest.numbers.items ∷ rests) parts.old.items left.old.items → IfOk result (λ later. IsPartedBut layer (later.0.numbers.items ∷ rests) parts.new.items left.new.items) }
 {
-    let fates = aside(alloc, &rest.features)?;
+    let fates = aside(alloc, &rest.features, noded)?;
     let keep = with_fate(alloc, &fates, Fate::Kept)?;
     let (kept, others) = rest.parted(alloc, &keep)?;
     let (_, fates) = parted_by(alloc, &fates, &keep)?;
@@ -90,8 +90,12 @@ fn pass(
     Ok((later, count))
 }
 
-// A layer in parts by at most sixteen passes over a copy of it.
-fn in_parts(alloc: Global, layer: &Layer) -> Result<Parted, AllocError>
+// A layer in parts by at most sixteen passes over a copy of it. Its noded table may be made already: the first pass takes that.
+fn in_parts(
+    alloc: Global,
+    layer: &Layer,
+    mut noded: Option<EdgeTable>,
+) -> Result<Parted, AllocError>
     ensures { IfOk result (IsParted layer.now) }
 {
     let mut parts = Vec::new(alloc);
@@ -101,7 +105,7 @@ fn in_parts(alloc: Global, layer: &Layer) -> Result<Parted, AllocError>
         features: copy_layer(alloc, layer)?,
     };
     for _turn in 0..MOST_PARTS {
-        let (later, kept) = pass(alloc, &mut parts, &mut left, rest)?;
+        let (later, kept) = pass(alloc, &mut parts, &mut left, rest, noded.take())?;
         rest = later;
         if kept < rest.numbers.len() / LEAST_KEPT || rest.numbers.is_empty() {
             break;
@@ -120,7 +124,9 @@ impl Parted {
         match judged_layer(alloc, layer) {
             Ok(plane) => one_part(alloc, layer, plane),
             Err(PlaneFault::NoMemory) => Err(AllocError),
-            Err(_) => in_parts(alloc, layer),
+            Err(PlaneFault::Conflict(table)) => in_parts(alloc, layer, Some(table)),
+            Err(PlaneFault::Covers(table)) => in_parts(alloc, layer, Some(table)),
+            Err(PlaneFault::Pieces) => in_parts(alloc, layer, None),
         }
     }
 }

@@ -1,5 +1,5 @@
 -- The headline, by what the told files come to.
-use Rattle.std.proofs.Common.{◌≡◌, ◌⊎◌, ℕ, ◌*◌, ◌<◌, ◌≤◌, Bool, true, false, List, length, Option, None, Result, Ok, Err, refl, sym, subst, inl, inr, arith, le_trans, mul-le-mul_right}
+use Rattle.std.proofs.Common.{◌≡◌, ◌⊎◌, ℕ, ◌*◌, ◌<◌, ◌≤◌, Bool, true, false, List, length, Option, None, Result, Ok, Err, refl, sym, subst, inl, inr, arith}
 use Rattle.std.specs.Prelude.{IsTrue, codes, not}
 use Rattle.std.specs.Io.KnownBytes.{Appends}
 use Rattle.std.proofs.lemmas.Bool.{cases_lt}
@@ -11,19 +11,18 @@ use Rattle.loc_spec_asked.specs.declared.Index.{Index}
 use Rattle.loc_spec_asked.specs.Orders.{AskedOrder, in_file, shuffled_from}
 use Rattle.loc_spec_text.specs.Bytes.{Text, lines}
 use Rattle.loc_spec_text.specs.Points.{ended}
-use Rattle.loc_spec_text.proofs.LineLaws.{lines-front}
 use Rattle.loc_rings.specs.Values.{Feature}
 use Rattle.loc_csvform.specs.Layer.{LayerRead, layer_of}
 use Rattle.loc_spec_plane.specs.Tables.{piece_count}
 use Rattle.loc_edges.specs.Conflicts.{has_conflict}
 use Rattle.loc_edges.specs.Layers.{layer_rings}
 use Rattle.loc_spec_text.specs.Limits.{most_members, most_pieces, most_text}
+use Rattle.loc_batch.specs.PointLines.{is_point_line, point_count}
 use Rattle.loc_course.specs.Courses.{Source, Course, reads as reads_from, refuses}
 use Rattle.loc_course.specs.Moments.{Moment, IsToldText}
 use Rattle.loc_course.specs.Outcomes.{Outcome, refusal, output, exactly, outcome}
 use Rattle.loc_course.specs.Sentences.{EndsSo, IsDoing, MakesNone, MayRefuseBehind, NoneFailed, OutSo, Sentences, Steady, WithinSteps, Wrote}
-use Rattle.loc_course.specs.Streams.{IsToldFront}
-use Rattle.loc_course.proofs.Streamed.{long_or_short}
+use Rattle.loc_course.proofs.Streamed.{long_or_short, seen_steps}
 use Rattle.loc_course.proofs.Told.{it_exactly}
 use Rattle.loc_maps.specs.Conflicts.{Accepts, names_conflict}
 use Rattle.loc_maps.specs.LineTexts.{layer_fault_text, covers_text, pieces_text}
@@ -128,19 +127,16 @@ module _ (told : Text → Told) (index : Index) (order : AskedOrder) (faces : Bo
   comes_to : (features : List Feature) → IsAccepted file layer features → IsInOrder told order (edge_count features) → length text ≤ most_text → outcome told (query_course index order faces file points) ≡ output (exactly (output_of faces file.scale features text))
   comes_to features a o short = rows.answered_all told index order faces file points layer is features a.within a.reads a.few_pieces o a.apart a.few_covers text also short
 
-  steps_within : (k : ℕ) → length (lines text) * steps_in index (layer_of file.form file.scale layer) ≤ k → WithinSteps told (query_course index order faces file points) k
+  steps_within : (k : ℕ) → point_count file.scale (lines text) * steps_in index (layer_of file.form file.scale layer) ≤ k → WithinSteps told (query_course index order faces file points) k
   steps_within k most other few told_so =
       let same : other ≡ layer = subst (λ (t : Told). IsToldText t other) is told_so in
       subst (λ (t : Text). WithinSteps told (layer_in file.form (layer_of file.form file.scale t) (λ l. asked_layer index order faces file.scale points l)) k) (sym same)
       (by_read (layer_of file.form file.scale layer) most)
     where
-      by_points : (features : List Feature) → length (lines text) * steps_by index (table_in features) ≤ k → WithinSteps told (points_course index faces file.scale points features) k
-      by_points features most more short told_too =
-          let front = subst (λ (t : Told). IsToldFront t more) also told_too in
-          let fewer : length (lines more) ≤ length (lines text) = subst (λ (t : Text). length (lines more) ≤ length (lines t)) (sym front.1) (lines-front more front.0) in
-          le_trans (mul-le-mul_right (steps_by index (table_in features)) fewer) most
+      by_points : (features : List Feature) → point_count file.scale (lines text) * steps_by index (table_in features) ≤ k → WithinSteps told (points_course index faces file.scale points features) k
+      by_points features most taken more seen short told_too are = seen_steps (is_point_line file.scale) (steps_by index (table_in features)) k (told points) text more taken seen also told_too are most
 
-      by_read : (r : LayerRead) → length (lines text) * steps_in index r ≤ k → WithinSteps told (layer_in file.form r (λ l. asked_layer index order faces file.scale points l)) k
+      by_read : (r : LayerRead) → point_count file.scale (lines text) * steps_in index r ≤ k → WithinSteps told (layer_in file.form r (λ l. asked_layer index order faces file.scale points l)) k
       by_read (Err fault) most = tt
       by_read (Ok features) most = pieces_all (λ (c : Course). WithinSteps told c k) (λ passes. tt) features (asked_layer index order faces file.scale points features)
           (asked_all (λ (c : Course). WithinSteps told c k) (λ passes. tt) (λ s next within text few told_so. within text) order (edge_count features)

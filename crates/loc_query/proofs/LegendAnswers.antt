@@ -25,9 +25,11 @@ use Rattle.loc_edges.specs.Layers.{layer_rings}
 use Rattle.loc_place.specs.Found.{place_at}
 use Rattle.loc_place.specs.Planar.{IsPlanar}
 use Rattle.loc_place.proofs.FoundPlace.{place_at_is}
-use Rattle.loc_cover.specs.Legends.{LegendRows, IsSound, covering, touching, list_above, list_over}
+use Rattle.loc_cover.specs.Legends.{LegendRows, IsSound, covering, touching}
 use Rattle.loc_cover.proofs.Covered.{covering_covers, touching_touches}
 use Rattle.loc_batch.specs.Answering.{answer_by, answer_at as answer_by_rows, face_at, found_answer, names}
+use Rattle.loc_batch.specs.PointLines.{is_point_line}
+use Rattle.loc_batch.proofs.Marks.{covering_rises}
 use Rattle.loc_faces.specs.Subdivision.{shown_at}
 use Rattle.loc_answering.specs.ByLine.{as_bytes, by_line}
 use Rattle.loc_course.specs.Courses.{Stopped, answers}
@@ -94,25 +96,13 @@ module _ (layer : List Feature) (t : Table) (rows : LegendRows) (sound : IsSound
   pub planar : IsPlanar t
   planar = record { in_order = in_order; apart = m.apart }
 
-  list_rises : (e : ℕ) → is_rising nat_lt (list_above rows e) ≡ true
-  list_rises e = sound.lists.each_rises (get_or rows.above e 0)
-
-  over_rises : (floor : Option ℕ) → is_rising nat_lt (list_over rows floor) ≡ true
-  over_rises None = refl
-  over_rises (Some e) = list_rises e
-
-  covering_rises : (place : Place) → is_rising nat_lt (covering rows place) ≡ true
-  covering_rises (Corner c) = rising_kept _ nat_lt (list_over rows (get_or rows.floors c None)) (over_rises (get_or rows.floors c None))
-  covering_rises (Border e) = rising_kept _ nat_lt (list_above rows e) (list_rises e)
-  covering_rises (Area floor) = over_rises floor
-
   module _ (p : Point) (place : Place) (is : IsPlace t p place) where
     touching_named : is_rising nat_lt (touching rows place) ≡ true → names rows (touching rows place) ≡ ids_where (λ rings. touches rings p) layer
     touching_named rises = named_are (λ rings. touches rings p) refl layer rows (touching rows place) m.ids rises
         (λ f. touching_touches t rows m.fits in_order m.ended m.even m.apart p place is f ∙ (ap (λ s. touches_by_marks s f p) m.table ∙ touches_is layer f p))
 
     covering_named : names rows (covering rows place) ≡ ids_where (λ rings. covers rings p) layer
-    covering_named = named_are (λ rings. covers rings p) refl layer rows (covering rows place) m.ids (covering_rises place)
+    covering_named = named_are (λ rings. covers rings p) refl layer rows (covering rows place) m.ids (covering_rises rows sound place)
         (λ f. covering_covers t rows m.fits m.is_true in_order m.ended m.even m.apart p place is f ∙ (ap (λ s. covers_by_marks s f p) m.table ∙ covers_is layer f p))
 
   answer_is : (shown : Option ℕ → Option ℕ) (p : Point) (place : Place) → IsPlace t p place
@@ -143,9 +133,9 @@ module _ (layer : List Feature) (t : Table) (rows : LegendRows) (sound : IsSound
 
     -- what follows the answers by the legend follows the course of the points
     pub follows_points : (index : Index) (scale : ℕ) (points : Text) (old new : Moment) (end : Option Stopped)
-        → Follows (answers (source points most_text (ended (codes "points: too long"))) (steps_by index t) (by_line (answer_by scale (λ p. Ok (place_at t p)) shown rows))) old new end
+        → Follows (answers (source points most_text (ended (codes "points: too long"))) (is_point_line scale) (steps_by index t) (by_line (answer_by scale (λ p. Ok (place_at t p)) shown rows))) old new end
         → Follows (points_course index faces scale points layer) old new end
     follows_points index scale points old new end follows =
         let of_points = source points most_text (ended (codes "points: too long")) in
-        subst (λ (answer : Answering). Follows (answers of_points (steps_by index (table_in layer)) answer) old new end) (answers_are scale)
-        (subst (λ (s : Table). Follows (answers of_points (steps_by index s) (by_line (answer_by scale (λ p. Ok (place_at t p)) shown rows))) old new end) m.table follows)
+        subst (λ (answer : Answering). Follows (answers of_points (is_point_line scale) (steps_by index (table_in layer)) answer) old new end) (answers_are scale)
+        (subst (λ (s : Table). Follows (answers of_points (is_point_line scale) (steps_by index s) (by_line (answer_by scale (λ p. Ok (place_at t p)) shown rows))) old new end) m.table follows)

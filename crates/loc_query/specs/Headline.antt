@@ -24,6 +24,7 @@ use Rattle.loc_maps.specs.Maps.{HasFewPieces, has_many_pieces}
 use Rattle.loc_trapdag.specs.Orders.{order_of}
 use Rattle.loc_trapdag.specs.declared.order.OrderFault.{OrderFault}
 use Rattle.loc_orders.specs.OrderTexts.{order_fault_text}
+use Rattle.loc_batch.specs.PointLines.{point_count}
 use Rattle.loc_query.specs.Answered.{output_of, output_within}
 use Rattle.loc_query.specs.QueryCourses.{steps_by}
 
@@ -93,6 +94,6 @@ pub record Headline (index : Index) (order : AskedOrder) (faces : Bool) (file : 
   pub points_long : (layer text : Text) (features : List Feature) → old.shelf.told file.name ≡ holds layer → old.shelf.told points ≡ holds text
       → IsAccepted file layer features → IsInOrder old.shelf.told order (edge_count features) → most_text < length text → Steady old.shelf.read_faults new.shelf.read_faults → Steady old.out.faults new.out.faults
       → ((status ≡ 1) × Appends old.out.written new.out.written (output_within most_text faces file.scale features text) × Wrote n n' (ended (codes "points: too long"))) ⊎ ((status ≡ 5) × (new.out.written ≡ old.out.written))
-  -- So many steps were counted at most for each line of the points.
+  -- So many steps were counted at most for each line of the points that reads as a point.
   pub steps : (layer text : Text) → old.shelf.told file.name ≡ holds layer → old.shelf.told points ≡ holds text
-      → new.steps ≤ old.steps + length (lines text) * steps_in index (layer_of file.form file.scale layer)
+      → new.steps ≤ old.steps + point_count file.scale (lines text) * steps_in index (layer_of file.form file.scale layer)

@@ -18,9 +18,8 @@ module _ (scale : ℕ) (t : Table) (text : Text) (shelf : Meaning) (o m : Stream
   pub failed : {T E : Type 0} (r : Result T E) (e : E) → r ≡ Err e → TakesAll (met_output scale t text) o m r → Follows (answered_course scale t text) (moment shelf o k) (moment shelf m l) (Some unwritten)
   failed r e is takes = searches_by l up within (cut (met_output scale t text) shelf l o m r e is takes)
 
--- the same by the decimals of a scale, by the table that views show, and by the bytes of a text
-pub same_course : {s scale : ℕ} {u t : Table} {x text : Text} {m n : Moment} {end : Option Stopped} → s ≡ scale → u ≡ t → x ≡ text → Follows (answered_course s u x) m n end → Follows (answered_course scale t text) m n end
-same_course {s = s} {u = u} {t = t} {text = text} {m = m} {n = n} {end = end} same_scale same_table same_text follows =
-    subst (λ (k : ℕ). Follows (answered_course k t text) m n end) same_scale
-    (subst (λ (y : Table). Follows (answered_course s y text) m n end) same_table
-    (subst (λ (z : Text). Follows (answered_course s u z) m n end) same_text follows))
+-- the same by the table that views show, and by the bytes of a text
+pub same_course : (scale : ℕ) {u t : Table} {x text : Text} {m n : Moment} {end : Option Stopped} → u ≡ t → x ≡ text → Follows (answered_course scale u x) m n end → Follows (answered_course scale t text) m n end
+same_course scale {u = u} {text = text} {m = m} {n = n} {end = end} same_table same_text follows =
+    subst (λ (y : Table). Follows (answered_course scale y text) m n end) same_table
+    (subst (λ (z : Text). Follows (answered_course scale u z) m n end) same_text follows)

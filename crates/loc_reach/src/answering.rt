@@ -13,22 +13,21 @@ use loc_edges::Views;
 use loc_geom::{Point, Steps};
 use loc_io::{Sink, WriteFault};
 use loc_page::Page;
-use loc_spec_text::MOST_LINE;
+use loc_spec_text::{MOST_LINE, Scale};
 use loc_stab::put_met;
 use loc_treeidx::TreeIndex;
 use loc_wkt::{next_line, read_span};
 use std::sync::ledger::Ledger;
 
 // The span of a line of at most 4096 bytes.
-fn span_in(line: &[u8], scale: u8) -> Option<(Point, Point)>
-    requires { scale ≤ 15 }
+fn span_in(line: &[u8], scale: Scale) -> Option<(Point, Point)>
     ensures value { result ≡ span_of scale line.now }
     ensures span { IfSome result (λ span. IsSpan span.0 span.1) }
 {
     if line.len() > MOST_LINE {
         return None;
     }
-    read_span(line, scale)
+    read_span(line, scale.decimals())
 }
 
 // The edges that a span meets, as an answer line.
@@ -57,13 +56,12 @@ fn put_answer<O: Sink, L: Ledger>(
     index: &TreeIndex,
     views: &Views<'_, L>,
     line: &[u8],
-    scale: u8,
+    scale: Scale,
     page: &mut Page,
     sink: &mut O,
     steps: &mut Steps<L>,
 ) -> Result<(), WriteFault>
     requires stands { AreVersionsOf views.now index.now }
-    requires scale { scale ≤ 15 }
     ensures written { PutsText (ended (line_answer scale views.now line.now)) (O.meaning sink.old) (O.meaning sink.new) page.old page.new result }
     ensures counted { steps.old ≤ steps.new }
     ensures within { steps.new ≤ steps.old + line_steps scale views.now line.now }
@@ -79,13 +77,12 @@ fn put_answers<O: Sink, L: Ledger>(
     index: &TreeIndex,
     views: &Views<'_, L>,
     text: &[u8],
-    scale: u8,
+    scale: Scale,
     page: &mut Page,
     sink: &mut O,
     steps: &mut Steps<L>,
 ) -> Result<(), WriteFault>
     requires stands { AreVersionsOf views.now index.now }
-    requires scale { scale ≤ 15 }
     ensures written { PutsText (met_output scale views.now text.now) (O.meaning sink.old) (O.meaning sink.new) page.old page.new result }
     ensures counted { steps.old ≤ steps.new }
     ensures within { steps.new ≤ steps.old + text_steps scale views.now text.now }
@@ -103,12 +100,11 @@ pub(crate) fn write_answers<O: Sink, L: Ledger>(
     index: &TreeIndex,
     views: &Views<'_, L>,
     text: &[u8],
-    scale: u8,
+    scale: Scale,
     sink: &mut O,
     steps: &mut Steps<L>,
 ) -> Result<(), WriteFault>
     requires stands { AreVersionsOf views.now index.now }
-    requires scale { scale ≤ 15 }
     ensures written { TakesAll (met_output scale views.now text.now) (O.meaning sink.old) (O.meaning sink.new) result }
     ensures counted { steps.old ≤ steps.new }
     ensures within { steps.new ≤ steps.old + text_steps scale views.now text.now }

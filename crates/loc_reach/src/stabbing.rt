@@ -30,7 +30,7 @@ fn write_spans<O: Sink, L: Ledger>(
     ensures { (shelf : Meaning) → Follows (answered_course scale plane.now.table text.now) (moment shelf (O.meaning out.old) steps.old) (moment shelf (O.meaning out.new) steps.new) (end_of result) }
 {
     let views = plane.table.views();
-    match write_answers(&plane.status, &views, text, scale.decimals(), out, steps) {
+    match write_answers(&plane.status, &views, text, scale, out, steps) {
         Ok(()) => Ok(()),
         Err(_) => Err(Stop::WriteFault),
     }

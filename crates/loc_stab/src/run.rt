@@ -15,9 +15,9 @@ ghost use Rattle.loc_stab.specs.Runs.{run_at};
 
 use crate::pending::{Pending, next_edge};
 use crate::seek::seek;
-use crate::sides::is_under;
+use crate::sides::is_at;
 use loc_edges::Views;
-use loc_geom::{Point, Steps};
+use loc_geom::{Point, Side, Steps};
 use loc_io::{Sink, WriteFault};
 use loc_page::Page;
 use loc_persist::Versions;
@@ -51,7 +51,7 @@ pub(crate) fn write_run<O: Sink, L: Ledger>(
     views.law();
     let mut count = 0;
     'out: while let Some(edge) = next_edge(versions, version, pending) {
-        if is_under(views, edge, high, steps) {
+        if is_at(views, edge, high, Side::Below, steps) {
             return Ok(count);
         }
         put_edge(page, sink, edge)?;

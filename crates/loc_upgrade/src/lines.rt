@@ -1,6 +1,6 @@
 //! The lines of the edges of an index, written in order.
 
-ghost use Rattle.std.specs.Prelude.{◌≤◌, ◌<◌, ◌++◌, codes, length};
+ghost use Rattle.std.specs.Prelude.{◌<◌, ◌++◌, codes, length};
 ghost use Rattle.loc_io.specs.Streams.{TakesAll};
 ghost use Rattle.loc_page.specs.Puts.{PutsText};
 ghost use Rattle.loc_spec_plane.specs.Tables.{source_of};
@@ -11,6 +11,7 @@ use loc_edges::EdgeTable;
 use loc_geom::Point;
 use loc_io::{Sink, WriteFault};
 use loc_page::Page;
+use loc_spec_text::Scale;
 use loc_wkt::put_grid;
 
 // Room for a grid value.
@@ -21,13 +22,12 @@ fn put_value<O: Sink>(
     page: &mut Page,
     sink: &mut O,
     value: i64,
-    scale: u8,
+    scale: Scale,
 ) -> Result<(), WriteFault>
-    requires { scale ≤ 15 }
     ensures { PutsText (grid_text scale value) (O.meaning sink.old) (O.meaning sink.new) page.old page.new result }
 {
     let mut room = [b'0'; ROOM];
-    let start = put_grid(&mut room, value, scale);
+    let start = put_grid(&mut room, value, scale.decimals());
     page.put(sink, &room[start..])
 }
 
@@ -36,9 +36,8 @@ fn put_position<O: Sink>(
     page: &mut Page,
     sink: &mut O,
     point: Point,
-    scale: u8,
+    scale: Scale,
 ) -> Result<(), WriteFault>
-    requires { scale ≤ 15 }
     ensures { PutsText (position_text scale point) (O.meaning sink.old) (O.meaning sink.new) page.old page.new result }
 {
     put_value(page, sink, point.x(), scale)?;
@@ -52,9 +51,8 @@ fn put_pair<O: Sink>(
     sink: &mut O,
     table: &EdgeTable,
     pair: (u32, u32),
-    scale: u8,
+    scale: Scale,
 ) -> Result<(), WriteFault>
-    requires scale { scale ≤ 15 }
     requires goes_up { pair.0 < pair.1 }
     requires in_range { pair.1 < length table.now.corners }
     ensures { PutsText (pair_text scale table.now pair) (O.meaning sink.old) (O.meaning sink.new) page.old page.new result }
@@ -70,9 +68,8 @@ fn put_source<O: Sink>(
     sink: &mut O,
     table: &EdgeTable,
     edge: u32,
-    scale: u8,
+    scale: Scale,
 ) -> Result<(), WriteFault>
-    requires scale { scale ≤ 15 }
     requires in_range { edge < length table.now.ends }
     ensures { PutsText (pair_text scale table.now (ends_in table.now edge) ++ (codes " of " ++ (pair_text scale table.now (source_of table.now edge) ++ codes "\n"))) (O.meaning sink.old) (O.meaning sink.new) page.old page.new result }
 {
@@ -88,9 +85,8 @@ fn put_edge<O: Sink>(
     sink: &mut O,
     table: &EdgeTable,
     edge: u32,
-    scale: u8,
+    scale: Scale,
 ) -> Result<(), WriteFault>
-    requires scale { scale ≤ 15 }
     requires in_range { edge < length table.now.ends }
     ensures { PutsText (edge_line scale table.now edge) (O.meaning sink.old) (O.meaning sink.new) page.old page.new result }
 {
@@ -105,9 +101,8 @@ fn put_edges<O: Sink>(
     page: &mut Page,
     sink: &mut O,
     table: &EdgeTable,
-    scale: u8,
+    scale: Scale,
 ) -> Result<(), WriteFault>
-    requires { scale ≤ 15 }
     ensures { PutsText (edge_lines scale table.now) (O.meaning sink.old) (O.meaning sink.new) page.old page.new result }
 {
     for edge in 0..table.edge_count() {
@@ -116,13 +111,12 @@ fn put_edges<O: Sink>(
     Ok(())
 }
 
-/// Writes the lines of the edges of a table, at a scale of at most 15. It takes no memory.
+/// Writes the lines of the edges of a table at a scale. It takes no memory.
 pub(crate) fn write_edges<O: Sink>(
     table: &EdgeTable,
-    scale: u8,
+    scale: Scale,
     sink: &mut O,
 ) -> Result<(), WriteFault>
-    requires { scale ≤ 15 }
     ensures { TakesAll (edge_lines scale table.now) (O.meaning sink.old) (O.meaning sink.new) result }
 {
     let mut page = Page::new();

@@ -16,13 +16,14 @@ use loc_course::Stop;
 use loc_file::Held;
 use loc_indexed::read_index_file;
 use loc_io::{Shelf, Sink};
+use loc_spec_text::Scale;
 use std::alloc::Global;
 
 // Writes the lines of the edges of what is held.
 fn write_held_edges<O: Sink>(held: &Held, out: &mut O) -> Result<(), Stop>
     ensures { (shelf : Meaning) (k : ℕ) → Follows (writes (exactly (edges_text held.now.content))) (moment shelf (O.meaning out.old) k) (moment shelf (O.meaning out.new) k) (end_of result) }
 {
-    match write_edges(held.table(), held.scale(), out) {
+    match write_edges(held.table(), Scale::new(held.scale()), out) {
         Ok(()) => Ok(()),
         Err(_) => Err(Stop::WriteFault),
     }

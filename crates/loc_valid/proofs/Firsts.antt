@@ -19,8 +19,9 @@ use Rattle.loc_laws_dissolve.proofs.Prefixes.{by_members}
 use Rattle.loc_laws_valid.specs.Laws.{ByLists, HasOneRing, ring_of}
 use Rattle.loc_laws_valid.proofs.ByLists.{breaches_by_lists}
 use Rattle.loc_rings.specs.Values.{rings_before}
+use Rattle.loc_valid.specs.declared.hits.Fault.{Fault}
 use Rattle.loc_valid.specs.declared.least.Least.{Least}
-use Rattle.loc_valid.specs.Hits.{AreLeast, IsLeast, IsLeastOf, nested_in, other_than, outside_in, overlap_in}
+use Rattle.loc_valid.specs.Hits.{AreLeast, IsLeast, IsLeastOf, misplaced_in, nested_in, other_than, outside_in, overlap_in}
 use Rattle.loc_valid.proofs.InLists.{hole_fits}
 use Rattle.loc_valid.proofs.Minima.{first_of_least, first_of_pairs}
 use Rattle.loc_valid.proofs.Turns.{other, other_odd}
@@ -194,11 +195,8 @@ module _ (polygons : List Rings) (t : Table) (one : HasOneRing polygons t (ring_
   pub list_rises : (e : ℕ) (list : List ℕ) → list ≡ cover_above t e → is_rising nat_lt list ≡ true
   list_rises e list is = ap (is_rising nat_lt) is ∙ cover_rises e
 
-  pub outside_here : (e r : ℕ) (list : List ℕ) (a : Option (ℕ × ℕ)) → r ≡ at_ring e → list ≡ cover_above t e → IsLeast (outside_in polygons r list) a → IsLeast (outside_hit e) a
-  outside_here e r list a r_is list_is least = subst (λ xs. IsLeast (outside_in polygons (at_ring e) xs) a) list_is (subst (λ k. IsLeast (outside_in polygons k list) a) r_is least)
-
-  pub nested_here : (e r : ℕ) (list : List ℕ) (a : Option (ℕ × ℕ)) → r ≡ at_ring e → list ≡ cover_above t e → IsLeast (nested_in polygons r list) a → IsLeast (nested_hit e) a
-  nested_here e r list a r_is list_is least = subst (λ xs. IsLeast (nested_in polygons (at_ring e) xs) a) list_is (subst (λ k. IsLeast (nested_in polygons k list) a) r_is least)
+  pub misplaced_here : (fault : Fault) (e r : ℕ) (list : List ℕ) (a : Option (ℕ × ℕ)) → r ≡ at_ring e → list ≡ cover_above t e → IsLeast (misplaced_in fault polygons r list) a → IsLeast (misplaced_in fault polygons (at_ring e) (cover_above t e)) a
+  misplaced_here fault e r list a r_is list_is least = subst (λ xs. IsLeast (misplaced_in fault polygons (at_ring e) xs) a) list_is (subst (λ k. IsLeast (misplaced_in fault polygons k list) a) r_is least)
 
   pub overlap_here : (e n : ℕ) (list : List ℕ) (least : Least) → n ≡ polygon_of polygons (at_ring e) → list ≡ cover_above t e → AreLeast (λ m. odd_many (λ q. polygon_of polygons q == m) list) least → IsLeast (overlap_hit e) (other_than least n)
   overlap_here e n list least n_is list_is are =

@@ -11,7 +11,9 @@ use Rattle.loc_spec_valid.specs.Breaches.{feature_rings, is_hole, polygon_of, ri
 use Rattle.loc_laws_order.proofs.TableOrder.{rises}
 use Rattle.loc_laws_valid.proofs.Placed.{as_many_places}
 use Rattle.loc_rings.specs.Values.{rings_before}
-use Rattle.loc_valid.specs.Hits.{AreHomes, IsLeast, nested_in, outside_in}
+use Rattle.loc_valid.specs.declared.hits.Fault.{Fault}
+use Rattle.loc_valid.specs.declared.hits.Fault.TheVariants.{Outside, Nested}
+use Rattle.loc_valid.specs.Hits.{AreHomes, IsLeast, misplaced_in, nested_in, outside_in}
 use Rattle.loc_valid.proofs.RingHomes.{IsOf, between, exterior, fits_all, is_of, is_of_home, no_hole}
 use Rattle.loc_valid.proofs.Minima.{not_lower}
 
@@ -96,7 +98,7 @@ module _ (polygons : List Rings) (homes : List ℕ) (are : AreHomes polygons hom
       not-false' false h = absurd (true≢false h)
 
   -- the ring is the exterior
-  pub missed_by_none : ring ≡ first → IsLeast (outside_in polygons ring list) None
+  missed_by_none : ring ≡ first → IsLeast (outside_in polygons ring list) None
   missed_by_none same = λ j k. false_from_ne_true (outside_in polygons ring list j k) (λ h. both_ways (is_hole polygons ring) (is.hole ∙ ap not (eq-eqb ring first same)) (missed_parts j k h).hole)
 
   -- the list has the exterior
@@ -143,7 +145,7 @@ module _ (polygons : List Rings) (homes : List ℕ) (are : AreHomes polygons hom
       strict : (k : ℕ) → first ≤ k → (k ≡ first → ⊥) → first < k
       strict k le off = elim (cases_eq k first) [ inl same ↦ absurd (off same) | inr _ ↦ omega arith ]
 
-  pub around_by_none : ring ≡ first → IsLeast (nested_in polygons ring list) None
+  around_by_none : ring ≡ first → IsLeast (nested_in polygons ring list) None
   around_by_none same = λ j k. false_from_ne_true (nested_in polygons ring list j k) (λ h. both_ways (is_hole polygons ring) (is.hole ∙ ap not (eq-eqb ring first same)) (around_parts j k h).hole)
 
   -- of the members before a place each is no later than the exterior, or is the ring
@@ -182,3 +184,8 @@ module _ (polygons : List Rings) (homes : List ℕ) (are : AreHomes polygons hom
           λ j n h. (let found = later at j n passed h in
               ap (λ i. pair_before (i, n) (ring, k)) (around_parts j n h).same ∙ not_lower ring n k (omega (arith, up list rising at found.0 found.3 found.1, found.2))),
         )
+
+  -- the exterior is not misplaced
+  pub misplaced_by_none : (fault : Fault) → ring ≡ first → IsLeast (misplaced_in fault polygons ring list) None
+  misplaced_by_none Outside = missed_by_none
+  misplaced_by_none Nested = around_by_none

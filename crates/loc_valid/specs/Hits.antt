@@ -1,6 +1,7 @@
 -- What the lists above edges say of the rings of a feature. The words:
 --   AreHomes                         the polygon of each ring
 --   outside_in, nested_in, overlap_in  by the list above an edge of a ring: the ring is a hole and not inside an exterior, a hole inside a hole, of a polygon inside a polygon
+--   misplaced_in                     by the fault that is sought: outside or nested
 --   IsLeast, IsLeastOf, lesser_of    the least pair that passes a test; that passes at an edge; the lesser of two
 --   AreLeast, turned_by, other_than  the two least of some numbers; with one more or less; the least that is another
 --   AreClimbing                      later rings have no earlier polygons
@@ -15,6 +16,8 @@ use Rattle.loc_spec_plane.specs.Covers.{feature_count}
 use Rattle.loc_spec_valid.specs.Breaches.{feature_rings, is_hole, polygon_of, ring_places}
 use Rattle.loc_laws_valid.specs.Laws.{HasOneRing, ring_of}
 use Rattle.loc_cover.specs.Legends.{FitsTable, IsTrueLegend, LegendRows}
+use Rattle.loc_valid.specs.declared.hits.Fault.{Fault}
+use Rattle.loc_valid.specs.declared.hits.Fault.TheVariants.{Outside, Nested}
 use Rattle.loc_valid.specs.declared.least.Least.{Least}
 use Rattle.loc_valid.specs.declared.least.Least.TheVariants.{Zero, One, Two}
 
@@ -34,6 +37,11 @@ module _ (polygons : List Rings) (ring : ℕ) (list : List ℕ) where
   -- polygon j is that of the ring, and the list has an odd number of rings of another polygon k
   abbrev pub overlap_in : ℕ → ℕ → Bool
   overlap_in j k = (polygon_of polygons ring == j) && (not (j == k) && odd_many (λ q. polygon_of polygons q == k) list)
+
+-- a hole and the ring against which it is misplaced so
+abbrev pub misplaced_in : Fault → List Rings → ℕ → List ℕ → ℕ → ℕ → Bool
+misplaced_in Outside = outside_in
+misplaced_in Nested = nested_in
 
 -- the least pair that passes, or none passes
 abbrev pub IsLeast : (ℕ → ℕ → Bool) → Option (ℕ × ℕ) → Type 0

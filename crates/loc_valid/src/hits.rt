@@ -2,35 +2,23 @@
 
 ghost use Rattle.std.specs.Prelude.{◌≡◌, ◌<◌, IsTrue, length, nat_lt};
 ghost use Rattle.loc_spec_plane.specs.Lists.{is_rising};
-ghost use Rattle.loc_valid.specs.Hits.{AreHomes, IsLeast, nested_in, outside_in};
+ghost use Rattle.loc_valid.specs.Hits.{AreHomes, IsLeast, misplaced_in};
 
 use crate::lists::{first_from, is_among};
 use loc_rings::Rings;
 
-/// The ring and the exterior of its polygon, where the ring is a hole and the exterior is not in the list.
-pub(crate) fn exterior_missed(
-    rings: &Rings,
-    homes: &[u32],
-    list: &[u32],
-    ring: u32,
-) -> Option<(u32, u32)>
-    requires homes { AreHomes rings.now homes.now }
-    requires in_range { ring < length homes.now }
-    requires rises { IsTrue (is_rising nat_lt list.now) }
-    ensures { IsLeast (outside_in rings.now ring list.now) result }
-{
-    let (exterior, _) = rings.polygon(homes[ring as usize]);
-    if ring == exterior {
-        return None;
-    }
-    if is_among(list, exterior) {
-        return None;
-    }
-    Some((ring, exterior))
+/// How a hole is misplaced.
+#[derive(Clone, Copy, Debug, PartialEq, Eq, Drop)]
+pub(crate) enum Fault {
+    /// It is outside the exterior of its polygon.
+    Outside,
+    /// It is in another hole of its polygon.
+    Nested,
 }
 
-/// The ring and the least other hole of its polygon that is in the list, where the ring is a hole.
-pub(crate) fn hole_around(
+/// The ring, where it is a hole that is misplaced so, and the least ring against which it is: the exterior, or another hole.
+pub(crate) fn misplaced(
+    fault: Fault,
     rings: &Rings,
     homes: &[u32],
     list: &[u32],
@@ -39,20 +27,30 @@ pub(crate) fn hole_around(
     requires homes { AreHomes rings.now homes.now }
     requires in_range { ring < length homes.now }
     requires rises { IsTrue (is_rising nat_lt list.now) }
-    ensures { IsLeast (nested_in rings.now ring list.now) result }
+    ensures { IsLeast (misplaced_in fault rings.now ring list.now) result }
 {
     let (exterior, past) = rings.polygon(homes[ring as usize]);
     if ring == exterior {
         return None;
     }
-    for at in first_from(list, exterior + 1)..list.len() {
-        let hole = list[at];
-        if hole >= past {
-            return None;
+    match fault {
+        Fault::Outside => {
+            if is_among(list, exterior) {
+                return None;
+            }
+            Some((ring, exterior))
         }
-        if hole != ring {
-            return Some((ring, hole));
+        Fault::Nested => {
+            for at in first_from(list, exterior + 1)..list.len() {
+                let hole = list[at];
+                if hole >= past {
+                    return None;
+                }
+                if hole != ring {
+                    return Some((ring, hole));
+                }
+            }
+            None
         }
     }
-    None
 }

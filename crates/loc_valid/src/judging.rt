@@ -14,8 +14,9 @@ ghost use Rattle.loc_valid.specs.Judged.{HasFewPieces, HasManyCovers, HasManyPie
 
 use crate::breach::Breach;
 use crate::fault::ValidFault;
+use crate::hits::Fault;
 use crate::homes::homes_of;
-use crate::passes::{first_nested, first_outside, first_overlap};
+use crate::passes::{first_misplaced, first_overlap};
 use crate::pinches::first_pinch;
 use crate::points::first_point;
 use crate::polygons::first_parted;
@@ -179,10 +180,10 @@ fn judge_lists(
     // There are at most 2^28 rings, and as many polygons.
     let _rings = rings.len();
     let _polygons = rings.polygons();
-    if let Some((ring, _)) = first_outside(rings, homes, table, legend) {
+    if let Some((ring, _)) = first_misplaced(Fault::Outside, rings, homes, table, legend) {
         return Ok(Some(Breach::Outside { ring: ring + 1 }));
     }
-    if let Some((ring, inside)) = first_nested(rings, homes, table, legend) {
+    if let Some((ring, inside)) = first_misplaced(Fault::Nested, rings, homes, table, legend) {
         return Ok(Some(Breach::Nested {
             ring: ring + 1,
             inside: inside + 1,

@@ -4,9 +4,9 @@ ghost use Rattle.std.specs.Prelude.{◌≡◌, ℕ, ◌<◌, IsTrue, [], length,
 ghost use Rattle.loc_spec_plane.specs.Covers.{cover_above};
 ghost use Rattle.loc_spec_plane.specs.Tables.{has};
 ghost use Rattle.loc_laws_valid.specs.Laws.{ring_of};
-ghost use Rattle.loc_valid.specs.Hits.{AreClimbing, AreOddLists, IsLaidOut, IsLeastOf, nested_in, outside_in, overlap_in};
+ghost use Rattle.loc_valid.specs.Hits.{AreClimbing, AreOddLists, IsLaidOut, IsLeastOf, misplaced_in, overlap_in};
 
-use crate::hits::{exterior_missed, hole_around};
+use crate::hits::{Fault, misplaced};
 use crate::least::{Least, least_odd, lesser, other_of};
 use loc_cover::Legend;
 use loc_edges::EdgeTable;
@@ -22,15 +22,16 @@ fn ring_at(table: &EdgeTable, edge: u32) -> u32
     table.marks(edge)[0].feature
 }
 
-/// The least hole with an edge outside the exterior of its polygon, and that exterior.
-pub(crate) fn first_outside(
+/// The least pair of a hole with an edge by which it is misplaced so, and the ring against which it is.
+pub(crate) fn first_misplaced(
+    fault: Fault,
     rings: &Rings,
     homes: &[u32],
     table: &EdgeTable,
     legend: &Legend,
 ) -> Option<(u32, u32)>
     requires { IsLaidOut rings.now homes.now table.now legend.now }
-    ensures { IsLeastOf (λ e. outside_in rings.now (ring_of rings.now table.now e) (cover_above table.now e)) (length table.now.ends) result }
+    ensures { IsLeastOf (λ e. misplaced_in fault rings.now (ring_of rings.now table.now e) (cover_above table.now e)) (length table.now.ends) result }
 {
     table.law();
     legend.law();
@@ -39,28 +40,8 @@ pub(crate) fn first_outside(
         let ring = ring_at(table, edge);
         least = lesser(
             least,
-            exterior_missed(rings, homes, legend.above(edge), ring),
+            misplaced(fault, rings, homes, legend.above(edge), ring),
         );
-    }
-    least
-}
-
-/// The least pair of a hole with an edge inside another hole of its polygon, and that hole.
-pub(crate) fn first_nested(
-    rings: &Rings,
-    homes: &[u32],
-    table: &EdgeTable,
-    legend: &Legend,
-) -> Option<(u32, u32)>
-    requires { IsLaidOut rings.now homes.now table.now legend.now }
-    ensures { IsLeastOf (λ e. nested_in rings.now (ring_of rings.now table.now e) (cover_above table.now e)) (length table.now.ends) result }
-{
-    table.law();
-    legend.law();
-    let mut least = None;
-    for edge in 0..table.edge_count() {
-        let ring = ring_at(table, edge);
-        least = lesser(least, hole_around(rings, homes, legend.above(edge), ring));
     }
     least
 }

@@ -1,4 +1,4 @@
-use Rattle.std.proofs.Common.{◌∙◌, ap}
+use Rattle.std.proofs.Common.{ap}
 use Rattle.std.proofs.lemmas.Result.{err_from_is_err_and}
 use Rattle.loc_spec_valid.specs.BreachTexts.{breach_line}
 use Rattle.loc_valid.specs.Judged.{told}
@@ -24,8 +24,8 @@ loop-feature-preserved c =
     let items = c.features-feature-items.result.now in
     let i = c.loop-feature.feature-index in
     let breach = told c.in_ok-breach.breach in (
-      line_at c.args.scale items i c.feature-item.result breach c.loop-feature.text.items c.push_line.new.text.items (breach_line c.decimals.result c.id.result.now breach) c.loop-feature-test.true c.feature-item.is c.in_ok-push_line.ensures
-          (ap (λ s. breach_line s c.id.result.now (told c.in_ok-breach.breach)) c.decimals.ensures.value ∙ ap (λ id. breach_line c.args.scale id (told c.in_ok-breach.breach)) c.id.ensures.value)
+      line_at c.args.scale items i c.feature-item.result breach c.loop-feature.text.items c.push_line.new.text.items (breach_line c.args.scale c.id.result.now breach) c.loop-feature-test.true c.feature-item.is c.in_ok-push_line.ensures
+          (ap (λ id. breach_line c.args.scale id breach) c.id.ensures.value)
           c.in_ok-breach.ensures.breach c.loop-feature.invariant.0,
       refused_none items i c.feature-item.result c.loop-feature-test.true c.feature-item.is c.in_ok-breach.ensures.judged c.loop-feature.invariant.1,
     )

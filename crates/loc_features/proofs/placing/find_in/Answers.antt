@@ -1,4 +1,4 @@
-use Rattle.std.proofs.Common.{◌≡◌, ◌≢◌, ◌<◌, ◌≤◌, List, length, get_or, sym, ◌∙◌, ap, subst, arith, inl, inr, get_or-set_other, get_or-set_same}
+use Rattle.std.proofs.Common.{◌≡◌, ◌≢◌, ◌<◌, List, length, get_or, sym, ◌∙◌, ap, subst, arith, inl, inr, get_or-set_other, get_or-set_same}
 use Rattle.std.specs.Prelude.{set}
 use Rattle.std.proofs.lemmas.Bool.{cases_eq}
 use Rattle.std.proofs.lemmas.List.{get_or_default}
@@ -15,10 +15,10 @@ loop-k-preserved g c =
     let places = c.loop-k.places in
     let at : part ≡ get_or parts k part = c.part-item.is ∙ ap (λ (all : List Part). get_or all k part) c.deref-part-items.ensures.value in
     let lt : k < length parts = omega (arith, c.loop-k-test.true, ap length c.deref-part-items.ensures.value) in
-    let few = c.requires.parted.1.few in
-    let many = places_many parts c.args.p k places few (omega (arith, lt)) c.loop-k.invariant.places in
+    let few = c.requires.few in
+    let many = places_many g.row.N parts c.args.p k places few (omega (arith, lt)) c.loop-k.invariant.places in
     record {
-      places = places_more parts c.args.p k part places c.place_in.result few lt at c.place_in.ensures.found c.loop-k.invariant.places;
+      places = places_more g.row.N parts c.args.p k part places c.place_in.result few lt at c.place_in.ensures.found c.loop-k.invariant.places;
       known = λ j d e less. elim (cases_eq j k) [
         | inl same ↦ (let own = subst (λ (one : Part). IsAt one c.args.p c.place_in.result) (at ∙ get_or_default parts k part d lt) c.place_in.ensures.place in
             subst (λ i. IsAt (get_or parts i d) c.args.p (get_or (set places k c.place_in.result) i e)) (sym same) (subst (IsAt (get_or parts k d) c.args.p) (sym (get_or-set_same places k c.place_in.result e (omega (arith, many, few, lt)))) own))

@@ -10,7 +10,7 @@ use Rattle.loc_features.proofs.placing.find_in.Given as goal
 -- the places in the parts before are found
 abbrev pub invariant-loop-k : goal.invariant-loop-k
 invariant-loop-k g l = record {
-  places : l.places ≡ map (λ (part : Part). place_at part.plane.table l.p) (take l.k l.parted.parts.items) ++ replicate (16 - l.k) (Area None);
+  places : l.places ≡ map (λ (part : Part). place_at part.plane.table l.p) (take l.k l.parted.parts.items) ++ replicate (g.row.N - l.k) (Area None);
   known : (j : ℕ) (d : Part) (e : Place) → j < l.k → IsAt (get_or l.parted.parts.items j d) l.p (get_or l.places j e);
   up : l.fn.steps ≤ l.steps;
   within : l.steps ≤ l.fn.steps + 63 * l.k;

@@ -10,7 +10,7 @@ use Rattle.loc_features.proofs.Together.{part_more, part_room}
 use Rattle.loc_features.proofs.placing.name_parts.Goals as goal
 
 pub name_part-requires-clause-place : goal.name_part-requires-clause-place
-name_part-requires-clause-place c =
+name_part-requires-clause-place g c =
     let parts = c.args.parted.now.parts.items in
     let k = c.loop-k.k in
     let part = c.part-item.result in
@@ -19,7 +19,7 @@ name_part-requires-clause-place c =
     subst (λ (one : Part). IsAt one c.args.found.now.point (get_or c.args.found.now.places k (Corner 0))) (sym at) (c.requires.known k part (Corner 0) lt)
 
 pub name_part-requires-clause-touching : goal.name_part-requires-clause-touching
-name_part-requires-clause-touching c =
+name_part-requires-clause-touching g c =
     let parts = c.args.parted.now.parts.items in
     let k = c.loop-k.k in
     let part = c.part-item.result in
@@ -28,7 +28,7 @@ name_part-requires-clause-touching c =
     omega (arith, ap (λ (one : Part). length one.numbers.items) at, part_room c.requires.parted.0 c.args.parted.now c.requires.parted.1 k (length c.loop-k.lists.touching) part lt (c.loop-k.invariant c.requires.parted.0 c.requires.parted.1).few_touching)
 
 pub name_part-requires-clause-covering : goal.name_part-requires-clause-covering
-name_part-requires-clause-covering c =
+name_part-requires-clause-covering g c =
     let parts = c.args.parted.now.parts.items in
     let k = c.loop-k.k in
     let part = c.part-item.result in
@@ -37,7 +37,7 @@ name_part-requires-clause-covering c =
     omega (arith, ap (λ (one : Part). length one.numbers.items) at, part_room c.requires.parted.0 c.args.parted.now c.requires.parted.1 k (length c.loop-k.lists.covering) part lt (c.loop-k.invariant c.requires.parted.0 c.requires.parted.1).few_covering)
 
 pub loop-k-preserved : goal.loop-k-preserved
-loop-k-preserved c layer is =
+loop-k-preserved g c layer is =
     let parts = c.args.parted.now.parts.items in
     let k = c.loop-k.k in
     let part = c.part-item.result in

@@ -7,4 +7,4 @@ use Rattle.loc_features.proofs.placing.name_parts.Given as goal
 
 -- the features of the parts before are named
 abbrev pub invariant-loop-k : goal.invariant-loop-k
-invariant-loop-k l = (layer : List Feature) → IsParted layer l.parted → Names (layer_rings layer) l.found.point (take l.k (part_numbers l.parted.parts.items)) l.lists
+invariant-loop-k g l = (layer : List Feature) → IsParted layer l.parted → Names (layer_rings layer) l.found.point (take l.k (part_numbers l.parted.parts.items)) l.lists

@@ -3,8 +3,8 @@ use Rattle.loc_parts.specs.Faults.{IsFaultOf, IsRefusedBy}
 use Rattle.loc_parts.proofs.Faulted.{by_table, noded_is}
 use Rattle.loc_parts.proofs.judging.judged_noded.Goals as goal
 
-pub judged-requires-clause-table : goal.judged-requires-clause-table
-judged-requires-clause-table c = λ apart. noded_is c.args.layer.now _ c.in-Ok.ensures.ok c.in-Ok.ensures.few c.in-Ok.ensures.all_ends c.in-Ok.ensures.all_even c.in-Ok.ensures.features
+pub judged-requires : goal.judged-requires
+judged-requires c = λ apart. noded_is c.args.layer.now _ c.in-Ok.ensures.ok c.in-Ok.ensures.few c.in-Ok.ensures.all_ends c.in-Ok.ensures.all_even c.in-Ok.ensures.features
 
 pub returns-in-Ok-clause-fault : goal.returns-in-Ok-clause-fault
 returns-in-Ok-clause-fault c =

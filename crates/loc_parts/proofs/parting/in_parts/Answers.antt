@@ -36,30 +36,27 @@ loop-turn-preserved c = record {
   parted = c.in_ok-later.ensures.parted c.args.layer.now [] c.loop-turn.invariant.rest c.loop-turn.invariant.parted;
 }
 
--- behind the last pass
-behind : (c : goal.In_ok-leave) → Stands c.args.layer.now c.loop-turn-test.rest.numbers.items c.loop-turn-test.rest.features c.loop-turn-test.parts.items c.loop-turn-test.left.items
-behind c = elim c.loop-turn-test.branch [
-  | else-loop-turn-test w ↦ rw (w.parts-is, w.left-is, w.rest-is) (record {
-    few = omega (arith, c.loop-turn.invariant.few, c.loop-turn.auto._turn-end);
-    rest = c.loop-turn.invariant.rest;
-    parted = c.loop-turn.invariant.parted;
-  })
-  | then-loop-turn-test+in_ok-later+then-kept-len w ↦ rw (w.parts-is, w.left-is, w.rest-is) (record {
-    few = omega (arith, w.in_ok-later.ensures.few, c.loop-turn.invariant.few, w.loop-turn-test.true);
-    rest = w.in_ok-later.ensures.rest c.args.layer.now c.loop-turn.invariant.rest;
-    parted = w.in_ok-later.ensures.parted c.args.layer.now [] c.loop-turn.invariant.rest c.loop-turn.invariant.parted;
-  })
-]
-
 pub returns : goal.returns
 returns c =
-    let stands = behind c in
-    let all = c.in_ok-leave.ensures c.args.layer.now [] c.loop-turn-test.parts.items stands.rest stands.parted in
+    let layer = c.args.layer.now in
+    let stands : Stands layer c.loop-turn-test.rest.numbers.items c.loop-turn-test.rest.features c.loop-turn-test.parts.items c.loop-turn-test.left.items = elim c.loop-turn-test.branch [
+      | else-loop-turn-test w ↦ rw (w.parts-is, w.left-is, w.rest-is) (record {
+        few = omega (arith, c.loop-turn.invariant.few, c.loop-turn.auto._turn-end);
+        rest = c.loop-turn.invariant.rest;
+        parted = c.loop-turn.invariant.parted;
+      })
+      | then-loop-turn-test+in_ok-later+then-kept-len w ↦ rw (w.parts-is, w.left-is, w.rest-is) (record {
+        few = omega (arith, w.in_ok-later.ensures.few, c.loop-turn.invariant.few, w.loop-turn-test.true);
+        rest = w.in_ok-later.ensures.rest layer c.loop-turn.invariant.rest;
+        parted = w.in_ok-later.ensures.parted layer [] c.loop-turn.invariant.rest c.loop-turn.invariant.parted;
+      })
+    ] in
+    let all = c.in_ok-leave.ensures layer [] c.loop-turn-test.parts.items stands.rest stands.parted in
     record {
       few_features = omega (arith, ap length c.features.ensures.value, c.features.ensures.within.few_features);
       few = stands.few;
       parts = all.parts_are;
       left = all.left_are;
-      all = at_last c.args.layer.now c.loop-turn-test.parts.items c.leave.new.left.items all;
-      once = once_last c.args.layer.now c.loop-turn-test.parts.items c.leave.new.left.items all;
+      all = at_last layer c.loop-turn-test.parts.items c.leave.new.left.items all;
+      once = once_last layer c.loop-turn-test.parts.items c.leave.new.left.items all;
     }

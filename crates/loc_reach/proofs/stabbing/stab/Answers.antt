@@ -1,4 +1,4 @@
-use Rattle.std.proofs.Common.{List, refl}
+use Rattle.std.proofs.Common.{List}
 use Rattle.std.proofs.lemmas.Result.{err_from_is_err_and}
 use Rattle.loc_rings.specs.Values.{Feature}
 use Rattle.loc_course.specs.Following.{moment}
@@ -35,4 +35,4 @@ returns g c =
     c.in_ok-layer.ensures (λ (l : List Feature). apart_course c.args.scale (edges_of l) (spans_course c.args.scale (table_in l) c.args.spans_name.now)) o k _ _
     (c.in_ok-plane.ensures.goes_on (spans_course c.args.scale (table_in layer) c.args.spans_name.now) (moment (g.F.Shelf.meaning c.read_layer_file.new.shelf) o k) _ _
     (c.in_ok-text.ensures.goes_on (answered_course c.args.scale (table_in layer)) o k _ _
-    (same_course refl c.in_ok-plane.ensures.table.table c.deref.ensures.value (c.write_spans.ensures (g.F.Shelf.meaning c.read_source.new.shelf)))))
+    (same_course c.args.scale c.in_ok-plane.ensures.table.table c.deref.ensures.value (c.write_spans.ensures (g.F.Shelf.meaning c.read_source.new.shelf)))))

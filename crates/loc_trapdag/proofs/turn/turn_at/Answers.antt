@@ -1,4 +1,5 @@
-use Rattle.std.proofs.Common.{◌≡◌, true, subst, sym}
+use Rattle.std.proofs.Common.{◌≡◌, ◌&&◌, true, length, subst, sym, ap₂, arith}
+use Rattle.std.proofs.lemmas.Bool.{lt-ltb}
 use Rattle.loc_spec_plane.specs.Points.{before}
 use Rattle.loc_spec_plane.specs.Tables.{corner}
 use Rattle.loc_laws_traps.proofs.Points.{border_law}
@@ -44,3 +45,7 @@ returns-in-Below-clause-turn bounds c =
 pub returns-in-On-clause-turn : goal.returns-in-On-clause-turn
 returns-in-On-clause-turn bounds c =
     border_law c.args.views.now c.requires.stands.planar.in_order c.requires.stands.ends c.requires.stands.planar.apart c.args.step.edge (edge_is c.args.views.now c.args.index.now c.requires.stands.graph c.args.n c.args.step c.requires.in_range c.requires.step) c.args.p (subst (λ k. before (corner c.args.views.now k) c.args.p ≡ true) c.ends-lo.ensures.lower c.in-Less.ensures.value) (subst (λ k. before c.args.p (corner c.args.views.now k) ≡ true) c.ends-lo.ensures.upper c.in-Greater-against_upper.ensures.value) c.in-On.ensures.value
+
+pub returns-in-Equal-clause-turn : goal.returns-in-Equal-clause-turn
+returns-in-Equal-clause-turn bounds c =
+    ap₂ (λ a b. a && b) (lt-ltb c.ends-lo.result.0 (length c.args.views.now.corners) (omega (arith, c.ends-lo.ensures.goes_up, c.ends-lo.ensures.within))) c.in-Equal.ensures.value

@@ -1,14 +1,17 @@
-use Rattle.std.proofs.Common.{◌≡◌, ◌≤◌, ◌+◌, ◌*◌, ◌∙◌, List, Ok, Err, None, ap, ap₂, subst, length, refl, arith}
+use Rattle.std.proofs.Common.{◌≡◌, ◌≤◌, ◌+◌, ◌*◌, ◌∙◌, List, Ok, Err, None, ap, subst, length, refl, arith}
 use Rattle.std.specs.Prelude.{ℕ}
 use Rattle.std.proofs.lemmas.List.{length-map}
 use Rattle.std.proofs.lemmas.List.FromFn.{length-range_with_len}
+use Rattle.std.proofs.lemmas.List.Sums.{count_by-le-length}
+use Rattle.std.proofs.Math.Nat.{mul-le-mul_right}
 use Rattle.loc_spec_plane.specs.Lists.{numbers}
 use Rattle.loc_spec_text.specs.Answered.{answered}
 use Rattle.loc_spec_text.specs.Bytes.{ended_lines}
 use Rattle.loc_batch.specs.Answering.{answer_by}
-use Rattle.loc_batch.specs.Batches.{Feeds, no_tally}
+use Rattle.loc_batch.specs.Batches.{Feeds, lines_ended, no_tally}
 use Rattle.loc_io.specs.Streams.{Stream, stream}
 use Rattle.loc_batch.specs.Faces.{unnumbered}
+use Rattle.loc_batch.specs.PointLines.{is_point_line, point_count}
 use Rattle.loc_batch.specs.Streams.{tally_of as tally_of_answers}
 use Rattle.loc_batch.specs.Told.{Telling, told_by, told_place}
 use Rattle.loc_batch.proofs.Telling.{told_places}
@@ -52,5 +55,8 @@ returns-clause-within g c =
     let lines = lines_fed answer c.requires.always c.in_ok-batch.batch c.feed.new.self c.deref.result.now none_written none_written c.in_ok-batch.ensures.fresh fits ∙ ap ended_lines piece ∙ points_cut c.args.n c.args.shift c.requires.size in
     let count = ap length lines ∙ length-map (numbers c.args.n) (point_line c.args.n c.args.shift) ∙ length-range_with_len 0 c.args.n in
     let each = g.I.Locator.most c.args.index.now c.args.table.now in
-    let most : each + 0 ≡ each = omega arith in
-    subst (λ (k : ℕ). c.feed.new.steps ≤ k) (ap₂ (λ a b. c.args.steps.now + a * b) count most) c.feed.ensures.within
+    let batch = c.in_ok-batch.batch in
+    let points = point_count batch.scale (lines_ended batch c.deref.result.now) in
+    let few : points ≤ c.args.n = omega (arith, count_by-le-length (is_point_line batch.scale) (lines_ended batch c.deref.result.now), count) in
+    let alone : each + 0 ≡ each = omega arith in
+    omega (arith, c.feed.ensures.within, ap (λ (k : ℕ). points * k) alone, mul-le-mul_right each few)

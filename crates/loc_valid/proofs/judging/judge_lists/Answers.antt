@@ -12,7 +12,7 @@ use Rattle.loc_valid.proofs.judging.judge_lists.Goals as goal
 pub overflow_add-result : goal.overflow_add-result
 overflow_add-result c =
     let polygons = c.args.feature.now.polygons in
-    let found = outside_at polygons c.rings-rings.result.now c.rings-rings.ensures c.args.homes.now c.args.table.now c.requires.of_rings c.args.legend.now c.requires.laid_out c.first_outside.result c.first_outside.ensures c.in-Some.ring c.in-Some.field-0-1 c.in-Some.is in
+    let found = outside_at polygons c.rings-rings.result.now c.rings-rings.ensures c.args.homes.now c.args.table.now c.requires.of_rings c.args.legend.now c.requires.laid_out c.first_misplaced.result c.first_misplaced.ensures c.in-Some.ring c.in-Some.field-0-1 c.in-Some.is in
     let within = found_within (is_outside polygons (ring_table polygons)) (length (feature_rings polygons)) c.in-Some.ring found in
     omega (arith, within.0, ap (λ (ps : List Rings). length (feature_rings ps)) c.rings-rings.ensures, c.len-rings.ensures.value, c.len-rings.ensures.within)
 
@@ -20,30 +20,30 @@ pub returns-in-Some-clause-breach : goal.returns-in-Some-clause-breach
 returns-in-Some-clause-breach c =
     let polygons = c.args.feature.now.polygons in
     outside_first polygons c.requires.unpinched c.in-Some.ring
-    (outside_at polygons c.rings-rings.result.now c.rings-rings.ensures c.args.homes.now c.args.table.now c.requires.of_rings c.args.legend.now c.requires.laid_out c.first_outside.result c.first_outside.ensures c.in-Some.ring c.in-Some.field-0-1 c.in-Some.is)
+    (outside_at polygons c.rings-rings.result.now c.rings-rings.ensures c.args.homes.now c.args.table.now c.requires.of_rings c.args.legend.now c.requires.laid_out c.first_misplaced.result c.first_misplaced.ensures c.in-Some.ring c.in-Some.field-0-1 c.in-Some.is)
 
 -- ---- a hole in another
-pub overflow_add-result-in-Some-first_nested : goal.overflow_add-result-in-Some-first_nested
-overflow_add-result-in-Some-first_nested c =
+pub overflow_add-result-in-Some-first_misplaced : goal.overflow_add-result-in-Some-first_misplaced
+overflow_add-result-in-Some-first_misplaced c =
     let polygons = c.args.feature.now.polygons in
-    let found = nested_found polygons c.rings-rings.result.now c.rings-rings.ensures c.args.homes.now c.args.table.now c.requires.of_rings c.args.legend.now c.requires.laid_out c.first_nested.result c.first_nested.ensures ∙ c.in-Some-first_nested.is in
-    let within = pair_within (is_nested polygons (ring_table polygons)) (length (feature_rings polygons)) (length (feature_rings polygons)) (c.in-Some-first_nested.ring, c.in-Some-first_nested.inside) found in
+    let found = nested_found polygons c.rings-rings.result.now c.rings-rings.ensures c.args.homes.now c.args.table.now c.requires.of_rings c.args.legend.now c.requires.laid_out c.first_misplaced-2.result c.first_misplaced-2.ensures ∙ c.in-Some-first_misplaced.is in
+    let within = pair_within (is_nested polygons (ring_table polygons)) (length (feature_rings polygons)) (length (feature_rings polygons)) (c.in-Some-first_misplaced.ring, c.in-Some-first_misplaced.inside) found in
     omega (arith, within.0, ap (λ (ps : List Rings). length (feature_rings ps)) c.rings-rings.ensures, c.len-rings.ensures.value, c.len-rings.ensures.within)
 
-pub overflow_add-result-in-Some-first_nested-2 : goal.overflow_add-result-in-Some-first_nested-2
-overflow_add-result-in-Some-first_nested-2 c =
+pub overflow_add-result-in-Some-first_misplaced-2 : goal.overflow_add-result-in-Some-first_misplaced-2
+overflow_add-result-in-Some-first_misplaced-2 c =
     let polygons = c.args.feature.now.polygons in
-    let found = nested_found polygons c.rings-rings.result.now c.rings-rings.ensures c.args.homes.now c.args.table.now c.requires.of_rings c.args.legend.now c.requires.laid_out c.first_nested.result c.first_nested.ensures ∙ c.in-Some-first_nested.is in
-    let within = pair_within (is_nested polygons (ring_table polygons)) (length (feature_rings polygons)) (length (feature_rings polygons)) (c.in-Some-first_nested.ring, c.in-Some-first_nested.inside) found in
+    let found = nested_found polygons c.rings-rings.result.now c.rings-rings.ensures c.args.homes.now c.args.table.now c.requires.of_rings c.args.legend.now c.requires.laid_out c.first_misplaced-2.result c.first_misplaced-2.ensures ∙ c.in-Some-first_misplaced.is in
+    let within = pair_within (is_nested polygons (ring_table polygons)) (length (feature_rings polygons)) (length (feature_rings polygons)) (c.in-Some-first_misplaced.ring, c.in-Some-first_misplaced.inside) found in
     omega (arith, within.1, ap (λ (ps : List Rings). length (feature_rings ps)) c.rings-rings.ensures, c.len-rings.ensures.value, c.len-rings.ensures.within)
 
-pub returns-in-Some-first_nested-clause-breach : goal.returns-in-Some-first_nested-clause-breach
-returns-in-Some-first_nested-clause-breach c =
+pub returns-in-Some-first_misplaced-clause-breach : goal.returns-in-Some-first_misplaced-clause-breach
+returns-in-Some-first_misplaced-clause-breach c =
     let polygons = c.args.feature.now.polygons in
     nested_first polygons c.requires.unpinched
-    (inside_found polygons c.rings-rings.result.now c.rings-rings.ensures c.args.homes.now c.args.table.now c.requires.of_rings c.args.legend.now c.requires.laid_out c.first_outside.result c.first_outside.ensures (none_of c.first_outside.result c.in_default.not-Some))
-    (c.in-Some-first_nested.ring, c.in-Some-first_nested.inside)
-    (nested_found polygons c.rings-rings.result.now c.rings-rings.ensures c.args.homes.now c.args.table.now c.requires.of_rings c.args.legend.now c.requires.laid_out c.first_nested.result c.first_nested.ensures ∙ c.in-Some-first_nested.is)
+    (inside_found polygons c.rings-rings.result.now c.rings-rings.ensures c.args.homes.now c.args.table.now c.requires.of_rings c.args.legend.now c.requires.laid_out c.first_misplaced.result c.first_misplaced.ensures (none_of c.first_misplaced.result c.in_default.not-Some))
+    (c.in-Some-first_misplaced.ring, c.in-Some-first_misplaced.inside)
+    (nested_found polygons c.rings-rings.result.now c.rings-rings.ensures c.args.homes.now c.args.table.now c.requires.of_rings c.args.legend.now c.requires.laid_out c.first_misplaced-2.result c.first_misplaced-2.ensures ∙ c.in-Some-first_misplaced.is)
 
 -- ---- a polygon in parts
 pub first_parted-requires-clause-few_pieces : goal.first_parted-requires-clause-few_pieces
@@ -53,8 +53,8 @@ pub first_parted-requires-clause-apart : goal.first_parted-requires-clause-apart
 first_parted-requires-clause-apart c =
     let polygons = c.args.feature.now.polygons in
     apart_each polygons c.args.table.now c.requires.of_rings c.requires.all_even c.requires.unpinched
-    (inside_found polygons c.rings-rings.result.now c.rings-rings.ensures c.args.homes.now c.args.table.now c.requires.of_rings c.args.legend.now c.requires.laid_out c.first_outside.result c.first_outside.ensures (none_of c.first_outside.result c.in_default.not-Some))
-    (nested_found polygons c.rings-rings.result.now c.rings-rings.ensures c.args.homes.now c.args.table.now c.requires.of_rings c.args.legend.now c.requires.laid_out c.first_nested.result c.first_nested.ensures ∙ none_of c.first_nested.result c.in_default-first_nested.not-Some)
+    (inside_found polygons c.rings-rings.result.now c.rings-rings.ensures c.args.homes.now c.args.table.now c.requires.of_rings c.args.legend.now c.requires.laid_out c.first_misplaced.result c.first_misplaced.ensures (none_of c.first_misplaced.result c.in_default.not-Some))
+    (nested_found polygons c.rings-rings.result.now c.rings-rings.ensures c.args.homes.now c.args.table.now c.requires.of_rings c.args.legend.now c.requires.laid_out c.first_misplaced-2.result c.first_misplaced-2.ensures ∙ none_of c.first_misplaced-2.result c.in_default-first_misplaced.not-Some)
 
 pub overflow_add-result-in-Some-2 : goal.overflow_add-result-in-Some-2
 overflow_add-result-in-Some-2 c =
@@ -69,8 +69,8 @@ returns-in-Some-2-clause-breach c =
     let found = parted_at polygons (parteds polygons) c.in-Some-2.polygon c.in-Some-2.parts (sym c.in_ok-polygon.ensures.found ∙ c.in-Some-2.is) in
     subst (λ count. IsBreachOf next_at face_at polygons (Some (parts (c.in-Some-2.polygon + 1) count))) (sym found.1)
     (parts_first polygons c.requires.unpinched
-    (inside_found polygons c.rings-rings.result.now c.rings-rings.ensures c.args.homes.now c.args.table.now c.requires.of_rings c.args.legend.now c.requires.laid_out c.first_outside.result c.first_outside.ensures (none_of c.first_outside.result c.in_default.not-Some))
-    (nested_found polygons c.rings-rings.result.now c.rings-rings.ensures c.args.homes.now c.args.table.now c.requires.of_rings c.args.legend.now c.requires.laid_out c.first_nested.result c.first_nested.ensures ∙ none_of c.first_nested.result c.in_default-first_nested.not-Some)
+    (inside_found polygons c.rings-rings.result.now c.rings-rings.ensures c.args.homes.now c.args.table.now c.requires.of_rings c.args.legend.now c.requires.laid_out c.first_misplaced.result c.first_misplaced.ensures (none_of c.first_misplaced.result c.in_default.not-Some))
+    (nested_found polygons c.rings-rings.result.now c.rings-rings.ensures c.args.homes.now c.args.table.now c.requires.of_rings c.args.legend.now c.requires.laid_out c.first_misplaced-2.result c.first_misplaced-2.ensures ∙ none_of c.first_misplaced-2.result c.in_default-first_misplaced.not-Some)
     c.in-Some-2.polygon found.0)
 
 -- ---- a polygon in another
@@ -92,8 +92,8 @@ pub returns-in-Some-3-clause-breach : goal.returns-in-Some-3-clause-breach
 returns-in-Some-3-clause-breach c =
     let polygons = c.args.feature.now.polygons in
     overlap_first polygons c.requires.unpinched
-    (inside_found polygons c.rings-rings.result.now c.rings-rings.ensures c.args.homes.now c.args.table.now c.requires.of_rings c.args.legend.now c.requires.laid_out c.first_outside.result c.first_outside.ensures (none_of c.first_outside.result c.in_default.not-Some))
-    (nested_found polygons c.rings-rings.result.now c.rings-rings.ensures c.args.homes.now c.args.table.now c.requires.of_rings c.args.legend.now c.requires.laid_out c.first_nested.result c.first_nested.ensures ∙ none_of c.first_nested.result c.in_default-first_nested.not-Some)
+    (inside_found polygons c.rings-rings.result.now c.rings-rings.ensures c.args.homes.now c.args.table.now c.requires.of_rings c.args.legend.now c.requires.laid_out c.first_misplaced.result c.first_misplaced.ensures (none_of c.first_misplaced.result c.in_default.not-Some))
+    (nested_found polygons c.rings-rings.result.now c.rings-rings.ensures c.args.homes.now c.args.table.now c.requires.of_rings c.args.legend.now c.requires.laid_out c.first_misplaced-2.result c.first_misplaced-2.ensures ∙ none_of c.first_misplaced-2.result c.in_default-first_misplaced.not-Some)
     (whole_all polygons (parteds polygons) (sym c.in_ok-polygon.ensures.found ∙ none_of c.in_ok-polygon.field-0 c.in_default-2.not-Some))
     (c.in-Some-3.polygon, c.in-Some-3.other)
     (overlap_found polygons c.rings-rings.result.now c.rings-rings.ensures c.args.homes.now c.args.table.now c.requires.of_rings c.args.legend.now c.requires.laid_out c.in_ok-polygon-2.field-0 c.in_ok-polygon-2.ensures ∙ c.in-Some-3.is)
@@ -102,7 +102,7 @@ pub returns-in-None-clause-breach : goal.returns-in-None-clause-breach
 returns-in-None-clause-breach c =
     let polygons = c.args.feature.now.polygons in
     none_first polygons c.requires.unpinched
-    (inside_found polygons c.rings-rings.result.now c.rings-rings.ensures c.args.homes.now c.args.table.now c.requires.of_rings c.args.legend.now c.requires.laid_out c.first_outside.result c.first_outside.ensures (none_of c.first_outside.result c.in_default.not-Some))
-    (nested_found polygons c.rings-rings.result.now c.rings-rings.ensures c.args.homes.now c.args.table.now c.requires.of_rings c.args.legend.now c.requires.laid_out c.first_nested.result c.first_nested.ensures ∙ none_of c.first_nested.result c.in_default-first_nested.not-Some)
+    (inside_found polygons c.rings-rings.result.now c.rings-rings.ensures c.args.homes.now c.args.table.now c.requires.of_rings c.args.legend.now c.requires.laid_out c.first_misplaced.result c.first_misplaced.ensures (none_of c.first_misplaced.result c.in_default.not-Some))
+    (nested_found polygons c.rings-rings.result.now c.rings-rings.ensures c.args.homes.now c.args.table.now c.requires.of_rings c.args.legend.now c.requires.laid_out c.first_misplaced-2.result c.first_misplaced-2.ensures ∙ none_of c.first_misplaced-2.result c.in_default-first_misplaced.not-Some)
     (whole_all polygons (parteds polygons) (sym c.in_ok-polygon.ensures.found ∙ none_of c.in_ok-polygon.field-0 c.in_default-2.not-Some))
     (overlap_found polygons c.rings-rings.result.now c.rings-rings.ensures c.args.homes.now c.args.table.now c.requires.of_rings c.args.legend.now c.requires.laid_out c.in_ok-polygon-2.field-0 c.in_ok-polygon-2.ensures ∙ c.in-None.is)

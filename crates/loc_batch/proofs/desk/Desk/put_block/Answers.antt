@@ -1,8 +1,9 @@
-use Rattle.std.proofs.Common.{◌+◌, length, Ok, drop, arith, ◌∙◌, None, rules}
+use Rattle.std.proofs.Common.{◌+◌, Ok, drop, arith, ◌∙◌, None, rules}
 use Rattle.std.proofs.lemmas.Result.{err_from_is_err_and}
 use Rattle.loc_spec_text.specs.Answered.{answered, with_answer}
 use Rattle.loc_batch.specs.Told.{told_found}
-use Rattle.loc_batch.proofs.Lines.{goes_off, goes_on, next_answered, next_few, no_answers, no_more_few, no_line, none_answered, one_line}
+use Rattle.loc_batch.proofs.Counting.{next_few, no_more_few}
+use Rattle.loc_batch.proofs.Lines.{goes_off, goes_on, next_answered, no_answers, no_line, none_answered, one_line}
 use Rattle.loc_batch.proofs.desk.Desk.put_block.Goals as goal
 
 pub returns-in_err-answer_found-clause-answers : goal.returns-in_err-answer_found-clause-answers
@@ -23,7 +24,7 @@ loop-line-preserved g c =
       block = c.answer_found.ensures.block ∙ c.loop-line.invariant.block;
       same = c.answer_found.ensures.line ∙ c.loop-line.invariant.same;
       up = omega (arith, c.loop-line.invariant.up, c.answer_found.ensures.counted);
-      few = next_few c.loop-line.line _ _ _ (g.D.Answerer.most_put c.args.by.now) c.loop-line.invariant.few c.answer_found.ensures.within;
+      few = next_few founds c.loop-line.line c.found-found.result _ _ _ (g.D.Answerer.most_put c.args.by.now) (search (rules, arith)) (rw c.loop-line.invariant.block at c.found-found.ensures) c.loop-line.invariant.few c.answer_found.ensures.unsought c.answer_found.ensures.within;
     }
 
 pub returns-clause-answers : goal.returns-clause-answers
@@ -33,5 +34,6 @@ returns-clause-answers g c =
 
 pub returns-in_err-answer_found-clause-within : goal.returns-in_err-answer_found-clause-within
 returns-in_err-answer_found-clause-within g c =
-    let last = next_few c.loop-line.line _ _ _ (g.D.Answerer.most_put c.args.by.now) c.loop-line.invariant.few c.answer_found.ensures.within in
-    no_more_few (c.loop-line.line + 1) (length c.args.self.now.block.found) _ _ (g.D.Answerer.most_put c.args.by.now) (search (rules, arith)) last
+    let founds = c.args.self.now.block.found in
+    let last = next_few founds c.loop-line.line c.found-found.result _ _ _ (g.D.Answerer.most_put c.args.by.now) (search (rules, arith)) (rw c.loop-line.invariant.block at c.found-found.ensures) c.loop-line.invariant.few c.answer_found.ensures.unsought c.answer_found.ensures.within in
+    no_more_few founds (c.loop-line.line + 1) _ _ (g.D.Answerer.most_put c.args.by.now) last

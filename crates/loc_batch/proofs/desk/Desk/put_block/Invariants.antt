@@ -1,4 +1,5 @@
-use Rattle.std.proofs.Common.{◌≡◌, ◌≤◌, ◌+◌, ◌*◌, drop}
+use Rattle.std.proofs.Common.{◌≡◌, ◌≤◌, ◌+◌, ◌*◌, count_by, drop, take}
+use Rattle.std.specs.Option.{is_some}
 use Rattle.loc_spec_text.specs.Answered.{answered}
 use Rattle.loc_batch.specs.Told.{told_found}
 use Rattle.loc_batch.proofs.Lines.{GoesLines}
@@ -12,5 +13,5 @@ invariant-loop-line g l =
       block : l.self.block ≡ l.fn.self.block;
       same : l.self.line ≡ l.fn.self.line;
       up : l.fn.steps ≤ l.steps;
-      few : l.steps ≤ l.fn.steps + l.line * g.D.Answerer.most_put l.by;
+      few : l.steps ≤ l.fn.steps + count_by is_some (take l.line l.fn.self.block.found) * g.D.Answerer.most_put l.by;
     }

@@ -1,6 +1,4 @@
-use Rattle.std.proofs.Common.{◌++◌, ◌+◌, length, Ok, arith, sym, ◌∙◌, ap, map}
-use Rattle.std.specs.Prelude.{option_map}
-use Rattle.std.proofs.lemmas.List.{length-map}
+use Rattle.std.proofs.Common.{◌++◌, ◌+◌, Ok, arith, sym, ◌∙◌, ap, map}
 use Rattle.std.proofs.lemmas.Result.{err_from_is_err_and}
 use Rattle.loc_spec_text.specs.Answered.{answered}
 use Rattle.loc_spec_text.specs.Bytes.{ended_lines}
@@ -8,7 +6,8 @@ use Rattle.loc_spec_text.specs.Points.{point_of}
 use Rattle.loc_batch.specs.Told.{told_by, told_found}
 use Rattle.loc_batch.specs.Kept.{kept}
 use Rattle.loc_batch.proofs.Cutting.{split_none, unbroken_both, unbroken_front}
-use Rattle.loc_batch.proofs.Lines.{answered_found, cut_answered, fewer, goes_off, goes_on, no_line, sought_and_put}
+use Rattle.loc_batch.proofs.Counting.{fewer, sought_and_put}
+use Rattle.loc_batch.proofs.Lines.{answered_found, cut_answered, goes_off, goes_on, no_line}
 use Rattle.loc_batch.proofs.desk.Desk.put_lines.Goals as goal
 
 pub search-requires-clause-held : goal.search-requires-clause-held
@@ -31,11 +30,10 @@ returns-in_err-put_block-clause-unbroken g c = rw c.put_block.ensures.line c.in-
 pub returns-in_err-put_block-clause-within : goal.returns-in_err-put_block-clause-within
 returns-in_err-put_block-clause-within g c =
     let r = c.in-Some.ensures.reads in
-    let many = r.holds.as_many ∙ length-map r.lines (point_of c.args.scale) in
     let found = g.D.Answerer.most_found c.args.by.now in
     let put = g.D.Answerer.most_put c.args.by.now in
-    let both = sought_and_put _ c.loop-more.steps _ _ _ _ found put c.search.ensures.within c.put_block.ensures.within (ap length (c.search.ensures.found (map (point_of c.args.scale) r.lines) r.holds) ∙ length-map (map (point_of c.args.scale) r.lines) (option_map (g.D.Answerer.finds c.args.by.now)) ∙ length-map r.lines (point_of c.args.scale)) many in
-    omega (arith, fewer c.loop-more.steps _ (found + put) _ _ (ended_lines (c.loop-more.self.line.items ++ c.loop-more.rest.now)) r.lines (ended_lines (c.read_lines.new.self.line.items ++ c.in-Some.more.now)) (ap (λ s. s.0) r.split) many both c.loop-more.invariant.few)
+    let both = sought_and_put c.args.scale c.loop-more.steps _ _ _ found put (g.D.Answerer.finds c.args.by.now) r.lines c.search.new.self.found c.search.ensures.within r.holds.few c.put_block.ensures.within (c.search.ensures.found (map (point_of c.args.scale) r.lines) r.holds) in
+    omega (arith, fewer c.loop-more.steps _ (found + put) _ c.args.scale (ended_lines (c.loop-more.self.line.items ++ c.loop-more.rest.now)) r.lines (ended_lines (c.read_lines.new.self.line.items ++ c.in-Some.more.now)) (ap (λ s. s.0) r.split) both c.loop-more.invariant.few)
 
 pub loop-more-preserved : goal.loop-more-preserved
 loop-more-preserved g c =
@@ -43,10 +41,9 @@ loop-more-preserved g c =
     let tells = g.D.Answerer.tells c.args.by.now in
     let r = c.in-Some.ensures.reads in
     let same = ap (answered (told_found tells)) (c.search.ensures.found (map (point_of c.args.scale) r.lines) r.holds) ∙ answered_found c.args.scale finds tells r.lines in
-    let many = r.holds.as_many ∙ length-map r.lines (point_of c.args.scale) in
     let found = g.D.Answerer.most_found c.args.by.now in
     let put = g.D.Answerer.most_put c.args.by.now in
-    let both = sought_and_put _ c.loop-more.steps _ _ _ _ found put c.search.ensures.within c.put_block.ensures.within (ap length (c.search.ensures.found (map (point_of c.args.scale) r.lines) r.holds) ∙ length-map (map (point_of c.args.scale) r.lines) (option_map finds) ∙ length-map r.lines (point_of c.args.scale)) many in
+    let both = sought_and_put c.args.scale c.loop-more.steps _ _ _ found put finds r.lines c.search.new.self.found c.search.ensures.within r.holds.few c.put_block.ensures.within (c.search.ensures.found (map (point_of c.args.scale) r.lines) r.holds) in
     let answer = told_by c.args.scale finds tells in
     let is = cut_answered answer (ended_lines (c.loop-more.self.line.items ++ c.loop-more.rest.now)) r.lines (ended_lines (c.read_lines.new.self.line.items ++ c.in-Some.more.now)) (answered (told_found tells) c.search.new.self.found) (ap (λ s. s.0) r.split) same in
     rw c.put_block.ensures.line (record {
@@ -54,7 +51,7 @@ loop-more-preserved g c =
       unbroken = r.unbroken;
       left = sym (ap (λ s. s.1) r.split) ∙ c.loop-more.invariant.left;
       up = omega (arith, c.loop-more.invariant.up, c.search.ensures.counted, c.put_block.ensures.counted);
-      few = fewer c.loop-more.steps _ (found + put) _ _ (ended_lines (c.loop-more.self.line.items ++ c.loop-more.rest.now)) r.lines (ended_lines (c.read_lines.new.self.line.items ++ c.in-Some.more.now)) (ap (λ s. s.0) r.split) many both c.loop-more.invariant.few;
+      few = fewer c.loop-more.steps _ (found + put) _ c.args.scale (ended_lines (c.loop-more.self.line.items ++ c.loop-more.rest.now)) r.lines (ended_lines (c.read_lines.new.self.line.items ++ c.in-Some.more.now)) (ap (λ s. s.0) r.split) both c.loop-more.invariant.few;
     })
 
 pub returns-clause-answers : goal.returns-clause-answers

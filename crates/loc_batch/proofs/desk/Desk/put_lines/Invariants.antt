@@ -3,6 +3,7 @@ use Rattle.loc_spec_text.specs.Answered.{answered}
 use Rattle.loc_spec_text.specs.Bytes.{ended_lines, unfinished}
 use Rattle.loc_batch.specs.Told.{told_by}
 use Rattle.loc_batch.specs.Kept.{IsUnbroken}
+use Rattle.loc_batch.specs.PointLines.{point_count}
 use Rattle.loc_batch.proofs.Lines.{GoesLines}
 use Rattle.loc_batch.proofs.desk.Desk.put_lines.Given as goal
 
@@ -17,7 +18,7 @@ invariant-loop-more g l =
       unbroken : IsUnbroken l.self.line.items;
       left : unfinished (l.self.line.items ++ l.rest) ≡ unfinished (l.fn.self.line.items ++ l.text);
       up : l.fn.steps ≤ l.steps;
-      few : l.steps + length now * most ≤ l.fn.steps + length whole * most;
+      few : l.steps + point_count l.scale now * most ≤ l.fn.steps + point_count l.scale whole * most;
     }
 
 abbrev pub decreases-loop-more : goal.decreases-loop-more

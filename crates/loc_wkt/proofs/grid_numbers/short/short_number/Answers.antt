@@ -1,4 +1,4 @@
-use Rattle.std.proofs.Common.{◌≡◌, ◌∙◌, ◌-◌, ◌+◌, ℕ, rules, arith, ap, ap₂, sym, subst, drop, length, true, Some, length-take}
+use Rattle.std.proofs.Common.{◌≡◌, ◌∙◌, ◌-◌, ◌+◌, ℕ, arith, ap, ap₂, sym, subst, drop, length, true, Some, length-take}
 use Rattle.std.proofs.lemmas.List.{take_rest}
 use Rattle.loc_spec_text.specs.Geometry.{ends_symbol, symbols}
 use Rattle.loc_spec_text.specs.Number.{unsigned}
@@ -30,6 +30,6 @@ returns-clause-found c =
     let is : IsFront front (unsigned text) = subst (λ t. IsFront front t) c.unsigned-body.ensures (front_widened c.unsigned-body.result.now _ front c.in_ok-front.ensures) in
     let k : ℕ = (length text - length c.unsigned-body.result.now) + front.length in
     let place : k ≡ (length text - length (unsigned text)) + front.length = ap (λ t. (length text - length t) + front.length) c.unsigned-body.ensures in
-    let ended : ends_symbol (drop front.length c.unsigned-body.result.now) ≡ true = ap ends_symbol (sym (take_rest c.unsigned-body.result.now front.length)) ∙ search rules in
+    let ended : ends_symbol (drop front.length c.unsigned-body.result.now) ≡ true = ap ends_symbol (sym (take_rest c.unsigned-body.result.now front.length)) ∙ sym c.ends_symbol.ensures ∙ c.if-not-ends_symbol.false in
     front_symbol text front is k place (subst (λ t. ends_symbol (drop front.length t) ≡ true) c.unsigned-body.ensures ended)
     ∙ ap₂ (λ a b. Some (a, symbols b)) (sym c.split_at.ensures.front) (sym c.split_at.ensures.back)
