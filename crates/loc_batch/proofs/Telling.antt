@@ -1,5 +1,5 @@
 -- What is told by a place is the answer by the rows of a legend.
-use Rattle.std.proofs.Common.{◌≡◌, ℕ, List, [], ◌∷◌, ◌++◌, map, Option, Some, None, Result, Ok, Err, refl, ◌∙◌, ap}
+use Rattle.std.proofs.Common.{◌≡◌, ℕ, List, [], ◌∷◌, map, Option, Some, None, Result, Ok, Err, refl, ◌∙◌, ap}
 use Rattle.std.proofs.Math.Path.{fun_ext}
 use Rattle.std.specs.Prelude.{option_map}
 use Rattle.loc_spec_plane.specs.Points.{Point}
@@ -10,8 +10,8 @@ use Rattle.loc_place.specs.declared.locator.Deep.{Deep}
 use Rattle.loc_cover.specs.Legends.{LegendRows}
 use Rattle.loc_batch.specs.Answering.{answer_by, found_answer}
 use Rattle.loc_batch.specs.Batches.{Answering}
-use Rattle.loc_batch.specs.Streams.{line_of, tally_of, text_of, with_one}
-use Rattle.loc_batch.specs.Told.{Told, told_by, told_found, told_of, told_place, told_result, told_tally, told_text}
+use Rattle.loc_batch.specs.Streams.{tally_of, with_one}
+use Rattle.loc_batch.specs.Told.{Told, told_by, told_found, told_of, told_place, told_result, told_tally}
 use Rattle.loc_batch.specs.declared.tally.Tally.{Tally}
 
 -- what is told by places is what is answered by them
@@ -39,8 +39,3 @@ told_answers answer (line ∷ lines) = ap (with_answer (told_result (answer line
 pub told_tallies : (t : Tally) (answers : List Answer) → told_tally t (map told_of answers) ≡ tally_of t answers
 told_tallies t [] = refl
 told_tallies t (a ∷ answers) = told_tallies (with_one a t) answers
-
--- and written the same
-pub told_texts : (answers : List Answer) → told_text (map told_of answers) ≡ text_of answers
-told_texts [] = refl
-told_texts (a ∷ answers) = ap (λ (l : List ℕ). line_of a ++ l) (told_texts answers)

@@ -10,10 +10,6 @@ use Rattle.loc_course.proofs.Told.{exactly_it}
 use Rattle.loc_breaches.specs.BreachCourses.{IsRefusedBy, are_lines, first_refusal, judged_course, refusal_of, refused_or}
 use Rattle.loc_breaches.proofs.Refusals.{refused_first}
 
--- a layer of which no feature is refused
-pub on_judged : (scale : ℕ) (layer : List Feature) → first_refusal layer ≡ None → judged_course scale layer ≡ writes (are_lines scale layer)
-on_judged scale layer none = ap (λ (o : Option Text). refused_or o (writes (are_lines scale layer))) none
-
 -- and one of which a feature is, when those before it are not
 pub on_refused : (scale : ℕ) (layer before behind : List Feature) (feature : Feature) (stop : Stopped) (m : Moment) → layer ≡ before ++ feature ∷ behind → first_refusal before ≡ None → IsRefusedBy (refusal_of feature.polygons) stop
     → Follows (judged_course scale layer) m m (Some stop)

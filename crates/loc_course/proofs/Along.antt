@@ -21,7 +21,7 @@ whole_text untold text is = tt
 whole_text absent text is = absurd is
 whole_text (holds bytes) text is = ap length is
 
-not_done : (stop : Stopped) → status_of (Some stop) ≡ 0 → ⊥
+pub not_done : (stop : Stopped) → status_of (Some stop) ≡ 0 → ⊥
 not_done (refused line) zero = omega (arith, zero)
 not_done unread zero = omega (arith, zero)
 not_done unwritten zero = omega (arith, zero)

@@ -7,5 +7,6 @@ pub mod Plain
 pub mod Statuses
 pub mod Streamed
 pub mod Taken
+pub mod Texts
 pub mod Told
 pub mod Writing

@@ -1,5 +1,5 @@
 -- The features of marks, gathered edge after edge.
-use Rattle.std.proofs.Common.{◌≡◌, ℕ, zero, suc, ◌+◌, ◌-◌, ◌<◌, ◌≤◌, ◌≢◌, Bool, true, false, ◌&&◌, ◌||◌, List, [], ◌∷◌, ◌++◌, length, get_or, map, filter, refl, sym, ◌∙◌, ap, subst, inl, inr, arith, Less, Equal, Greater, add-one}
+use Rattle.std.proofs.Common.{◌≡◌, ℕ, zero, suc, ◌+◌, ◌-◌, ◌<◌, ◌≤◌, ◌≢◌, Bool, true, false, ◌&&◌, ◌||◌, List, [], ◌∷◌, ◌++◌, length, get_or, map, filter, refl, sym, ◌∙◌, ap, subst, inl, inr, arith, Less, Equal, Greater}
 use Rattle.std.specs.Prelude.{nat_lt, ◌==◌}
 use Rattle.std.specs.List.{list_all, list_any, range_with_len}
 use Rattle.std.specs.Cmp.{nat_cmp_is}
@@ -75,6 +75,9 @@ found_in p a (suc n) h = elim (or_cases (p a) (list_any p (range_with_len (a + 1
   | inr later ↦ (let found = found_in p (a + 1) n later in (found.0, omega (arith, found.1), omega (arith, found.2), found.3))
 ]
 
+pub some_in : (p : ℕ → Bool) (a n : ℕ) → list_any p (range_with_len a n) ≡ true → (k : ℕ) × (k < a + n) × (p k ≡ true)
+some_in p a n h = let found = found_in p a n h in (found.0, found.2, found.3)
+
 -- and the test is passed in the range where such a number passes it
 pub any_range : (p : ℕ → Bool) (a n k : ℕ) → a ≤ k → k < a + n → p k ≡ true → list_any p (range_with_len a n) ≡ true
 any_range p a n k from lt h = any-found p (range_with_len a n) k (in_range k n a from lt) h
@@ -112,14 +115,6 @@ either_end false false h x y = refl
 pub either_at : (t : Table) (c f : ℕ) (es : List ℕ) → (list_any (λ e. (lo_of t e == c) && has t f e) es || list_any (λ e. (hi_of t e == c) && has t f e) es) ≡ list_any (λ e. ends_at t c e && has t f e) es
 either_at t c f [] = refl
 either_at t c f (e ∷ es) = either_end (lo_of t e == c) (hi_of t e == c) (has t f e) (list_any (λ e. (lo_of t e == c) && has t f e) es) (list_any (λ e. (hi_of t e == c) && has t f e) es) ∙ ap (λ b. (ends_at t c e && has t f e) || b) (either_at t c f es)
-
-range_next : (a n : ℕ) → range_with_len a (suc n) ≡ range_with_len a n ++ (a + n) ∷ []
-range_next a zero = let same : a ≡ a + 0 = omega arith in ap (λ k. k ∷ []) same
-range_next a (suc n) = let same : (a + 1) + n ≡ a + suc n = omega arith in ap (λ ns. a ∷ ns) (range_next (a + 1) n ∙ ap (λ k. range_with_len (a + 1) n ++ k ∷ []) same)
-
--- a range with one more number
-pub range_more : (a n : ℕ) → range_with_len a (n + 1) ≡ range_with_len a n ++ (a + n) ∷ []
-range_more a n = ap (range_with_len a) (add-one n) ∙ range_next a n
 
 -- a number in a list of some of the numbers below n is below n
 pub below_count : (g : ℕ → Bool) (n i : ℕ) → i < length (filter g (numbers n)) → get_or (filter g (numbers n)) i 0 < n

@@ -28,29 +28,10 @@ numbered : (scale n : ℕ) (line : List ℕ) (ls : List (ℕ × List ℕ)) (feat
     → features_from (reading scale) (map line_row (filter is_row_line ((n, line) ∷ ls))) features ≡ features_from (reading scale) (map line_row (cond blank (filter is_row_line ls) ((n, line) ∷ filter is_row_line ls))) features
 numbered scale n line ls features blank e = ap (λ rest. features_from (reading scale) (map line_row rest) features) (chosen n line ls blank e)
 
--- a blank line is passed over
-pub pass : (scale row : ℕ) (rest line more : List ℕ) (features : List Feature) → lines rest ≡ line ∷ lines more → is_blank line ≡ true → later scale row rest features ≡ later scale (row + 1) more features
-pass scale row rest line more features cut blank = rw cut (numbered scale (row + 1) line (enumerate_from (row + 1 + 1) (lines more)) features true blank)
-
 -- another line is a row
 pub read : (scale row : ℕ) (rest line more : List ℕ) (features : List Feature) → lines rest ≡ line ∷ lines more → is_blank line ≡ false
     → later scale row rest features ≡ result_and_then (with_row features (record { number = row + 1; id = decimal (row + 1); text = line }) (text_reading (reading scale) line)) (later scale (row + 1) more)
 read scale row rest line more features cut full = rw cut (numbered scale (row + 1) line (enumerate_from (row + 1 + 1) (lines more)) features false full)
-
--- the step that was taken
-pub put : (first : LayerRead) (features : List Feature) (more : List Feature → LayerRead) → first ≡ Ok features → result_and_then first more ≡ more features
-put first features more is = rw is refl
-
--- the fault of a step is that of the whole
-pub stop : (first : LayerRead) (fault : LayerFault) (more : List Feature → LayerRead) → IsFaultOf first fault → IsFaultOf (result_and_then first more) fault
-stop first f.NoMemory more is = tt
-stop first (f.Text row fault) more is = (rw is.0 refl, is.1)
-stop first f.NoColumn more is = rw is refl
-stop first (f.Ragged row) more is = rw is refl
-stop first (f.BadText row) more is = rw is refl
-stop first (f.LongId row) more is = rw is refl
-stop first (f.ManyFeatures row) more is = rw is refl
-stop first (f.ManyPoints row) more is = rw is refl
 
 -- the fault of a row is that of the layer
 pub row_fault : (read : List ℕ → Result Polygons TextFault) (row : RowRead) (features : List Feature) (fault : LayerFault) → IsFaultOf row fault → IsFaultOf (features_from read (row ∷ []) features) fault

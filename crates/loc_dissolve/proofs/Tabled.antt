@@ -108,9 +108,6 @@ module _ (t : Table) (ok : IsTable t) (keep : ℕ → Bool) where
   chosen_is : (e : ℕ) → is_in e (chosen_edges t keep) ≡ true → (e < length t.ends) × (keep e ≡ true)
   chosen_is e here = let place = place_of (chosen_edges t keep) e 0 here in let old = old_is t ok keep place.0 place.1 in (subst (λ k. k < length t.ends) place.2 old.0, subst (λ k. keep k ≡ true) place.2 old.1)
 
-  is_chosen : (e : ℕ) → e < length t.ends → keep e ≡ true → is_in e (chosen_edges t keep) ≡ true
-  is_chosen e lt passes = is_in-filter keep e (edge_numbers t) ∙ and_from (is_in e (edge_numbers t)) (keep e) (in_numbers e (length t.ends) lt) passes
-
   stays : (c e : ℕ) → c < length t.corners → e < length t.ends → keep e ≡ true → ends_at t c e ≡ true → is_in c (filter is_chosen_end (corner_numbers t)) ≡ true
   stays c e lc le passes at = is_in-filter is_chosen_end c (corner_numbers t) ∙ and_from (is_in c (corner_numbers t)) (is_chosen_end c) (in_numbers c (length t.corners) lc)
       (any-found (λ e. keep e && ends_at t c e) (edge_numbers t) e (in_numbers e (length t.ends) le) (and_from (keep e) (ends_at t c e) passes at))

@@ -1,13 +1,13 @@
 -- The written text by the parts in which it is put: a ring closed by its first corner.
-use Rattle.std.proofs.Common.{◌≡◌, ℕ, List, [], ◌∷◌, ◌++◌, map, refl, sym, ◌∙◌, ap, append_assoc, append-nil, codes, ◌+◌, ◌<◌, length, arith}
+use Rattle.std.proofs.Common.{◌≡◌, ℕ, List, [], ◌∷◌, ◌++◌, map, refl, sym, ◌∙◌, ap, append_assoc, append-nil, codes, ◌+◌}
 use Rattle.std.specs.List.{flat_map}
 use Rattle.loc_spec_plane.specs.Points.{Point}
-use Rattle.loc_spec_plane.specs.Rings.{Ring, Rings}
+use Rattle.loc_spec_plane.specs.Rings.{Ring}
 use Rattle.loc_spec_text.specs.Bytes.{Text}
 use Rattle.loc_spec_text.specs.Points.{position_text}
 use Rattle.loc_spec_text.specs.Points.{quoted_byte}
 use Rattle.loc_spec_groups.specs.Groups.{Group}
-use Rattle.loc_spec_groups.specs.GroupTexts.{enclosed, group_row, listed, polygon_text, polygons_text, ring_text}
+use Rattle.loc_spec_groups.specs.GroupTexts.{group_row, listed, polygons_text, ring_text}
 use Rattle.loc_dissolve.specs.Writing.{closed_text}
 
 module _ (f : Point → Text) (last : Text) where
@@ -42,11 +42,6 @@ laters f (x ∷ xs) = ap (λ l. (codes ", " ++ f x) ++ l) (laters f xs)
 -- texts with a comma between them, by the first and those behind it
 pub listed_is : {X : Type 0} (f : X → Text) (all : List X) (x : X) (xs : List X) → all ≡ x ∷ xs → f x ++ flat_map (λ (x : X). codes ", " ++ f x) xs ≡ listed (map f all)
 listed_is f all x xs is = ap (λ l. f x ++ l) (laters f xs) ∙ ap (λ l. listed (map f l)) (sym is)
-
--- polygons in parentheses, where there are some
-pub some_polygons : (scale : ℕ) (polygons : List Rings) → (0 < length polygons) → enclosed (map (polygon_text scale) polygons) ≡ polygons_text scale polygons
-some_polygons scale [] some = absurd (omega (arith, some))
-some_polygons scale (rings ∷ polygons) some = refl
 
 -- the row of a group by its parts
 pub row_is : (scale : ℕ) (group : Group) → codes "\"MULTIPOLYGON " ++ (polygons_text scale group.polygons ++ (codes "\",\"" ++ (flat_map quoted_byte group.id ++ codes "\"\n"))) ≡ group_row scale group

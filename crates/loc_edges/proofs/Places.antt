@@ -49,9 +49,6 @@ module _ {X : Type 0} {R : X → X → Ordering} {comes_before : X → X → Boo
   pub found_there : (i : ℕ) → IsBinarySearchResult (λ y. R y x) xs (Ok i) → (d : X) → get_or xs i d ≡ x
   found_there i h d = tie (get_or xs i d) (h d)
 
-  pub position_of_found : (i : ℕ) → i < length xs → IsBinarySearchResult (λ y. R y x) xs (Ok i) → position_or_len (E x) xs ≡ i
-  position_of_found i fits h = position_of_member i fits (found_there i h)
-
   -- where nothing is found no member is x
   pub not_there : (i : ℕ) → IsBinarySearchResult (λ y. R y x) xs (Err i) → (k : ℕ) → k < length xs → E x (get_or xs k x) ≡ false
   not_there i h k fits = elim (cases_lt k i) [

@@ -51,10 +51,6 @@ passing_within test layer fs is =
     (All-filter (λ f. test (get_or (layer_rings layer) f [])) (λ f. f < length layer) (numbers (length (layer_rings layer)))
     (below (length (layer_rings layer)) (length layer) (omega (arith, many))))
 
--- the text where nothing touches, and where something does
-pub text_none : (on covering : List ℕ) (layer : List Feature) → on ≡ [] → codes "in" ++ ids_text (names_in layer covering) ≡ features_text (names_in layer on) (names_in layer covering)
-text_none on covering layer none = ap (λ (fs : List ℕ). features_text (names_in layer fs) (names_in layer covering)) (sym none)
-
 pub text_some : (on covering : List ℕ) (layer : List Feature) → (on ≡ [] → ⊥) → (codes "on" ++ ids_text (names_in layer on)) ++ (codes " in" ++ ids_text (names_in layer covering)) ≡ features_text (names_in layer on) (names_in layer covering)
 text_some [] covering layer some = absurd (some refl)
 text_some (f ∷ on) covering layer some = sym (append_assoc (codes "on" ++ ids_text (names_in layer (f ∷ on))) (codes " in") (ids_text (names_in layer covering)))

@@ -1,6 +1,6 @@
 -- The place of a point in a part, and what its legend names there.
-use Rattle.std.proofs.Common.{◌≡◌, ℕ, suc, ◌+◌, ◌-◌, ◌*◌, ◌^◌, ◌<◌, ◌≤◌, Bool, List, [], ◌∷◌, ◌++◌, length, length-append, map, filter, take, drop, get_or, Some, None, refl, sym, ◌∙◌, ap, append_assoc, subst, inl, inr, arith}
-use Rattle.std.specs.Prelude.{All, not, replicate, set}
+use Rattle.std.proofs.Common.{◌≡◌, ℕ, suc, ◌+◌, ◌-◌, ◌*◌, ◌^◌, ◌<◌, ◌≤◌, Bool, List, [], ◌∷◌, ◌++◌, length, length-append, map, filter, take, drop, get_or, Some, None, refl, sym, ◌∙◌, ap, append_assoc, inl, inr, arith}
+use Rattle.std.specs.Prelude.{not, replicate, set}
 use Rattle.std.proofs.Math.Seq.{set-append_seam}
 use Rattle.std.proofs.Math.Pow.{pow_mono}
 use Rattle.std.proofs.lemmas.Bool.{cases_lt}
@@ -12,14 +12,12 @@ use Rattle.loc_spec_plane.specs.Points.{Point}
 use Rattle.loc_spec_plane.specs.Tables.{Table}
 use Rattle.loc_spec_plane.specs.declared.Place.{Place}
 use Rattle.loc_spec_plane.specs.declared.Place.TheVariants.{Corner, Border, Area}
-use Rattle.loc_rings.specs.Values.{Feature}
 use Rattle.loc_edges.specs.Small.{IsSmallTable}
 use Rattle.loc_place.specs.Answers.{IsInRange}
 use Rattle.loc_place.specs.Found.{place_at}
 use Rattle.loc_place.specs.Steps.{search_bound}
-use Rattle.loc_cover.specs.Legends.{AreNamed, FitsTable, LegendRows, covering, touching}
+use Rattle.loc_cover.specs.Legends.{FitsTable, LegendRows, covering, touching}
 use Rattle.loc_batch.specs.Answering.{IsPlaceIn}
-use Rattle.loc_parts.specs.Parts.{IsPartOf, features_with, no_rings}
 use Rattle.loc_parts.specs.declared.parts.Part.{Part}
 
 -- a place of a table is one of its legend
@@ -40,13 +38,6 @@ few_steps t most small power =
       | inl less ↦ omega (arith, less)
       | inr more ↦ (let high : 2 ^ 64 ≤ 2 ^ most = pow_mono more in absurd (omega (arith, high, power, all)))
     ]
-
--- the features that a legend of a part names have a number
-pub named_within : (layer : List Feature) (part : Part) (fs : List ℕ) → IsPartOf layer part → AreNamed part.plane.legend fs → All (λ f. f < length part.numbers.items) fs
-named_within layer part fs is named =
-    let many : length part.plane.legend.ids ≡ length part.numbers.items =
-    ap length is.map.ids ∙ (length-map (features_with part.numbers.items layer) (λ (f : Feature). f.id) ∙ length-map part.numbers.items (λ n. get_or layer n no_rings)) in
-    subst (λ n. All (λ f. f < n) fs) many named
 
 -- where nothing touches all of a list is left
 pub none_left_out : (fs : List ℕ) → filter (λ f. not (is_in f [])) fs ≡ fs

@@ -16,7 +16,7 @@ use Rattle.loc_laws_any.specs.Unions.{passing}
 use Rattle.loc_laws_any.proofs.Joining.{joined}
 use Rattle.loc_rings.specs.Values.{Feature, rings_of}
 use Rattle.loc_edges.specs.Layers.{layer_rings}
-use Rattle.loc_batch.specs.Lists.{ListsState, no_lists}
+use Rattle.loc_batch.specs.Lists.{ListsState}
 use Rattle.loc_parts.specs.Parts.{IsParted, numbers_in, left_numbers, part_numbers}
 use Rattle.loc_parts.specs.declared.parts.Left.{Left}
 use Rattle.loc_parts.specs.declared.parts.Part.{Part}
@@ -24,10 +24,6 @@ use Rattle.loc_parts.specs.declared.parts.Parted.{Parted}
 use Rattle.loc_parts.proofs.Numbered.{in_all}
 use Rattle.loc_features.specs.Gathered.{Names, segments_at}
 use Rattle.loc_features.proofs.Naming.{all_segments}
-
--- where no number is given nothing is named
-pub none_named : (layer : List Rings) (p : Point) → Names layer p [] no_lists
-none_named layer p = record { touching = λ n. refl; covering = λ n. refl; few_touching = omega arith; few_covering = omega arith }
 
 module _ (layer : List Rings) (p : Point) (lists : List (List ℕ)) (ns : List ℕ) (before l : ListsState) (names : Names layer p lists before) where
   -- what is named before and then has a number of one list more

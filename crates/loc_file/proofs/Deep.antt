@@ -3,7 +3,7 @@ use Rattle.std.proofs.Common.{◌≡◌, ◌≢◌, ℕ, zero, suc, ◌+◌, ◌
 use Rattle.std.specs.Prelude.{nat_le, if◌then◌else◌}
 use Rattle.std.specs.List.{list_all, range_with_len}
 use Rattle.std.proofs.Math.Pow.{pow_mono}
-use Rattle.std.proofs.lemmas.Bool.{and_from, and_parts, not-true, ltb-false, cases_lt}
+use Rattle.std.proofs.lemmas.Bool.{and_from, and_parts, not-true, ltb-false, cases_lt, le-leb, leb-true}
 use Rattle.std.proofs.lemmas.Nat.{mul-le}
 use Rattle.loc_spec_plane.specs.Tables.{Table}
 use Rattle.loc_spec_index.specs.declared.NodeRow.{NodeRow}
@@ -14,9 +14,6 @@ use Rattle.loc_place.proofs.SearchBounds.{both_within, within_most}
 use Rattle.loc_file.specs.Depths.{depth_from, is_level, most_of}
 
 module _ (rows : List NodeRow) (version : ℕ) where
-  abbrev depth : ℕ → ℕ → ℕ
-  depth = depth_from rows version
-
   -- one node down is one node less
   pub depth-child : (room at : ℕ) (side : Side) (row : NodeRow) → (at ≡ 0 → ⊥) → 1 ≤ room → row ≡ row_of rows at → depth_from rows version (room - 1) (child row side version) + 1 ≤ depth_from rows version room at
   unfolding depth_from
@@ -86,19 +83,13 @@ at-number test (suc n) a i h f l = at (cases_lt a i) (and_parts (test a) _ h) (�
     at (inl less) p further = further p.1 (omega (arith, less))
     at (inr here) p further = subst (λ k. test k ≡ true) (let e : a ≡ i = omega (arith, here, f) in e) p.0
 
-le-true : (a b : ℕ) → nat_le a b ≡ true → a ≤ b
-le-true a b h = grind arith
-
-true-le : (a b : ℕ) → a ≤ b → nat_le a b ≡ true
-true-le a b h = grind arith
-
 pub level-at : (c : Content) (i : ℕ) → is_level c ≡ true → i < length c.corners → 2 ^ depth_from c.nodes i 42 (root_of c i) ≤ version_bound (length c.edges)
 unfolding is_level
-level-at c i h lt = le-true _ _ (at-number (λ i. nat_le (2 ^ depth_from c.nodes i 42 (root_of c i)) (version_bound (length c.edges))) (length c.corners) 0 i h (omega arith) (omega (arith, lt)))
+level-at c i h lt = leb-true _ _ (at-number (λ i. nat_le (2 ^ depth_from c.nodes i 42 (root_of c i)) (version_bound (length c.edges))) (length c.corners) 0 i h (omega arith) (omega (arith, lt)))
 
 pub level-from : (c : Content) → ((i : ℕ) → i < length c.corners → 2 ^ depth_from c.nodes i 42 (root_of c i) ≤ version_bound (length c.edges)) → is_level c ≡ true
 unfolding is_level
-level-from c each = all-numbers _ (length c.corners) 0 (λ i f l. true-le _ _ (each i (omega (arith, l))))
+level-from c each = all-numbers _ (length c.corners) 0 (λ i f l. le-leb _ _ (each i (omega (arith, l))))
 
 -- ---- the steps of a search
 

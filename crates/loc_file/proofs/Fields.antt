@@ -2,7 +2,6 @@
 use Rattle.std.proofs.Common.{◌≡◌, ◌⊎◌, inl, inr, ℕ, ◌+◌, ◌<◌, ◌≤◌, ◌^◌, Bool, true, false, ◌&&◌, List, [], ◌∷◌, ◌++◌, length, get_or, ◌%◌, refl, sym, ◌∙◌, ap, subst, append-nil, arith, ℤ, pos, negsuc}
 use Rattle.std.specs.Prelude.{Some, nat_lt, ◌==◌, codes, unsigned_abs, FitsSigned}
 use Rattle.std.specs.Str.{bytes_eq}
-use Rattle.std.proofs.lemmas.Slice.Eq.{bytes_eq-Decides}
 use Rattle.std.specs.Int.{w8, w32, w64, to_be_bytes, from_be_bytes, cast_signed, cast_unsigned}
 use Rattle.std.proofs.lemmas.Nat.{be_bytes_4, be_bytes_8}
 use Rattle.byteorder.specs.Endian.{big_number}
@@ -109,9 +108,6 @@ order-wrong part row holds a h = wrong [] a.rest (fault.NotSorted part row) refl
 
 abbrev letters : List ℕ
 letters = codes "LOCINDEX"
-
-pub magic-read : (held : List ℕ) {a b : Left} → IsTaken 8 held a b → bytes_eq held (codes "LOCINDEX") ≡ true → IsRead (magic (codes "LOCINDEX") ∷ []) a b
-magic-read held t e = read-at (magic letters) 8 held t (sym ((bytes_eq-Decides held letters).0 e)) refl
 
 pub magic-wrong : (held : List ℕ) {a b : Left} → IsTaken 8 held a b → bytes_eq held (codes "LOCINDEX") ≡ false → IsWrong (magic (codes "LOCINDEX")) a fault.Magic
 magic-wrong held t e = wrong-at (magic letters) 8 held fault.Magic refl t (fault-is _ _ e)

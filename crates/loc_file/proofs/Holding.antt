@@ -1,19 +1,19 @@
 -- The parts of a file as a table and a legend, and back.
-use Rattle.std.proofs.Common.{◌≡◌, ℕ, zero, suc, ◌-◌, ◌^◌, ◌<◌, ◌≤◌, Bool, true, false, List, [], ◌∷◌, length, map, get_or, refl, sym, ◌∙◌, ap, subst, arith}
-use Rattle.std.specs.Prelude.{IfSome, All, nat_lt, ◌==◌, if◌then◌else◌}
+use Rattle.std.proofs.Common.{◌≡◌, ℕ, zero, suc, ◌-◌, ◌^◌, ◌<◌, ◌≤◌, true, List, [], ◌∷◌, length, map, get_or, refl, sym, ◌∙◌, ap, subst, arith}
+use Rattle.std.specs.Prelude.{IfSome, All, nat_lt}
 use Rattle.std.proofs.lemmas.List.{length-map, get_or_read}
 use Rattle.loc_spec_plane.specs.Lists.{is_rising, numbers}
 use Rattle.loc_spec_plane.specs.Points.{Point, before}
 use Rattle.loc_spec_plane.specs.declared.Mark.{Mark}
 use Rattle.loc_spec_plane.specs.Tables.{Table, IsTable, pair_before}
 use Rattle.loc_spec_index.specs.Content.{Content, EdgeRow, table_in, cover_numbers}
-use Rattle.loc_spec_index.specs.IndexFile.{IsFileOf, bytes_of, most_edges}
+use Rattle.loc_spec_index.specs.IndexFile.{IsFileOf, bytes_of}
 use Rattle.loc_edges.specs.Parts.{GoesUpBelow, table_of_parts}
 use Rattle.loc_cover.specs.Legends.{LegendRows, FitsTable, AreLists}
 use Rattle.loc_laws_index.proofs.RightRows.{IsEdgeIn}
 use Rattle.loc_laws_index.proofs.FileFacts.{Facts, facts}
 use Rattle.loc_laws_index.proofs.HeldTable.{file_holds_table}
-use Rattle.loc_laws_index.proofs.AgreeTable.{content-same}
+use Rattle.loc_laws_index.proofs.AgreeTable.{content-same, most-small}
 use Rattle.loc_file.specs.declared.edges.EdgeOf.{EdgeOf}
 use Rattle.loc_file.specs.Told.{told, told_source}
 use Rattle.loc_file.specs.Keeping.{edge_rows, marks_from, content_of, IsHeld}
@@ -45,14 +45,6 @@ told-sources v (e ∷ es) = ap (λ l. told_source v e ∷ l) (told-sources v es)
 
 pub cover_numbers-held : (c : Content) (ends sources : List (ℕ × ℕ)) (above : List ℕ) → edge_rows ends sources above ≡ c.edges → length sources ≡ length ends → length above ≡ length ends → above ≡ cover_numbers c
 cover_numbers-held c ends sources above e s l = sym (covers-of ends sources above s l) ∙ ap (λ es. map (λ (e : EdgeRow). e.cover) es) e
-
--- no version has more edges than the second
-pub most-edges : (v : ℕ) → most_edges v ≤ 2 ^ 21
-most-edges v = by (v == 1)
-  where
-    by : (b : Bool) → (if b then 2 ^ 20 else 2 ^ 21) ≤ 2 ^ 21
-    by true = omega arith
-    by false = omega arith
 
 -- a root of a file
 pub root-within : (f : ℕ) (c d : Content) (v x : ℕ) → c ≡ d → IsFileOf f c (bytes_of f c) → v < length d.corners → x ≡ get_or c.roots v x → x ≤ length d.nodes
@@ -117,7 +109,7 @@ module _ (v : ℕ) (c : Content) (es : List EdgeOf) (ends sources : List (ℕ ×
   above-fit k e = subst (λ j. All (λ n. n < j) above) (sym e) above-all
 
   pub few_ends : length ends ≤ 2 ^ 21
-  few_ends = let f = F.few_edges in let most = most-edges v in omega (arith, f, most, as_many_ends)
+  few_ends = let f = F.few_edges in let most = most-small v in omega (arith, f, most, as_many_ends)
 
   pub marks-on-ends : All (λ (m : ℕ × Mark). m.0 < length ends) c.marks
   marks-on-ends = λ i d lt. (let m = F.marks i d lt in let p = m.0 in omega (arith, p, as_many_ends))

@@ -1,8 +1,8 @@
 -- Features by their numbers.
-use Rattle.std.proofs.Common.{◌≡◌, ℕ, zero, suc, ◌+◌, ◌-◌, ◌*◌, ◌/◌, ◌%◌, ◌<◌, ◌≤◌, List, ◌++◌, length, get_or, map, sym, ◌∙◌, ap, arith, zero-add, length-append}
+use Rattle.std.proofs.Common.{◌≡◌, ℕ, zero, suc, ◌+◌, ◌-◌, ◌*◌, ◌/◌, ◌%◌, ◌<◌, List, ◌++◌, length, get_or, map, sym, ◌∙◌, ap, arith, zero-add, length-append}
 use Rattle.std.proofs.lemmas.List.{get_or_append_left, get_or-append_right}
 use Rattle.std.proofs.lemmas.List.FromFn.{get_or-map-range_with_len, length-map-range_with_len}
-use Rattle.std.proofs.lemmas.Nat.{div-add-mod', div_below, mod_below, mul-le}
+use Rattle.std.proofs.lemmas.Nat.{div-add-mod', div_below, mod_below}
 use Rattle.std.specs.List.{flat_map, range_with_len}
 use Rattle.loc_spec_plane.specs.Lists.{numbers}
 use Rattle.loc_gen.specs.declared.kinds.Kind.{Kind}
@@ -35,10 +35,6 @@ module _ {X : Type 0} (row : ℕ → List X) (w : ℕ) (even : (i : ℕ) → len
 pub some_row : (n k : ℕ) → k < n * n → 0 < n
 some_row zero k h = absurd (omega arith)
 some_row (suc n) k h = omega arith
-
--- a square of at most 256 rows has at most 65536 places
-pub few_places : (n k : ℕ) → n ≤ 256 → k < n * n → k < 65536
-few_places n k small h = omega (arith, mul-le n n 256 256 small small)
 
 -- there are as many features as are counted
 pub count_is : (kind : Kind) (n start : ℕ) → length (features kind n start) ≡ feature_count kind n

@@ -23,7 +23,7 @@ use Rattle.loc_maps.specs.MapCourses.{LayerFile, accepted_course, covers_course,
 use Rattle.loc_maps.specs.Maps.{HasFewPieces, has_many_covers, has_many_pieces}
 use Rattle.loc_maps.proofs.Judged.{on_apart, on_few_covers, on_few_pieces}
 use Rattle.loc_query.specs.Headline.{IsAccepted}
-use Rattle.loc_told.proofs.Texts.{long, short}
+use Rattle.loc_course.proofs.Texts.{long, short}
 use Rattle.loc_groups.specs.GroupCourses.{dissolve_course, groups_text}
 
 module _ (told : Text → Told) (file : LayerFile) (layer : Text) (is : told file.name ≡ holds layer) where

@@ -38,12 +38,6 @@ module _ (t : Table) (ok : IsTable t) (c first past : ℕ) (range : IsBeginning 
   abbrev listed_before : ℕ → ℕ → Bool
   listed_before a b = nat_lt a b || ((lo_of t a == c) && not (lo_of t b == c))
 
-  abbrev beginning : List ℕ
-  beginning = range_with_len first (past - first)
-
-  abbrev ending : List ℕ
-  ending = filter (λ e. hi_of t e == c) (edge_numbers t)
-
   in_range : (e : ℕ) → first ≤ e → e < first + (past - first) → (e < length t.ends) × (lo_of t e ≡ c)
   in_range e from lt =
       let fits : e < length t.ends = omega (arith, lt, range.in_order, range.within) in

@@ -6,7 +6,7 @@ use Rattle.loc_spec_plane.specs.Lists.{least_of}
 use Rattle.loc_spec_plane.specs.HalfEdges.{way_to}
 use Rattle.loc_half.specs.Rounds.{next_of, after, IsRound, leader_among}
 
-least_of-le : (n : ℕ) (ms : List ℕ) → least_of n ms ≤ n
+pub least_of-le : (n : ℕ) (ms : List ℕ) → least_of n ms ≤ n
 least_of-le n [] = omega arith
 least_of-le n (m ∷ ms) = omega arith
 

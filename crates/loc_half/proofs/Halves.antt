@@ -1,23 +1,11 @@
 -- Half-edges by number: their edges, and the corners at which they arrive and leave.
-use Rattle.std.proofs.Common.{◌≡◌, ◌≢◌, ℕ, ◌+◌, ◌*◌, ◌%◌, ◌<◌, true, false, List, [], ◌∷◌, ◌++◌, length, get_or, length-append, sym, ◌∙◌, ap, ◌⊎◌, inl, inr, arith}
+use Rattle.std.proofs.Common.{◌≡◌, ◌≢◌, ℕ, ◌+◌, ◌*◌, ◌%◌, ◌<◌, true, false, [], length, sym, ◌∙◌, ap, ◌⊎◌, inl, inr, arith}
 use Rattle.std.specs.Prelude.{◌==◌}
 use Rattle.std.proofs.lemmas.Bool.{cases_eq, cond-true, cond-false, cond_both, eq-eqb, ne_eqb, eqb-true, or_cases, or_left, or_right, both_ways}
-use Rattle.std.proofs.lemmas.List.{get_or_at, get_or_append_left}
 use Rattle.loc_spec_plane.specs.Tables.{Table, IsTable, lo_of, hi_of, ends_at}
 use Rattle.loc_spec_plane.specs.HalfEdges.{half_edge_count, edge_of, goes_up, origin, target, leaving}
+use Rattle.loc_laws_order.proofs.HalfEdges.{edge-up, edge-down, up-goes_up, down-goes_up}
 use Rattle.loc_half.specs.Turns.{arriving}
-
-edge-up : (e : ℕ) → edge_of (2 * e) ≡ e
-edge-up e = omega arith
-
-edge-down : (e : ℕ) → edge_of (2 * e + 1) ≡ e
-edge-down e = omega arith
-
-up-goes_up : (e : ℕ) → goes_up (2 * e) ≡ true
-up-goes_up e = eq-eqb ((2 * e) % 2) 0 (omega arith)
-
-down-goes_up : (e : ℕ) → goes_up (2 * e + 1) ≡ false
-down-goes_up e = ne_eqb ((2 * e + 1) % 2) 0 (λ is. (let odd : (2 * e + 1) % 2 ≡ 0 = is in omega (arith, odd)))
 
 -- a half-edge goes up or down its edge
 pub either_way : (h : ℕ) → ((goes_up h ≡ true) × (h ≡ 2 * edge_of h)) ⊎ ((goes_up h ≡ false) × (h ≡ 2 * edge_of h + 1))
@@ -97,20 +85,3 @@ module _ (t : Table) where
       let up = ok.goes_up (edge_of h) (edge-fits h lt) in
       let within = up.1 in
       cond_both (goes_up h) (hi_of t (edge_of h)) (lo_of t (edge_of h)) (λ c. c < length t.corners) (λ _. within) (λ _. omega (arith, up.0, within))
-
-  -- the two half-edges of one more edge
-  pub origins_more : (origins more : List ℕ) (e : ℕ) → length origins ≡ 2 * e → ((h : ℕ) → h < 2 * e → get_or origins h 0 ≡ origin t h) → more ≡ (origins ++ lo_of t e ∷ []) ++ hi_of t e ∷ []
-      → (length more ≡ 2 * (e + 1)) × ((h : ℕ) → h < 2 * (e + 1) → get_or more h 0 ≡ origin t h)
-  origins_more origins more e size each is =
-      let first = length-append origins (lo_of t e ∷ []) in
-      let longer = ap length is in (
-        omega (arith, size, first, length-append (origins ++ lo_of t e ∷ []) (hi_of t e ∷ []), longer),
-        λ h lt. ap (λ ns. get_or ns h 0) is ∙ elim (cases_eq h (2 * e + 1)) [
-          | inl last ↦ ap (λ k. get_or ((origins ++ lo_of t e ∷ []) ++ hi_of t e ∷ []) k 0) last ∙ (get_or_at (origins ++ lo_of t e ∷ []) (hi_of t e) [] 0 (2 * e + 1) (omega (arith, size, first)) ∙ (sym (origin-down e) ∙ ap (origin t) (sym last)))
-          | inr not_last ↦ (let ne : h ≢ 2 * e + 1 = not_last in
-              get_or_append_left (origins ++ lo_of t e ∷ []) (hi_of t e ∷ []) 0 h (omega (arith, size, first, ne, lt)) ∙ elim (cases_eq h (2 * e)) [
-                | inl at ↦ ap (λ k. get_or (origins ++ lo_of t e ∷ []) k 0) at ∙ (get_or_at origins (lo_of t e) [] 0 (2 * e) size ∙ (sym (origin-up e) ∙ ap (origin t) (sym at)))
-                | inr other ↦ (let differs : h ≢ 2 * e = other in let early : h < 2 * e = omega (arith, ne, differs, lt) in get_or_append_left origins (lo_of t e ∷ []) 0 h (omega (arith, size, early)) ∙ each h early)
-              ])
-        ],
-      )

@@ -7,7 +7,7 @@ use Rattle.std.proofs.lemmas.List.Folds.{list_any_more, list_any_at}
 use Rattle.loc_spec_plane.specs.Lists.{is_in, last_or_else, before_from, before_round}
 use Rattle.loc_spec_plane.specs.Tables.{Table, IsTable, ends_at}
 use Rattle.loc_spec_plane.specs.Places.{is_edge}
-use Rattle.loc_spec_plane.specs.HalfEdges.{comes_round, half_edge_count, edge_of, target, leaving, IsTurnList, IsNext}
+use Rattle.loc_spec_plane.specs.HalfEdges.{comes_round, half_edge_count, edge_of, target, leaving, IsTurnList}
 use Rattle.loc_laws_order.proofs.TableOrder.{rises}
 use Rattle.std.proofs.lemmas.Option.{get_or_from_slice_get, slice_get_within}
 use Rattle.loc_status.proofs.Ends.{member_place}
@@ -25,7 +25,7 @@ last_is n (m ∷ k ∷ ns) some =
     ap (λ i. get_or (m ∷ k ∷ ns) i 0) at ∙ last_is m (k ∷ ns) more
 
 -- a member has a place
-place_of : (n : ℕ) (ns : List ℕ) → is_in n ns ≡ true → (j : ℕ) × (j < length ns) × (get_or ns j 0 ≡ n)
+pub place_of : (n : ℕ) (ns : List ℕ) → is_in n ns ≡ true → (j : ℕ) × (j < length ns) × (get_or ns j 0 ≡ n)
 place_of n ns here = let found = member_place ns n here in (found.0, slice_get_within ns found.0 n found.1, get_or_from_slice_get ns found.0 n 0 found.1)
 
 -- so far as the first edges of the turn list: the half-edges that arrive by them are linked, and what stands before each other edge is found from the last of them
@@ -90,11 +90,3 @@ module _ (t : Table) (ok : IsTable t) (c : ℕ) (turns : List ℕ) (listed : IsT
           ];
           others = λ h off. get_or-set_other nexts (arriving t c (get_or turns i 0)) h (leaving t c before) 0 (λ same. off (ap (target t) same ∙ target-arriving t c (get_or turns i 0) (at_corner i lt).1)) ∙ linking.others h off;
         }
-
--- one corner more is linked
-pub corners_more : (t : Table) (old nexts : List ℕ) (c : ℕ) → ((h : ℕ) → h < half_edge_count t → target t h < c → IsNext t h (get_or old h 0)) → ((h : ℕ) → h < half_edge_count t → target t h ≡ c → IsNext t h (get_or nexts h 0)) → ((h : ℕ) → target t h ≢ c → get_or nexts h 0 ≡ get_or old h 0)
-    → (h : ℕ) → h < half_edge_count t → target t h < c + 1 → IsNext t h (get_or nexts h 0)
-corners_more t old nexts c done linked others h fits lt = elim (cases_eq (target t h) c) [
-  | inl here ↦ linked h fits here
-  | inr other ↦ (let ne : target t h ≢ c = other in subst (IsNext t h) (sym (others h other)) (done h fits (omega (arith, ne, lt))))
-]

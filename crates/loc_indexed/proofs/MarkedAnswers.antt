@@ -18,7 +18,6 @@ use Rattle.loc_spec_plane.specs.Tables.{IsTable, Table, corner, covers_by_marks,
 use Rattle.loc_spec_text.specs.Points.{answer_text, answer_to, ended, no_point, point_of}
 use Rattle.loc_spec_index.specs.Content.{Content, search_in, table_in}
 use Rattle.loc_spec_index.specs.IndexFile.{names_sources}
-use Rattle.loc_file.proofs.Holding.{most-edges}
 use Rattle.loc_indexed.specs.IndexBytes.{IsIndexFile}
 use Rattle.loc_spec_index.specs.TrueIndex.{IsIndexOf, IsTrueIndex}
 use Rattle.loc_laws_index.proofs.FlawKinds.{as_many, as_many_corners}
@@ -37,6 +36,7 @@ use Rattle.loc_cover.proofs.Covered.{touching_touches}
 use Rattle.loc_cover.proofs.Numbering.{above_rises, under_rises}
 use Rattle.loc_file.specs.Searches.{answer_of}
 use Rattle.loc_laws_index.proofs.FileFacts.{facts}
+use Rattle.loc_laws_index.proofs.AgreeTable.{most-small}
 use Rattle.loc_file.specs.Depths.{most_of}
 use Rattle.loc_file.proofs.TrueSteps.{true-most}
 use Rattle.loc_batch.specs.Answering.{answer_at as answer_by_rows, answer_by, face_at, found_answer, names}
@@ -71,7 +71,7 @@ module _ (c : Content) (bytes : Text) (file : IsIndexFile c bytes) (is_true : Is
   planar = record { in_order = ok; apart = is_true.apart }
 
   few : length c.edges ≤ 2 ^ 21
-  few = let k = (facts c bytes file.1).few_edges in let most = most-edges file.0 in omega (arith, k, most)
+  few = let k = (facts c bytes file.1).few_edges in let most = most-small file.0 in omega (arith, k, most)
 
   -- its rows are of its table, and its lists and floors are true
   fits : FitsTable (table_in c) (rows_in c)

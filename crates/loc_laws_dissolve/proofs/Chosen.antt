@@ -3,7 +3,7 @@
 use Rattle.std.proofs.Common.{◌≡◌, ◌≢◌, ◌⊎◌, ℕ, zero, suc, ◌+◌, ◌-◌, ◌<◌, Bool, true, false, not, ◌&&◌, ◌||◌, List, [], ◌∷◌, map, filter, length, get_or, refl, sym, ◌∙◌, ap, ap₂, subst, inl, inr, arith}
 use Rattle.std.specs.Prelude.{nat_lt, ◌==◌}
 use Rattle.std.specs.List.{list_any, list_all, range_with_len}
-use Rattle.std.proofs.lemmas.Bool.{and_parts, and_from, and_right, cases_Bool, cases_eq, cases_lt, cases_order, cond-true, cond-false, eq-eqb, eqb-true, or_from, ne_eqb, lt-ltb, ltb-true, or_cases, or_left, or_right, not_from_false, true≢false}
+use Rattle.std.proofs.lemmas.Bool.{and_parts, and_from, and_right, cases_Bool, cases_eq, cases_lt, cases_order, cond-true, cond-false, eq-eqb, eqb-true, ne_eqb, lt-ltb, ltb-true, or_cases, or_left, or_right, not_from_false, true≢false}
 use Rattle.std.proofs.lemmas.List.{length-map, get_or-map, get_or_past}
 use Rattle.loc_spec_plane.specs.Lists.{is_in, is_rising, numbers, exactly_one, odd_many}
 use Rattle.loc_spec_plane.specs.Points.{Point, Edge, before, same_point, edge_before, is_end, lies_on, conflict}
@@ -18,21 +18,12 @@ use Rattle.loc_laws_order.proofs.Kept.{all_filter, rising_kept, numbers_rise, is
 use Rattle.loc_laws_order.proofs.Sides.{same_point_refl}
 use Rattle.loc_laws_order.proofs.TableOrder.{rises, corner_before, numbers_within, is_end_is, edge_up, origin_point}
 use Rattle.loc_laws_order.proofs.Unique.{all-at}
-use Rattle.loc_laws_rays.proofs.Covering.{any-found}
+use Rattle.loc_laws_rays.proofs.Covering.{any-found, any-some, any-none}
 use Rattle.loc_laws_rays.proofs.Members.{in_numbers}
 use Rattle.loc_laws_rays.proofs.Parity.{odd_many-same, never}
 use Rattle.loc_laws_order.proofs.Numbered.{number_fits, at_number, number_up, pair_up}
 
 -- ---- lists
--- a number of the list that passes
-any_number : (p : ℕ → Bool) (n : ℕ) (ns : List ℕ) → list_all (λ k. nat_lt k n) ns ≡ true → list_any p ns ≡ true → (k : ℕ) × (k < n) × (p k ≡ true)
-any_number p n [] fits h = absurd (true≢false (sym h))
-any_number p n (k ∷ ns) fits h = let parts = and_parts (nat_lt k n) (list_all (λ k. nat_lt k n) ns) fits in elim (or_cases (p k) (list_any p ns) h) [ inl here ↦ (k, ltb-true k n parts.0, here) | inr later ↦ any_number p n ns parts.1 later ]
-
--- no number of the list passes
-none_number : (p : ℕ → Bool) (n : ℕ) (ns : List ℕ) → list_all (λ k. nat_lt k n) ns ≡ true → ((k : ℕ) → k < n → p k ≡ false) → list_any p ns ≡ false
-none_number p n [] fits each = refl
-none_number p n (k ∷ ns) fits each = let parts = and_parts (nat_lt k n) (list_all (λ k. nat_lt k n) ns) fits in or_from (p k) (list_any p ns) (each k (ltb-true k n parts.0)) (none_number p n ns parts.1 each)
 
 -- a member that is found by its place
 pub member_at : (ns : List ℕ) (k d : ℕ) → k < length ns → is_in (get_or ns k d) ns ≡ true
@@ -244,7 +235,7 @@ module _ (t : Table) (ok : IsTable t) (keep : ℕ → Bool) where
   pub chosen_ended : AllEnds (chosen_table t keep)
   chosen_ended c lt =
       let fits : c < length stay = omega (arith, length-corners) in
-      let found = any_number (λ e. keep e && ends_at t (was c) e) (length t.ends) (edge_numbers t) (numbers_within (length t.ends)) (was_is c fits).1 in
+      let found = any-some (λ e. keep e && ends_at t (was c) e) (length t.ends) (edge_numbers t) (numbers_within (length t.ends)) (was_is c fits).1 in
       let parts = and_parts (keep found.0) (ends_at t (was c) found.0) found.2 in
       let place = place_of (chosen_edges t keep) found.0 0 (is_in-filter keep found.0 (edge_numbers t) ∙ and_from (is_in found.0 (edge_numbers t)) (keep found.0) (in_numbers found.0 (length t.ends) found.1) parts.0) in
       any-found (ends_at (chosen_table t keep) c) (edge_numbers (chosen_table t keep)) place.0 (in_numbers place.0 (length (chosen_table t keep).ends) (omega (arith, place.1, length-chosen)))
@@ -281,7 +272,7 @@ module _ (t : Table) (ok : IsTable t) (keep : ℕ → Bool) where
   pub chosen_covers : (p : Point) → ((e : ℕ) → e < length t.ends → lies_on (edge t e) p ≡ false) → covers_by_marks (chosen_table t keep) 0 p ≡ odd_many (λ e. keep e && crosses_right (edge t e) p) (edge_numbers t)
   chosen_covers p off =
       ap (λ b. not b && odd_many (λ k. has_odd (chosen_table t keep) 0 k && crosses_right (edge (chosen_table t keep) k) p) (edge_numbers (chosen_table t keep)))
-      (none_number (λ k. has (chosen_table t keep) 0 k && lies_on (edge (chosen_table t keep) k) p) (length (chosen_table t keep).ends) (edge_numbers (chosen_table t keep)) (numbers_within (length (chosen_table t keep).ends)) (λ k lk. (let fits : k < length (chosen_edges t keep) = omega (arith, length-chosen) in and_right (has (chosen_table t keep) 0 k) _ (ap (λ e. lies_on e p) (edge_is k fits) ∙ off (old k) (old_is k fits).0))))
+      (any-none (λ k. has (chosen_table t keep) 0 k && lies_on (edge (chosen_table t keep) k) p) (length (chosen_table t keep).ends) (edge_numbers (chosen_table t keep)) (numbers_within (length (chosen_table t keep).ends)) (λ k lk. (let fits : k < length (chosen_edges t keep) = omega (arith, length-chosen) in and_right (has (chosen_table t keep) 0 k) _ (ap (λ e. lies_on e p) (edge_is k fits) ∙ off (old k) (old_is k fits).0))))
       ∙ by_old (λ k. has_odd (chosen_table t keep) 0 k && crosses_right (edge (chosen_table t keep) k) p) (λ e. crosses_right (edge t e) p) (λ k lk. ap₂ (λ a e. a && crosses_right e p) (odd_is k lk) (edge_is k lk))
 
   -- different numbers were different edges

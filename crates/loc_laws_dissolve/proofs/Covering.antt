@@ -1,8 +1,8 @@
 -- The kept edges cover, by the ray to the right, exactly what a member of the group covers.
-use Rattle.std.proofs.Common.{◌≡◌, ℕ, ◌<◌, Bool, true, false, ◌&&◌, List, [], ◌∷◌, length, refl, sym, ◌∙◌, ap, subst, inl, inr}
+use Rattle.std.proofs.Common.{◌≡◌, ℕ, ◌<◌, Bool, true, false, ◌&&◌, [], length, refl, sym, ◌∙◌, ap, subst}
 use Rattle.std.specs.Prelude.{nat_lt, Option, Some, None}
-use Rattle.std.specs.List.{list_any, list_all}
-use Rattle.std.proofs.lemmas.Bool.{and_parts, and_from, and_right, lt-ltb, ltb-true, not-true, not_from_false, false_from_ne_true, both_ways, or_cases, true≢false}
+use Rattle.std.specs.List.{list_any}
+use Rattle.std.proofs.lemmas.Bool.{and_parts, and_from, and_right, lt-ltb, ltb-true, not-true, not_from_false, false_from_ne_true, both_ways}
 use Rattle.loc_spec_plane.specs.Lists.{is_in, numbers, odd_many}
 use Rattle.loc_spec_plane.specs.Points.{Point, same_point, lies_on, is_above}
 use Rattle.loc_spec_plane.specs.Rays.{crosses_right}
@@ -14,18 +14,13 @@ use Rattle.loc_spec_groups.specs.Groups.{covers_upper, is_kept}
 use Rattle.loc_laws_order.proofs.Floors.{floor_of_list}
 use Rattle.loc_laws_order.proofs.TableOrder.{numbers_within, is_end_is, edge_up}
 use Rattle.loc_laws_order.proofs.Sides.{same_point-true, end_lies_on}
-use Rattle.loc_laws_rays.proofs.Covering.{cover_law, from_floor}
+use Rattle.loc_laws_rays.proofs.Covering.{cover_law, from_floor, any-some}
 use Rattle.loc_laws_rays.proofs.Members.{in_cover}
 use Rattle.loc_laws_rays.proofs.Parity.{odd_many-agree}
-use Rattle.loc_laws_dissolve.proofs.Listed.{sorted_list_is}
+use Rattle.loc_laws_rays.proofs.Listed.{sorted_list_is}
 use Rattle.loc_laws_dissolve.proofs.Upward.{any-same, any-never, any-filtered, kept_under}
 use Rattle.loc_laws_dissolve.proofs.Evenness.{kept_even}
 use Rattle.loc_laws_dissolve.proofs.Marked.{marked_by, has_odd_is, marked_is_table, marked_even}
-
--- a number of the list that passes
-any-some : (p : ℕ → Bool) (n : ℕ) (ns : List ℕ) → list_all (λ k. nat_lt k n) ns ≡ true → list_any p ns ≡ true → (k : ℕ) × (k < n) × (p k ≡ true)
-any-some p n [] fits h = absurd (true≢false (sym h))
-any-some p n (k ∷ ns) fits h = let parts = and_parts (nat_lt k n) (list_all (λ k. nat_lt k n) ns) fits in elim (or_cases (p k) (list_any p ns) h) [ inl here ↦ (k, ltb-true k n parts.0, here) | inr later ↦ any-some p n ns parts.1 later ]
 
 -- a point on no edge lies on none of them
 pub off_edge : (t : Table) (p : Point) → IsBorderless t p → (e : ℕ) → e < length t.ends → lies_on (edge t e) p ≡ false

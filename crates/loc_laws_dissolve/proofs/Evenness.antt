@@ -1,8 +1,8 @@
 -- At every corner an even number of kept edges end. Between two corners the odd marks of each feature on all edges are even in number, so above them all no feature covers, nor
 -- does the group; and the kept edges, which count how often its covering changes on the way up, are even in number too. Passing a corner changes that number by those that end there.
-use Rattle.std.proofs.Common.{◌≡◌, ◌≢◌, ℕ, zero, suc, ◌+◌, ◌<◌, ◌≤◌, Bool, true, false, not, ◌&&◌, length, refl, sym, ◌∙◌, ap, ap₂, ◌⊎◌, inl, inr, arith, add-one}
+use Rattle.std.proofs.Common.{◌≡◌, ℕ, zero, suc, ◌+◌, ◌<◌, ◌≤◌, Bool, true, false, not, ◌&&◌, length, refl, sym, ◌∙◌, ap, ap₂, ◌⊎◌, inl, inr, arith, add-one}
 use Rattle.std.specs.Prelude.{nat_lt, ◌==◌}
-use Rattle.std.proofs.lemmas.Bool.{and_from, and_left, and_right, or_left, or_right, or_from, cases_eq, cases_lt, eq-eqb, ne_eqb, le-ltb, lt-ltb, ltb-true, not-true, not_from_true, not_from_false}
+use Rattle.std.proofs.lemmas.Bool.{and_from, and_left, and_right, or_left, or_right, or_from, cases_eq, eq-eqb, ne_eqb, le-ltb, lt-ltb, ltb-true, not-true, not_from_true, not_from_false}
 use Rattle.loc_spec_plane.specs.Lists.{numbers, exactly_one, odd_many}
 use Rattle.loc_spec_plane.specs.Tables.{Table, IsTable, AllEnds, AllEven, NoConflict, corner, edge_numbers, lo_of, hi_of, ends_at, has_odd}
 use Rattle.loc_spec_plane.specs.Places.{alive_at}
@@ -10,22 +10,10 @@ use Rattle.loc_spec_plane.specs.Covers.{feature_count}
 use Rattle.loc_spec_groups.specs.Groups.{is_kept}
 use Rattle.loc_laws_order.proofs.AliveAt.{alive_past, alive_at_corner}
 use Rattle.loc_laws_order.proofs.TableOrder.{numbers_within}
-use Rattle.loc_laws_rays.proofs.Parity.{exactly_one_same, same-from_exactly_one, odd_many-agree, odd_many-same, odd_many-exactly_one, never}
-use Rattle.loc_laws_dissolve.proofs.Listed.{sorted_list_is}
+use Rattle.loc_laws_rays.proofs.Parity.{exactly_one_same, same-from_exactly_one, odd_many-agree, odd_many-same, odd_many-exactly_one, never, both_and}
+use Rattle.loc_laws_rays.proofs.Listed.{sorted_list_is}
+use Rattle.loc_laws_rays.proofs.Along.{next_same}
 use Rattle.loc_laws_dissolve.proofs.Upward.{any-same, any-never, kept_at, marked_at}
-
-both_and : (a b c : Bool) → exactly_one (a && c) (b && c) ≡ (exactly_one a b && c)
-both_and true true true = refl
-both_and true true false = refl
-both_and true false true = refl
-both_and true false false = refl
-both_and false b c = refl
-
-same_next : (m n : ℕ) → (m ≡ n → ⊥) → nat_lt m (n + 1) ≡ nat_lt m n
-same_next m n other = elim (cases_lt m n) [
-  | inl lt ↦ lt-ltb m (n + 1) (omega arith) ∙ sym (lt-ltb m n lt)
-  | inr ge ↦ (let ne : m ≢ n = other in le-ltb m (n + 1) (omega arith)) ∙ sym (le-ltb m n ge)
-]
 
 module _ (t : Table) (ok : IsTable t) where
   -- passing corner n, the edges with this end come or go
@@ -48,7 +36,7 @@ module _ (t : Table) (ok : IsTable t) where
           (and_right (nat_lt (lo_of t d) (n + 1)) (not (nat_lt (hi_of t d) (n + 1))) (not_from_true (nat_lt (hi_of t d) (n + 1)) (lt-ltb (hi_of t d) (n + 1) (omega arith))))
           (or_right (lo_of t d == n) (hi_of t d == n) (eq-eqb (hi_of t d) n finish)) refl
       at (inr not_begin) (inr not_finish) =
-          ap (exactly_one (alive_past t n d)) (ap₂ (λ a b. a && not b) (same_next (lo_of t d) n not_begin) (same_next (hi_of t d) n not_finish))
+          ap (exactly_one (alive_past t n d)) (ap₂ (λ a b. a && not b) (next_same (lo_of t d) n not_begin) (next_same (hi_of t d) n not_finish))
           ∙ (exactly_one_same (alive_past t n d) ∙ sym (or_from (lo_of t d == n) (hi_of t d == n) (ne_eqb (lo_of t d) n not_begin) (ne_eqb (hi_of t d) n not_finish)))
 
   -- the parity of a test on the edges between two corners
@@ -62,7 +50,7 @@ module _ (t : Table) (ok : IsTable t) where
   past_more test n =
       sym (odd_many-exactly_one (λ d. alive_past t n d && test d) (λ d. alive_past t (n + 1) d && test d) (edge_numbers t))
       ∙ odd_many-agree (λ d. nat_lt d (length t.ends)) (λ d. exactly_one (alive_past t n d && test d) (alive_past t (n + 1) d && test d)) (λ d. ends_at t n d && test d) (edge_numbers t) (numbers_within (length t.ends))
-      (λ d is_d. both_and (alive_past t n d) (alive_past t (n + 1) d) (test d) ∙ ap (λ b. b && test d) (passing n d (ltb-true d (length t.ends) is_d)))
+      (λ d is_d. sym (both_and (alive_past t n d) (alive_past t (n + 1) d) (test d)) ∙ ap (λ b. b && test d) (passing n d (ltb-true d (length t.ends) is_d)))
 
   -- between two corners the odd marks of a feature are even in number
   marks_past : AllEven t → (f n : ℕ) → n ≤ length t.corners → past (has_odd t f) n ≡ false

@@ -13,10 +13,11 @@ use Rattle.loc_spec_plane.specs.Covers.{cover_above, feature_count, is_over, is_
 use Rattle.loc_spec_groups.specs.Groups.{covers_upper, covers_lower, is_kept}
 use Rattle.loc_laws_order.proofs.AliveAt.{alive_between, alive_from}
 use Rattle.loc_laws_order.proofs.Sides.{lower-asym}
+use Rattle.loc_laws_order.proofs.Booleans.{and_none, and_true}
 use Rattle.loc_laws_rays.proofs.Along.{parity_along}
 use Rattle.loc_laws_rays.proofs.Members.{in_cover}
 use Rattle.loc_laws_rays.proofs.Parity.{exactly_one_comm, exactly_one_same, exactly_one-false, exactly_one_assoc, exactly_one_chain, odd_many-same, odd_many-append}
-use Rattle.loc_laws_dissolve.proofs.Listed.{sorted_list_is}
+use Rattle.loc_laws_rays.proofs.Listed.{sorted_list_is}
 use Rattle.loc_laws_dissolve.proofs.Prefixes.{by_members, front_rises, up_to_member, cut_at_member}
 
 -- tests that agree on every member
@@ -33,17 +34,9 @@ any-never (x ∷ xs) = any-never xs
 pub any-filtered : {X : Type 0} (p q : X → Bool) (xs : List X) → list_any p (filter q xs) ≡ list_any (λ x. p x && q x) xs
 any-filtered p q [] = refl
 any-filtered p q (x ∷ xs) = elim (cases_Bool (q x)) [
-  | inl keep ↦ ap (list_any p) (cond-true (q x) (x ∷ filter q xs) (filter q xs) keep) ∙ (ap (λ b. p x || b) (any-filtered p q xs) ∙ ap (λ b. b || list_any (λ x. p x && q x) xs) (sym (ap (λ b. p x && b) keep ∙ and_yes (p x))))
-  | inr leave ↦ ap (list_any p) (cond-false (q x) (x ∷ filter q xs) (filter q xs) leave) ∙ (any-filtered p q xs ∙ ap (λ b. b || list_any (λ x. p x && q x) xs) (sym (ap (λ b. p x && b) leave ∙ and_no (p x))))
+  | inl keep ↦ ap (list_any p) (cond-true (q x) (x ∷ filter q xs) (filter q xs) keep) ∙ (ap (λ b. p x || b) (any-filtered p q xs) ∙ ap (λ b. b || list_any (λ x. p x && q x) xs) (sym (ap (λ b. p x && b) keep ∙ and_true (p x))))
+  | inr leave ↦ ap (list_any p) (cond-false (q x) (x ∷ filter q xs) (filter q xs) leave) ∙ (any-filtered p q xs ∙ ap (λ b. b || list_any (λ x. p x && q x) xs) (sym (ap (λ b. p x && b) leave ∙ and_none (p x))))
 ]
-  where
-    and_yes : (b : Bool) → (b && true) ≡ b
-    and_yes true = refl
-    and_yes false = refl
-
-    and_no : (b : Bool) → (b && false) ≡ false
-    and_no true = refl
-    and_no false = refl
 
 -- a test that each member passes
 pub all_members : (test : ℕ → Bool) (ns : List ℕ) → ((k : ℕ) → is_in k ns ≡ true → test k ≡ true) → list_all test ns ≡ true
@@ -51,7 +44,7 @@ all_members test [] each = refl
 all_members test (n ∷ ns) each = and_from (test n) (list_all test ns) (each n (or_left (n == n) (is_in n ns) (eq-eqb n n refl))) (all_members test ns (λ k here. each k (or_right (n == k) (is_in k ns) here)))
 
 -- twice the same on the right goes
-twice_gone : (a b : Bool) → exactly_one (exactly_one a b) b ≡ a
+pub twice_gone : (a b : Bool) → exactly_one (exactly_one a b) b ≡ a
 twice_gone a b = exactly_one_assoc a b b ∙ (ap (exactly_one a) (exactly_one_same b) ∙ exactly_one-false a)
 
 module _ (t : Table) (ok : IsTable t) (ended : AllEnds t) (even : AllEven t) (apart : NoConflict t) (member : ℕ → Bool) where

@@ -13,6 +13,7 @@ use Rattle.loc_laws_order.proofs.TableOrder.{numbers_within}
 use Rattle.loc_laws_order.proofs.Unique.{all-at}
 use Rattle.loc_laws_rays.proofs.Covering.{any-found}
 use Rattle.loc_laws_rays.proofs.Members.{in_numbers}
+use Rattle.loc_laws_rays.proofs.Picked.{member_any}
 use Rattle.loc_half.specs.HalfEdgeLists.{HalfEdgeLists, AreHalfEdges, next_in}
 use Rattle.loc_half.proofs.Halves.{either_way, origin-down, target-down}
 use Rattle.loc_half.proofs.Orbits.{cycle_within, in_cycle, leaves_there, next_within, placed, same_cycle}
@@ -21,7 +22,7 @@ use Rattle.loc_laws_dissolve.proofs.Chosen.{length-chosen, odd_is}
 use Rattle.loc_laws_dissolve.proofs.Grouped.{table_law, group_upper_law}
 use Rattle.loc_laws_dissolve.proofs.Left.{left_up, left_back}
 use Rattle.loc_laws_faces.specs.Laws.{GroupFaces, OneHalfEach}
-use Rattle.loc_laws_faces.proofs.OnCycles.{some_member, low_met, low_next, same_hangs}
+use Rattle.loc_laws_faces.proofs.OnCycles.{low_met, low_next, same_hangs}
 use Rattle.loc_laws_faces.proofs.Faces.{one_on_face, by_face}
 
 -- exactly one of a test and its contrary
@@ -76,14 +77,14 @@ module _ (t : Table) (ok : IsTable t) (ended : AllEnds t) (even : AllEven t) (ap
 
   to : is_polygon t member (next_in half) face (face h) ≡ true → left_covered (group_table t member) 0 h ≡ true
   to some =
-      let found = some_member shown (numbers (length (kept_edges t member))) some in
+      let found = member_any shown (numbers (length (kept_edges t member))) some in
       let parts = and_parts (face (2 * found.0) == face h) (covers_upper t member (get_or (kept_edges t member) found.0 0)) found.2 in
       let lk : found.0 < length (kept_edges t member) = ltb-true found.0 (length (kept_edges t member)) (all-at (λ n. nat_lt n (length (kept_edges t member))) (numbers (length (kept_edges t member))) found.0 (numbers_within (length (kept_edges t member))) found.1) in
       sym (one_on_face (group_table t member) stands.0 stands.1 stands.2 stands.3 half are face faces 0 (2 * found.0) h (omega (arith, count_is, lk)) lt (eqb-true (face (2 * found.0)) (face h) parts.0)) ∙ (upper_is found.0 lk ∙ parts.1)
 
   from : left_covered (group_table t member) 0 h ≡ true → is_polygon t member (next_in half) face (face h) ≡ true
   from covered =
-      let outer = some_member (λ l. (leads_face (group_table t member) (next_in half) l && (face l == face h)) && left_covered (group_table t member) 0 l) (numbers (half_edge_count (group_table t member))) (sym (by_face (group_table t member) stands.0 stands.1 stands.2 stands.3 half are 0 face faces h lt) ∙ covered) in
+      let outer = member_any (λ l. (leads_face (group_table t member) (next_in half) l && (face l == face h)) && left_covered (group_table t member) 0 l) (numbers (half_edge_count (group_table t member))) (sym (by_face (group_table t member) stands.0 stands.1 stands.2 stands.3 half are 0 face faces h lt) ∙ covered) in
       let parts = and_parts (leads_face (group_table t member) (next_in half) outer.0 && (face outer.0 == face h)) (left_covered (group_table t member) 0 outer.0) outer.2 in
       let inner = and_parts (leads_face (group_table t member) (next_in half) outer.0) (face outer.0 == face h) parts.0 in
       let off : hangs (group_table t member) (next_in half) outer.0 ≡ false = not-true (hangs (group_table t member) (next_in half) outer.0) (and_parts (leader (group_table t member) (next_in half) outer.0 == outer.0) (not (hangs (group_table t member) (next_in half) outer.0)) inner.0).1 in

@@ -16,6 +16,7 @@ use Rattle.loc_spec_groups.specs.Groups.{closed_ring, closed_rings, face_rings, 
 use Rattle.loc_laws_order.proofs.Booleans.{same-from_both}
 use Rattle.loc_laws_order.proofs.Sides.{before-differ, before-asym_test, same_point_sym}
 use Rattle.loc_laws_order.proofs.TableOrder.{corner_before, numbers_within}
+use Rattle.loc_laws_order.proofs.HalfEdges.{edge-up, edge-down}
 use Rattle.loc_half.specs.HalfEdgeLists.{HalfEdgeLists, AreHalfEdges, next_in}
 use Rattle.loc_half.specs.Rounds.{after}
 use Rattle.loc_half.proofs.Going.{after-next}
@@ -26,7 +27,6 @@ use Rattle.loc_laws_dissolve.specs.Laws.{left_covered}
 use Rattle.loc_laws_dissolve.proofs.Chosen.{edge_is, length-chosen, odd_many-filter}
 use Rattle.loc_laws_dissolve.proofs.Covering.{kept_cover, off_edge}
 use Rattle.loc_laws_dissolve.proofs.Grouped.{table_law}
-use Rattle.loc_laws_dissolve.proofs.Left.{edge_of-up, edge_of-back}
 use Rattle.loc_laws_dissolve.proofs.Upward.{all_members}
 use Rattle.loc_laws_faces.specs.Laws.{SegmentsOnce, RingsCover}
 use Rattle.loc_laws_faces.proofs.Faces.{face_leader, face_numbered, numbers_more}
@@ -154,7 +154,7 @@ by_edges pass m (suc n) one =
     ap (λ k. total (λ h. cond (pass h) (m (edge_of h)) 0) (numbers k)) twice
     ∙ (push (λ h. cond (pass h) (m (edge_of h)) 0) (2 * n + 1)
     ∙ (ap (λ a. a + cond (pass (2 * n + 1)) (m (edge_of (2 * n + 1))) 0) (push (λ h. cond (pass h) (m (edge_of h)) 0) (2 * n) ∙ ap (λ a. a + cond (pass (2 * n)) (m (edge_of (2 * n))) 0) rest)
-    ∙ (ap₂ (λ a b. (total m (numbers n) + cond (pass (2 * n)) (m a) 0) + cond (pass (2 * n + 1)) (m b) 0) (edge_of-up n) (edge_of-back n)
+    ∙ (ap₂ (λ a b. (total m (numbers n) + cond (pass (2 * n)) (m a) 0) + cond (pass (2 * n + 1)) (m b) 0) (edge-up n) (edge-down n)
     ∙ (either (pass (2 * n)) (pass (2 * n + 1)) (total m (numbers n)) (m n) (one n (omega arith))
     ∙ (sym (push m n) ∙ ap (λ k. total m (numbers k)) (add-one n))))))
   where

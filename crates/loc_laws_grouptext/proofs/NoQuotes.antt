@@ -40,7 +40,7 @@ fraction_bare zero n = refl
 fraction_bare (suc k) n = padded_bare (suc k) n
 
 -- a grid value is small
-small_abs : (v : ℤ) → OnGrid v → unsigned_abs v ≤ 1000000000000000000
+pub small_abs : (v : ℤ) → OnGrid v → unsigned_abs v ≤ 1000000000000000000
 small_abs (pos n) on = omega (arith, ints, on.1)
 small_abs (negsuc n) on = omega (arith, ints, on.0)
 

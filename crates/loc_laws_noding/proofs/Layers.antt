@@ -1,12 +1,12 @@
 -- The segments of a layer go up between its corners, and what the pieces of a feature's segments have, the segments have.
-use Rattle.std.proofs.Common.{◌≡◌, ℕ, zero, suc, Bool, true, false, not, ◌&&◌, ◌||◌, List, [], ◌∷◌, get_or, refl, sym, ◌∙◌, ap, inl, inr}
+use Rattle.std.proofs.Common.{◌≡◌, ℕ, zero, suc, Bool, true, false, ◌||◌, List, [], ◌∷◌, get_or, refl, sym, ◌∙◌, ap, inl, inr}
 use Rattle.std.specs.List.{list_any, list_all, flat_map}
 use Rattle.std.proofs.lemmas.Bool.{and_parts, and_from, or_left, or_right, cases_Bool, cond-true, cond-false}
 use Rattle.std.proofs.lemmas.List.Folds.{list_any-append, list_all-append}
 use Rattle.loc_spec_plane.specs.Points.{Point, Edge, before, same_point, lies_on}
 use Rattle.loc_spec_plane.specs.Lists.{exactly_one, odd_many, is_rising}
 use Rattle.loc_spec_plane.specs.Rays.{crosses_right}
-use Rattle.loc_spec_plane.specs.Rings.{Ring, Rings, ring_segments, segments, segment_between, touches, covers}
+use Rattle.loc_spec_plane.specs.Rings.{Ring, Rings, ring_segments, segments, segment_between, touches}
 use Rattle.loc_spec_plane.specs.Tables.{layer_segments, layer_corners, cut_at}
 use Rattle.loc_laws_order.proofs.Booleans.{or_assoc}
 use Rattle.loc_laws_order.proofs.Sides.{before_either, same_point_refl}
@@ -18,7 +18,7 @@ use Rattle.loc_laws_noding.proofs.Orders.{points_by_before}
 use Rattle.loc_laws_noding.proofs.SortedSet.{any-sorted_set, rising-sorted_set}
 
 -- ---- segments go up
-between_up : (a b : Point) → same_point a b ≡ false → goes_up (segment_between a b) ≡ true
+pub between_up : (a b : Point) → same_point a b ≡ false → goes_up (segment_between a b) ≡ true
 between_up a b other = elim (cases_Bool (before a b)) [
   | inl up ↦ ap goes_up (cond-true (before a b) _ _ up) ∙ up
   | inr down ↦ ap goes_up (cond-false (before a b) _ _ down) ∙ before_either a b other down
@@ -107,6 +107,3 @@ module _ (corners : List Point) (cut : Edge → List Edge) (cuts : IsCutting cor
 
   pub crosses_pieces : odd_many (λ s. crosses_right s p) (segments rings) ≡ odd_many (λ e. crosses_right e p) (flat_map cut (segments rings))
   crosses_pieces = sym (odd_pieces (is_good corners) cut (λ e. crosses_right e p) (λ s. crosses_right s p) (λ s good. (cuts s good).crossed p) (segments rings) all)
-
-  pub covers_pieces : covers rings p ≡ (not (list_any (λ e. lies_on e p) (flat_map cut (segments rings))) && odd_many (λ e. crosses_right e p) (flat_map cut (segments rings)))
-  covers_pieces = ap (λ t. not t && odd_many (λ s. crosses_right s p) (segments rings)) touches_pieces ∙ ap (λ t. not (list_any (λ e. lies_on e p) (flat_map cut (segments rings))) && t) crosses_pieces

@@ -1,5 +1,5 @@
 -- Lists that rise: what a filter keeps of them, and ranges.
-use Rattle.std.proofs.Common.{◌≡◌, ℕ, zero, suc, ◌+◌, ◌<◌, ◌≤◌, Bool, true, false, not, ◌&&◌, ◌||◌, List, [], ◌∷◌, filter, refl, sym, ◌∙◌, ap, ap₂, subst, ◌⊎◌, inl, inr, arith}
+use Rattle.std.proofs.Common.{◌≡◌, ℕ, zero, suc, ◌+◌, ◌<◌, ◌≤◌, Bool, true, false, not, ◌&&◌, ◌||◌, List, [], ◌∷◌, filter, refl, sym, ◌∙◌, ap, ap₂, subst, ◌⊎◌, inl, inr, arith, ◌++◌, add-one}
 use Rattle.std.specs.Prelude.{nat_lt, ◌==◌}
 use Rattle.std.specs.List.{list_all, range_with_len}
 use Rattle.std.proofs.lemmas.Bool.{and_parts, and_from, and_right, or_left, cases_Bool, cases_eq, cases_lt, cond-true, cond-false, eq-eqb, ne_eqb, le-ltb, lt-ltb, not_from_false}
@@ -31,6 +31,18 @@ module _ {X : Type 0} (keeps : X → Bool) where
 pub all_range : (p : ℕ → Bool) (a n : ℕ) → ((k : ℕ) → a ≤ k → k < a + n → p k ≡ true) → list_all p (range_with_len a n) ≡ true
 all_range p a zero each = refl
 all_range p a (suc n) each = and_from (p a) (list_all p (range_with_len (a + 1) n)) (each a (omega arith) (omega arith)) (all_range p (a + 1) n (λ k from lt. each k (omega (arith, from)) (omega (arith, lt))))
+
+-- a range with one more number
+pub range_more : (a n : ℕ) → range_with_len a (n + 1) ≡ range_with_len a n ++ (a + n) ∷ []
+range_more a n = ap (range_with_len a) (add-one n) ∙ next a n
+  where
+    next : (a n : ℕ) → range_with_len a (suc n) ≡ range_with_len a n ++ (a + n) ∷ []
+    next a zero = let same : a ≡ a + 0 = omega arith in ap (λ k. k ∷ []) same
+    next a (suc n) = let same : (a + 1) + n ≡ a + suc n = omega arith in ap (λ ns. a ∷ ns) (next (a + 1) n ∙ ap (λ k. range_with_len (a + 1) n ++ k ∷ []) same)
+
+-- the numbers below one more
+pub numbers_more : (n : ℕ) → numbers (n + 1) ≡ numbers n ++ n ∷ []
+numbers_more n = range_more 0 n ∙ ap (λ k. numbers n ++ k ∷ []) (let same : 0 + n ≡ n = omega arith in same)
 
 -- a range rises
 pub range_rises : (a n : ℕ) → is_rising nat_lt (range_with_len a n) ≡ true

@@ -23,7 +23,7 @@ use Rattle.loc_csvform.specs.declared.faults.LayerFault.TheVariants.{BadText, Lo
 use Rattle.loc_csvform.specs.Layer.{column, csv_row, csv_rows, features_from, field, is_row_line, layer_of, LayerRead, line_row, Row, row_id, row_of, RowRead, rows_of, rows_under, text_reading, with_feature, with_row}
 use Rattle.loc_csvform.proofs.Marks.{within}
 use Rattle.loc_laws_regroup.specs.Laws.{IsId}
-use Rattle.loc_laws_regroup.proofs.Grids.{decimal_are}
+use Rattle.loc_spec_text.proofs.DigitLaws.{decimal_digits}
 use Rattle.loc_laws_regroup.proofs.Lists.{all_append, all_kept, all_map}
 use Rattle.loc_laws_regroup.proofs.Readings.{IsReadRing, reading_good}
 
@@ -66,7 +66,7 @@ digits_ascii (c ∷ ds) digits (suc i) = digits_ascii ds (and_parts (is_ascii_di
 decimal_id : (n : ℕ) → n < 2 ^ 64 → IsId (decimal n)
 decimal_id n small =
     let short = length-decimal-le 20 n (omega arith) (omega arith) small in
-    record { utf8 = is_utf8-from_IsUtf8 (decimal n) (IsUtf8-from_ascii (decimal n) (digits_ascii (decimal n) (decimal_are n small))); short = omega (arith, short) }
+    record { utf8 = is_utf8-from_IsUtf8 (decimal n) (IsUtf8-from_ascii (decimal n) (digits_ascii (decimal n) (decimal_digits n small))); short = omega (arith, short) }
 
 few_lines : (text : Text) → length (lines text) ≤ length text
 few_lines [] = omega arith

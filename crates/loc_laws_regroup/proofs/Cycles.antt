@@ -1,5 +1,5 @@
 -- No cycle has one half-edge or two: its half-edges leave different corners, and both half-edges of one edge are not on one cycle, since exactly one of them has its left covered.
-use Rattle.std.proofs.Common.{◌≡◌, ℕ, zero, suc, ◌+◌, ◌*◌, ◌<◌, ◌≤◌, Bool, true, false, length, refl, sym, ◌∙◌, ap, ap₂, inl, inr, arith}
+use Rattle.std.proofs.Common.{◌≡◌, ℕ, zero, suc, ◌+◌, ◌*◌, ◌<◌, ◌≤◌, true, length, refl, sym, ◌∙◌, ap, ap₂, inl, inr, arith}
 use Rattle.std.proofs.lemmas.Bool.{cases_eq, true≢false}
 use Rattle.loc_spec_plane.specs.Lists.{exactly_one}
 use Rattle.loc_spec_plane.specs.Points.{same_edge}
@@ -7,17 +7,13 @@ use Rattle.loc_spec_plane.specs.Tables.{Table, IsTable, AllEnds, AllEven, NoConf
 use Rattle.loc_spec_plane.specs.HalfEdges.{cycle, edge_of, half_edge_count, origin, target}
 use Rattle.loc_laws_order.proofs.Sides.{same_point_refl}
 use Rattle.loc_laws_order.proofs.TableOrder.{different}
+use Rattle.loc_laws_rays.proofs.Parity.{exactly_one_same}
 use Rattle.loc_half.specs.HalfEdgeLists.{HalfEdgeLists, AreHalfEdges, next_in}
 use Rattle.loc_half.proofs.Halves.{either_way, edge-fits, origin-down, origin-up, target-down, target-up}
 use Rattle.loc_half.proofs.Orbits.{cycle_is, leaves_there, next_within, placed}
 use Rattle.loc_half.proofs.Trails.{IsOrbit, trail}
 use Rattle.loc_laws_dissolve.specs.Laws.{left_covered}
 use Rattle.loc_laws_dissolve.proofs.Left.{same_behind}
-
--- a test and itself are not exactly one
-twice : (b : Bool) → exactly_one b b ≡ false
-twice true = refl
-twice false = refl
 
 trail_length : (next : ℕ → ℕ) (s h : ℕ) → length (trail next s h) ≡ s
 trail_length next zero h = refl
@@ -45,7 +41,7 @@ module _ (t : Table) (ok : IsTable t) (ended : AllEnds t) (even : AllEven t) (ap
     (opposite : (k : ℕ) → k < length t.ends → exactly_one (left_covered t 0 (2 * k)) (left_covered t 0 (2 * k + 1)) ≡ true) where
   -- both half-edges of an edge do not have the same covered to their left
   unlike : (k : ℕ) → k < length t.ends → left_covered t 0 (2 * k) ≡ left_covered t 0 (2 * k + 1) → ⊥
-  unlike k lk same = true≢false (sym (opposite k lk) ∙ (ap (exactly_one (left_covered t 0 (2 * k))) (sym same) ∙ twice (left_covered t 0 (2 * k))))
+  unlike k lk same = true≢false (sym (opposite k lk) ∙ (ap (exactly_one (left_covered t 0 (2 * k))) (sym same) ∙ exactly_one_same (left_covered t 0 (2 * k))))
 
   -- the next has the same to its left
   same_left : (h : ℕ) → h < half_edge_count t → left_covered t 0 h ≡ left_covered t 0 (next_in half h)

@@ -1,5 +1,5 @@
 -- A printed grid value as a number text: its sign, the digits before the point and exactly as many behind it as the scale says.
-use Rattle.std.proofs.Common.{◌≡◌, ℕ, zero, suc, ◌+◌, ◌*◌, ◌/◌, ◌%◌, ◌^◌, ◌<◌, ◌≤◌, ◌||◌, ◌&&◌, Bool, true, false, not, [], ◌∷◌, ◌++◌, length, append_assoc, append-nil, length-append, mul_assoc, pow-suc, ℤ, pos, negsuc, neg_ℤ, refl, sym, ◌∙◌, ap, ap₂, arith, nat_le}
+use Rattle.std.proofs.Common.{◌≡◌, ℕ, zero, suc, ◌+◌, ◌*◌, ◌/◌, ◌%◌, ◌^◌, ◌<◌, ◌≤◌, ◌||◌, ◌&&◌, Bool, true, false, not, ◌∷◌, ◌++◌, length, append_assoc, append-nil, length-append, mul_assoc, pow-suc, ℤ, pos, negsuc, neg_ℤ, refl, sym, ◌∙◌, ap, ap₂, arith, nat_le, []}
 use Rattle.std.specs.Prelude.{◌==◌, codes, if◌then◌else◌, unsigned_abs, int_lt}
 use Rattle.std.specs.Char.{digit_value, is_ascii_digit}
 use Rattle.std.specs.Fmt.{decimal}
@@ -8,19 +8,18 @@ use Rattle.std.specs.Str.Parse.{digits_value, digits_value_after}
 use Rattle.std.proofs.Math.Nat.{div-le_self}
 use Rattle.std.proofs.lemmas.Bool.{and_parts, ne_eqb, le-leb, le-ltb, or_from}
 use Rattle.std.proofs.lemmas.Fmt.{decimal_is_IsNumeral}
-use Rattle.std.proofs.lemmas.Int.{ints}
 use Rattle.std.proofs.lemmas.List.Folds.{list_all-append, list_any-append}
 use Rattle.std.proofs.lemmas.Nat.{div-add-mod', mod_below}
-use Rattle.std.proofs.lemmas.Str.Parse.{numerals_by_value}
 use Rattle.loc_spec_plane.specs.Points.{OnGrid}
 use Rattle.loc_spec_text.specs.Bytes.{Text}
-use Rattle.loc_spec_text.specs.Number.{are_digits, exponent, fraction_digits, has_exponent, is_exponent_mark, is_negative, is_number, is_point, is_sign, lowered, magnitude, raised, significand, unsigned, whole_digits}
+use Rattle.loc_spec_text.specs.Number.{are_digits, exponent, fraction_digits, has_exponent, is_exponent_mark, is_negative, is_number, is_point, lowered, magnitude, raised, significand, unsigned, whole_digits}
 use Rattle.loc_spec_text.specs.Points.{fraction_text, grid_text, padded_digits}
-use Rattle.loc_spec_text.proofs.DigitLaws.{ascii_digits, digit_range, range_digit}
+use Rattle.loc_spec_text.proofs.DigitLaws.{range_digit, decimal_digits, no_mark, no_point, no_sign, not_byte}
 use Rattle.loc_spec_text.proofs.NumberLaws.{on_grid, ten_pos}
+use Rattle.loc_spec_text.proofs.CutLaws.{cut, none_of, uncut}
+use Rattle.loc_laws_grouptext.proofs.NoQuotes.{small_abs}
 use Rattle.loc_wkt.proofs.NumberLemmas.{digit_number}
 use Rattle.loc_laws_regroup.specs.Laws.{GridTextReads, IsTextOf}
-use Rattle.loc_laws_regroup.proofs.Cuts.{cut, digits_none, uncut}
 
 -- ---- digits
 digit_is : (k : ℕ) → k < 10 → is_ascii_digit (48 + k) ≡ true
@@ -53,21 +52,6 @@ padded_value (suc k) w n less =
     ∙ ap₂ (λ a b. a * 10 + b) front digit
     ∙ rw power (omega (arith, shift, whole))
 
-pub decimal_are : (n : ℕ) → n < 2 ^ 64 → list_all is_ascii_digit (decimal n) ≡ true
-decimal_are n small = (numerals_by_value (λ ds. list_all is_ascii_digit ds ≡ true) ascii_digits).from (decimal n) (decimal_is_IsNumeral n small).0.1
-
-not_byte : (c k : ℕ) → is_ascii_digit c ≡ true → (48 ≤ k → k ≤ 57 → ⊥) → (c == k) ≡ false
-not_byte c k digit other = let range = digit_range c digit in ne_eqb c k (λ same. other (omega (arith, range.0, same)) (omega (arith, range.1, same)))
-
-no_point : (c : ℕ) → is_ascii_digit c ≡ true → is_point c ≡ false
-no_point c digit = not_byte c 46 digit (λ low high. omega (arith, low))
-
-no_mark : (c : ℕ) → is_ascii_digit c ≡ true → is_exponent_mark c ≡ false
-no_mark c digit = or_from (c == 101) (c == 69) (not_byte c 101 digit (λ low high. omega (arith, high))) (not_byte c 69 digit (λ low high. omega (arith, high)))
-
-no_sign : (c : ℕ) → is_ascii_digit c ≡ true → is_sign c ≡ false
-no_sign c digit = or_from (c == 43) (c == 45) (not_byte c 43 digit (λ low high. omega (arith, low))) (not_byte c 45 digit (λ low high. omega (arith, low)))
-
 -- ---- the parts of the text
 abbrev pub sign_text : Bool → Text
 sign_text negative = if negative then codes "-" else []
@@ -87,22 +71,22 @@ pub record AreParts (negative : Bool) (ds : Text) (scale n : ℕ) : Type 0 where
 unsigned_is : (negative : Bool) (c : ℕ) (ds : Text) (scale n : ℕ) → is_ascii_digit c ≡ true
     → (unsigned (text_by negative (c ∷ ds) scale n) ≡ (c ∷ ds) ++ fraction_text scale n) × (is_negative (text_by negative (c ∷ ds) scale n) ≡ negative)
 unsigned_is true c ds scale n digit = (refl, refl)
-unsigned_is false c ds scale n digit = let bare = no_sign c digit in (rw bare refl, not_byte c 45 digit (λ low high. omega (arith, low)))
+unsigned_is false c ds scale n digit = let bare = no_sign c digit in (rw bare refl, not_byte c 45 digit (λ r. omega (arith, r.0)))
 
 unmarked : (ds : Text) (scale n : ℕ) → list_all is_ascii_digit ds ≡ true → list_any is_exponent_mark (ds ++ fraction_text scale n) ≡ false
-unmarked ds scale n digits = list_any-append is_exponent_mark ds (fraction_text scale n) ∙ or_from (list_any is_exponent_mark ds) (list_any is_exponent_mark (fraction_text scale n)) (digits_none is_exponent_mark no_mark ds digits) (behind scale)
+unmarked ds scale n digits = list_any-append is_exponent_mark ds (fraction_text scale n) ∙ or_from (list_any is_exponent_mark ds) (list_any is_exponent_mark (fraction_text scale n)) (none_of is_exponent_mark is_ascii_digit no_mark ds digits) (behind scale)
   where
     behind : (scale : ℕ) → list_any is_exponent_mark (fraction_text scale n) ≡ false
     behind zero = refl
-    behind (suc k) = digits_none is_exponent_mark no_mark (padded_digits (suc k) n) (padded_are (suc k) n)
+    behind (suc k) = none_of is_exponent_mark is_ascii_digit no_mark (padded_digits (suc k) n) (padded_are (suc k) n)
 
 pointed : (ds : Text) (scale n : ℕ) → list_all is_ascii_digit ds ≡ true
     → (before_first is_point (ds ++ fraction_text scale n) ≡ ds) × (after_first is_point (ds ++ fraction_text scale n) ≡ padded_digits scale n)
 pointed ds zero n digits =
-    let all = uncut is_point ds (digits_none is_point no_point ds digits) in
+    let all = uncut is_point ds (none_of is_point is_ascii_digit no_point ds digits) in
     let end = append-nil ds in
     (ap (before_first is_point) end ∙ all.0, ap (after_first is_point) end ∙ all.1)
-pointed ds (suc k) n digits = cut is_point ds 46 (padded_digits (suc k) n) (digits_none is_point no_point ds digits) refl
+pointed ds (suc k) n digits = cut is_point ds 46 (padded_digits (suc k) n) (none_of is_point is_ascii_digit no_point ds digits) refl
 
 pub parts_of : (negative : Bool) (ds : Text) (scale n : ℕ) → 0 < length ds → list_all is_ascii_digit ds ≡ true → AreParts negative ds scale n
 parts_of negative [] scale n some digits = absurd (omega (arith, some))
@@ -134,7 +118,7 @@ value_is : (negative : Bool) (scale w n : ℕ) → w < 2 ^ 64 → n < 10 ^ scale
     → IsTextOf scale (if negative then neg_ℤ (pos (w * 10 ^ scale + n)) else pos (w * 10 ^ scale + n)) (text_by negative (decimal w) scale n)
 value_is negative scale w n small less few =
     let numeral = decimal_is_IsNumeral w small in
-    let digits = decimal_are w small in
+    let digits = decimal_digits w small in
     let parts = parts_of negative (decimal w) scale n numeral.0.0 digits in
     let text : Text = text_by negative (decimal w) scale n in
     let m : ℕ = w * 10 ^ scale + n in
@@ -156,9 +140,6 @@ value_is negative scale w n small less few =
     }
 
 -- ---- a grid value
-small_abs : (v : ℤ) → OnGrid v → unsigned_abs v ≤ 1000000000000000000
-small_abs (pos n) on = omega (arith, ints, on.1)
-small_abs (negsuc n) on = omega (arith, ints, on.0)
 
 signed_is : (v : ℤ) → (if int_lt v (pos 0) then neg_ℤ (pos (unsigned_abs v)) else pos (unsigned_abs v)) ≡ v
 signed_is (pos n) = rw (le-ltb n 0 (omega arith)) refl

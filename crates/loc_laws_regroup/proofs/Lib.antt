@@ -1,5 +1,4 @@
 mod Accepted
-mod Cuts
 mod Cycles
 pub mod Dissolved
 mod Examples

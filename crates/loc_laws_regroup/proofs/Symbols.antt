@@ -1,41 +1,24 @@
 -- The symbols of printed values, of points, and of lists in parentheses.
-use Rattle.std.proofs.Common.{◌≡◌, ℕ, zero, suc, ◌/◌, ◌%◌, ◌^◌, ◌<◌, Bool, true, false, List, [], ◌∷◌, ◌++◌, length, map, append_assoc, append-nil, take_while, ℤ, pos, refl, sym, ◌∙◌, ap, ap₂, arith, one-add}
+use Rattle.std.proofs.Common.{◌≡◌, ℕ, zero, suc, ◌/◌, ◌%◌, ◌^◌, ◌<◌, Bool, true, false, List, [], ◌∷◌, ◌++◌, length, map, append_assoc, append-nil, ℤ, pos, refl, sym, ◌∙◌, ap, arith}
 use Rattle.std.specs.Prelude.{codes, unsigned_abs, int_lt}
 use Rattle.std.specs.Char.{is_ascii_alphabetic, is_ascii_digit}
 use Rattle.std.specs.Fmt.{decimal}
 use Rattle.std.specs.List.{AllByRecursion, list_all}
-use Rattle.std.proofs.lemmas.Bool.{and_parts, lt-leb, ne_eqb}
+use Rattle.std.proofs.lemmas.Bool.{and_parts, lt-leb}
 use Rattle.std.proofs.lemmas.Fmt.{decimal_is_IsNumeral}
 use Rattle.std.proofs.lemmas.List.Folds.{list_all-append}
 use Rattle.loc_spec_plane.specs.Points.{IsGridPoint, OnGrid, Point}
-use Rattle.loc_spec_text.specs.Bytes.{drop_while, Text}
+use Rattle.loc_spec_text.specs.Bytes.{Text}
 use Rattle.loc_spec_text.specs.Geometry.{close_mark, comma, ends_symbol, enclosed as enclosed_symbols, number, open_mark, separated, Symbol, symbol_of, symbols}
 use Rattle.loc_spec_text.specs.Number.{is_number}
 use Rattle.loc_spec_text.specs.Points.{fraction_text, grid_text, padded_digits, position_text}
-use Rattle.loc_spec_text.proofs.DigitLaws.{digit_range}
-use Rattle.loc_spec_text.proofs.SymbolLaws.{drop_while-no, drop_while-yes, is_plain, symbols-longest}
+use Rattle.loc_spec_text.proofs.DigitLaws.{digit_range, decimal_digits, plain_digits}
+use Rattle.loc_spec_text.proofs.SymbolLaws.{is_plain, run_first}
 use Rattle.loc_spec_groups.specs.GroupTexts.{enclosed, listed}
 use Rattle.loc_wkt.proofs.SymbolLemmas.{not_that}
-use Rattle.loc_laws_regroup.proofs.Grids.{decimal_are, grid_text_is, grid_text_reads, padded_are, sign_text, text_by, whole_small}
+use Rattle.loc_laws_regroup.proofs.Grids.{grid_text_is, grid_text_reads, padded_are, sign_text, text_by, whole_small}
 
 -- ---- a printed value is one symbol
-plain_digit : (c : ℕ) → is_ascii_digit c ≡ true → is_plain c ≡ true
-plain_digit c digit =
-    let range = digit_range c digit in
-    let space = ne_eqb c 32 (λ e. omega (arith, range.0, e)) in
-    let tab = ne_eqb c 9 (λ e. omega (arith, range.0, e)) in
-    let cr = ne_eqb c 13 (λ e. omega (arith, range.0, e)) in
-    let lf = ne_eqb c 10 (λ e. omega (arith, range.0, e)) in
-    let left = ne_eqb c 40 (λ e. omega (arith, range.0, e)) in
-    let right = ne_eqb c 41 (λ e. omega (arith, range.0, e)) in
-    let mark = ne_eqb c 44 (λ e. omega (arith, range.0, e)) in
-    simp (space, tab, cr, lf, left, right, mark)
-
-plain_digits : (ds : Text) → list_all is_ascii_digit ds ≡ true → list_all is_plain ds ≡ true
-plain_digits [] digits = refl
-plain_digits (c ∷ ds) digits =
-    let parts = and_parts (is_ascii_digit c) (list_all is_ascii_digit ds) digits in
-    rw (plain_digit c parts.0, plain_digits ds parts.1) refl
 
 plain_text : (negative : Bool) (ds : Text) (scale n : ℕ) → list_all is_ascii_digit ds ≡ true → list_all is_plain (text_by negative ds scale n) ≡ true
 plain_text negative ds scale n digits =
@@ -49,22 +32,6 @@ plain_text negative ds scale n digits =
     fraction : (scale : ℕ) → list_all is_plain (fraction_text scale n) ≡ true
     fraction zero = refl
     fraction (suc k) = plain_digits (padded_digits (suc k) n) (padded_are (suc k) n)
-
--- plain bytes in front of a break are taken whole
-taken : (run rest : Text) → list_all is_plain run ≡ true → ends_symbol rest ≡ true → (take_while is_plain (run ++ rest) ≡ run) × (drop_while is_plain (run ++ rest) ≡ rest)
-taken [] [] plain ends = (refl, refl)
-taken [] (b ∷ rest) plain ends = let no : is_plain b ≡ false = simp ends in (simp no, drop_while-no is_plain b rest no)
-taken (c ∷ run) rest plain ends =
-    let parts = and_parts (is_plain c) (list_all is_plain run) plain in
-    let more = taken run rest parts.1 ends in
-    (rw parts.0 (rw one-add (ap (λ l. c ∷ l) more.0)), drop_while-yes is_plain c (run ++ rest) parts.0 ∙ more.1)
-
-run_first : (run rest : Text) → 0 < length run → list_all is_plain run ≡ true → ends_symbol rest ≡ true → symbols (run ++ rest) ≡ symbol_of run ∷ symbols rest
-run_first [] rest some plain ends = absurd (omega (arith, some))
-run_first (c ∷ run) rest some plain ends =
-    let parts = and_parts (is_plain c) (list_all is_plain run) plain in
-    let all = taken run rest parts.1 ends in
-    symbols-longest c (run ++ rest) parts.0 ∙ ap₂ (λ a b. symbol_of (c ∷ a) ∷ symbols b) all.0 all.1
 
 no_letters : (negative : Bool) (ds : Text) (scale n : ℕ) → 0 < length ds → list_all is_ascii_digit ds ≡ true
     → (list_all is_ascii_alphabetic (text_by negative ds scale n) ≡ false) × (0 < length (text_by negative ds scale n))
@@ -86,7 +53,7 @@ number_symbol text is letters =
 grid_first : (scale : ℕ) (v : ℤ) (rest : Text) → OnGrid v → ends_symbol rest ≡ true → symbols (grid_text scale v ++ rest) ≡ number (grid_text scale v) ∷ symbols rest
 grid_first scale v rest on ends =
     let small = whole_small scale v on in
-    let digits = decimal_are (unsigned_abs v / 10 ^ scale) small in
+    let digits = decimal_digits (unsigned_abs v / 10 ^ scale) small in
     let first = no_letters (int_lt v (pos 0)) (decimal (unsigned_abs v / 10 ^ scale)) scale (unsigned_abs v % 10 ^ scale) (decimal_is_IsNumeral (unsigned_abs v / 10 ^ scale) small).0.0 digits in
     let plain = plain_text (int_lt v (pos 0)) (decimal (unsigned_abs v / 10 ^ scale)) scale (unsigned_abs v % 10 ^ scale) digits in
     let is = (grid_text_reads scale v on).number in

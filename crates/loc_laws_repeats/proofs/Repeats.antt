@@ -53,9 +53,6 @@ module _ {X : Type 0} (lt : X → X → Bool) (order : IsStrictWeakOrder lt) (to
   between : (i j k : ℕ) → i ≤ j → j ≤ k → k < length xs → get_or xs i d ≡ get_or xs k d → get_or xs j d ≡ get_or xs k d
   between i j k le le' fits same = total (get_or xs j d) (get_or xs k d) (subst (λ x. lt (get_or xs j d) x ≡ false) same (far i j le (omega arith))) (far j k le' fits)
 
-  pub few_none : AreFew 0
-  few_none x = omega arith
-
   -- one place more, where another member stood w places before
   pub few_more : (i : ℕ) → i < length xs → (w ≤ i → get_or xs (i - w) d ≡ get_or xs i d → ⊥) → AreFew i → AreFew (i + 1)
   few_more i fits other few x = elim (cases_Bool (eq x (get_or xs i d))) [

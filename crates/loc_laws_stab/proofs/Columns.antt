@@ -4,9 +4,8 @@ use Rattle.std.proofs.lemmas.Int.{ints}
 use Rattle.loc_algebra.proofs.Ring.{ring, variable, minus, plus, times}
 use Rattle.loc_algebra.proofs.Signs.{product_not_positive}
 use Rattle.loc_spec_plane.specs.Points.{Point, Edge, before, up_to, turn, is_above, is_below}
-use Rattle.loc_laws_order.proofs.Forms.{AtMost}
 use Rattle.loc_laws_order.proofs.Sides.{before_decides, above_decides, below_decides}
-use Rattle.loc_laws_order.proofs.Tests.{up_to_decides}
+use Rattle.loc_laws_order.proofs.Tests.{up_to_decides, up_to_trans}
 use Rattle.loc_spec_plane.specs.Spans.{IsSpan}
 
 turn_grows : (ax ay bx by x y z : ℤ) → ax ≤ℤ bx → y ≤ℤ z → ((bx -ℤ ax) *ℤ (y -ℤ ay) -ℤ (by -ℤ ay) *ℤ (x -ℤ ax)) ≤ℤ ((bx -ℤ ax) *ℤ (z -ℤ ay) -ℤ (by -ℤ ay) *ℤ (x -ℤ ax))
@@ -43,16 +42,6 @@ module _ (e : Edge) (up : before e.lo e.hi ≡ true) (p q : Point) (upright : p.
       let more = turn_up e.lo e.hi p q (not_back e up) upright rises in
       let less = (above_decides e p).0 h in
       (above_decides e q).1 (omega (arith, ints, more, less))
-
--- at most passes on
-pub at_most_trans : (p q r : Point) → up_to p q ≡ true → up_to q r ≡ true → up_to p r ≡ true
-at_most_trans p q r h k = (up_to_decides p r).1 (joined ((up_to_decides p q).0 h) ((up_to_decides q r).0 k))
-  where
-    joined : AtMost p q → AtMost q r → AtMost p r
-    joined (inl u) (inl v) = inl (omega (arith, ints))
-    joined (inl u) (inr v) = inl (omega (arith, ints, v.0))
-    joined (inr u) (inl v) = inl (omega (arith, ints, u.0))
-    joined (inr u) (inr v) = inr (omega (arith, ints, u.0, v.0), omega (arith, ints, u.1, v.1))
 
 -- the low point of a span is not behind its high one
 pub span_up : (low high : Point) → IsSpan low high → up_to low high ≡ true

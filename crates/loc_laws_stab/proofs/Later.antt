@@ -11,10 +11,10 @@ use Rattle.loc_laws_order.proofs.Booleans.{same-from_both}
 use Rattle.loc_laws_order.proofs.Forms.{Before, AtMost}
 use Rattle.loc_laws_order.proofs.Sets.{number_swap}
 use Rattle.loc_laws_order.proofs.Sides.{before_decides, before_irrefl, before_trans, before_either, before-differ, before-asym_test, same_point_sym, same_point-true, low_is_on, high_is_on, on-not_above, on-not_below}
-use Rattle.loc_laws_order.proofs.Tests.{up_to_decides}
+use Rattle.loc_laws_order.proofs.Tests.{up_to_decides, up_to_trans}
 use Rattle.loc_laws_order.proofs.TableOrder.{edge_up, same_corner}
 use Rattle.loc_spec_plane.specs.Spans.{IsSpan, meets, is_met, ends_at_low, is_later}
-use Rattle.loc_laws_stab.proofs.Columns.{above_up, below_down, at_most_trans, span_up}
+use Rattle.loc_laws_stab.proofs.Columns.{above_up, below_down, span_up}
 
 module _ (low high : Point) (span : IsSpan low high) where
   -- a point behind the low one and not behind the high one stands between them
@@ -48,7 +48,7 @@ module _ (low high : Point) (span : IsSpan low high) where
       let on_below : is_below e low ≡ false = subst (λ p. is_below e p ≡ false) at (on-not_below e e.hi (high_is_on e)) in
       and_from (up_to e.lo high && up_to low e.hi) (not (is_above e low) && not (is_below e high))
       (and_from (up_to e.lo high) (up_to low e.hi)
-      (at_most_trans e.lo low high (not_from_false (before low e.lo) (before-asym_test e.lo low ends)) (span_up low high span))
+      (up_to_trans e.lo low high (not_from_false (before low e.lo) (before-asym_test e.lo low ends)) (span_up low high span))
       (subst (λ p. up_to low p ≡ true) (sym at) (itself low)))
       (and_from (not (is_above e low)) (not (is_below e high)) (not_from_false (is_above e low) on_above)
       (not_from_false (is_below e high) (false_from_ne_true (is_below e high) (λ h. both_ways (is_below e low) on_below (below_down e up low high span.upright span.rises h)))))

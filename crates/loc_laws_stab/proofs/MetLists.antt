@@ -1,16 +1,16 @@
 -- The whole list of the edges met: the three parts that a walk finds are those of the list, and the list is the one that every edge is looked at for.
-use Rattle.std.proofs.Common.{◌≡◌, ℕ, ◌<◌, true, List, [], ◌++◌, length, filter, refl, sym, ◌∙◌, ap}
+use Rattle.std.proofs.Common.{◌≡◌, ℕ, ◌<◌, true, List, [], ◌++◌, length, filter, sym, ◌∙◌, ap}
 use Rattle.std.specs.Prelude.{◌==◌}
 use Rattle.std.proofs.lemmas.Bool.{ltb-true}
-use Rattle.loc_spec_plane.specs.Lists.{is_in, sorted_set}
+use Rattle.loc_spec_plane.specs.Lists.{is_in}
 use Rattle.loc_spec_plane.specs.Points.{Point}
 use Rattle.loc_spec_plane.specs.Tables.{Table, IsTable, NoConflict, corner, hi_of, edge_numbers}
-use Rattle.loc_spec_plane.specs.Places.{IsCornerless, lower_of}
+use Rattle.loc_spec_plane.specs.Places.{IsCornerless}
 use Rattle.loc_laws_order.proofs.AliveAt.{IsPassed}
-use Rattle.loc_spec_plane.specs.Spans.{IsSpan, IsMetList, met_at, ends_at_low, is_on_line, is_later}
+use Rattle.loc_spec_plane.specs.Spans.{IsSpan, IsMetList, met_at, ends_at_low, is_later}
 use Rattle.loc_laws_stab.proofs.Beginning.{begin_list, begins_among, filter_agree, filter_none, in_edges}
 use Rattle.loc_laws_stab.proofs.Later.{later_by_number, ending_by_number, none_ends}
-use Rattle.loc_laws_stab.proofs.Runs.{run_is_sorted, sorted_run}
+use Rattle.loc_laws_stab.proofs.Runs.{run_is_sorted}
 
 module _ (t : Table) (ok : IsTable t) (low high : Point) (span : IsSpan low high) where
   numbered : (e : ℕ) → is_in e (edge_numbers t) ≡ true → e < length t.ends
@@ -30,10 +30,6 @@ module _ (t : Table) (ok : IsTable t) (low high : Point) (span : IsSpan low high
 
 -- the computed list is the list of the edges met, and there is no other
 module _ (t : Table) (ok : IsTable t) (low high : Point) (apart : NoConflict t) where
-  pub met_at_is : IsMetList t low high (met_at t low high)
-  unfolding met_at
-  met_at_is = record { run = sorted_set (lower_of t) (filter (is_on_line t low high) (edge_numbers t)); is_run = sorted_run t ok apart low high; whole = refl }
-
   pub one_met_list : (es : List ℕ) → IsMetList t low high es → es ≡ met_at t low high
   unfolding met_at
   one_met_list es met = met.whole ∙ ap (λ run. filter (ends_at_low t low high) (edge_numbers t) ++ (run ++ filter (is_later t low high) (edge_numbers t))) (run_is_sorted t ok apart low high met.run met.is_run)

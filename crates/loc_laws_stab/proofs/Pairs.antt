@@ -6,10 +6,10 @@ use Rattle.loc_spec_plane.specs.Points.{Point, Edge, before, up_to, same_point, 
 use Rattle.loc_spec_plane.specs.Places.{alive, lower}
 use Rattle.loc_laws_order.proofs.Forms.{Before, AtMost}
 use Rattle.loc_laws_order.proofs.Sides.{before_decides, above_decides, below_decides, above-not_below, above-not_low, turn_low, turn_high}
-use Rattle.loc_laws_order.proofs.Tests.{up_to_decides, alive_up, same_point_decides}
+use Rattle.loc_laws_order.proofs.Tests.{up_to_decides, alive_up, same_point_decides, up_to_trans}
 use Rattle.loc_laws_order.proofs.PairLaws.{above_passes, higher_ends_above}
 use Rattle.loc_spec_plane.specs.Spans.{IsSpan}
-use Rattle.loc_laws_stab.proofs.Columns.{turn_up, not_back, at_most_trans, span_up}
+use Rattle.loc_laws_stab.proofs.Columns.{turn_up, not_back, span_up}
 
 -- a point above the higher edge is above the lower one
 pub above_lower : (a b : Edge) (p : Point) → alive a p ≡ true → alive b p ≡ true → conflict a b ≡ false → lower a b ≡ true → is_above b p ≡ true → is_above a p ≡ true
@@ -47,7 +47,7 @@ module _ (low high : Point) (span : IsSpan low high) where
       omega (arith, ints)))
 
   begins_before : (e : Edge) → alive e low ≡ true → up_to e.lo high ≡ true
-  begins_before e live = at_most_trans e.lo low high (and_parts (up_to e.lo low) (before low e.hi) live).0 (span_up low high span)
+  begins_before e live = up_to_trans e.lo low high (and_parts (up_to e.lo low) (before low e.hi) live).0 (span_up low high span)
 
   -- where the high point is below the lower edge, it is below the higher one
   pub below_higher : (a b : Edge) → alive a low ≡ true → alive b low ≡ true → conflict a b ≡ false → lower a b ≡ true → is_below a high ≡ true → is_below b high ≡ true

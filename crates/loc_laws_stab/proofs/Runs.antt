@@ -15,8 +15,9 @@ use Rattle.loc_laws_order.proofs.Booleans.{same-from_both}
 use Rattle.loc_laws_order.proofs.Kept.{is_in-range, is_in-filter}
 use Rattle.loc_laws_order.proofs.Sets.{set_of, all_weaker}
 use Rattle.loc_laws_order.proofs.Sides.{before-asym_test, lower-asym}
+use Rattle.loc_laws_order.proofs.Tests.{up_to_trans}
 use Rattle.loc_spec_plane.specs.Spans.{IsSpan, meets, is_met, is_on_line}
-use Rattle.loc_laws_stab.proofs.Columns.{at_most_trans, span_up}
+use Rattle.loc_laws_stab.proofs.Columns.{span_up}
 use Rattle.loc_laws_stab.proofs.Pairs.{above_lower, below_higher}
 use Rattle.loc_laws_stab.proofs.Parted.{is_in-append, rising-parts, one_list_of}
 
@@ -37,7 +38,7 @@ module _ (t : Table) (low high : Point) where
       and_from (is_met t low high e) (alive_at t low e)
       (and_from (is_edge t e) (meets (edge t e) low high) (lt-ltb e (length t.ends) alive_e.0)
       (and_from (up_to (edge t e).lo high && up_to low (edge t e).hi) (not (is_above (edge t e) low) && not (is_below (edge t e) high))
-      (and_from (up_to (edge t e).lo high) (up_to low (edge t e).hi) (at_most_trans (edge t e).lo low high ends.0 (span_up low high span)) (not_from_false (before (edge t e).hi low) (before-asym_test low (edge t e).hi ends.1)))
+      (and_from (up_to (edge t e).lo high) (up_to low (edge t e).hi) (up_to_trans (edge t e).lo low high ends.0 (span_up low high span)) (not_from_false (before (edge t e).hi low) (before-asym_test low (edge t e).hi ends.1)))
       (and_from (not (is_above (edge t e) low)) (not (is_below (edge t e) high)) (not_from_false (is_above (edge t e) low) not_above) (not_from_false (is_below (edge t e) high) not_below))))
       live
 

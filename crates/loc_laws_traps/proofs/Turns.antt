@@ -44,10 +44,6 @@ none_last t true None = refl
 none_last t true (Some a) = refl
 none_last t false b = refl
 
-pub turn_order : (t : Table) (up : Bool) (a b : Option ℕ) → order_by t up a b ≡ true → order_by t (not up) b a ≡ true
-turn_order t true a b h = h
-turn_order t false a b h = h
-
 -- an edge that goes between bottom and top, goes between near and far
 pub goes_between : (t : Table) (up : Bool) (e : ℕ) (trap : Trap) → (in_order t trap.bottom (Some e) ≡ true) × (in_order t (Some e) trap.top ≡ true) → (order_by t up (near up trap) (Some e) ≡ true) × (order_by t up (Some e) (far up trap) ≡ true)
 goes_between t true e trap h = h

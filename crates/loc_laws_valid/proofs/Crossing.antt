@@ -9,9 +9,10 @@ use Rattle.loc_spec_plane.specs.Lists.{is_rising, exactly_one}
 use Rattle.loc_spec_plane.specs.Points.{Point, Edge, before, up_to, same_point, same_edge, is_above, is_on, is_below, is_end, lies_on, inside, cross}
 use Rattle.loc_spec_plane.specs.Tables.{cut_at}
 use Rattle.loc_laws_order.proofs.Forms.{Before, AtMost, IsEdge, side_of, LiesOn, Cross}
-use Rattle.loc_laws_order.proofs.Sides.{before_decides, high_is_on, low_is_on, same_point-true, same_point_refl, same-from_neither}
+use Rattle.loc_laws_order.proofs.Sides.{before_decides, same_point-true, same_point_refl, same-from_neither}
 use Rattle.loc_laws_order.proofs.Tests.{cross_decides, is_above_decides, is_below_decides, is_on_decides, same_edge_decides, up_to_decides}
 use Rattle.loc_laws_order.specs.Numbered.{has_ends}
+use Rattle.loc_laws_order.proofs.Pair.{side_lo, side_hi}
 use Rattle.loc_laws_noding.specs.Laws.{goes_up, is_good, is_path}
 use Rattle.loc_laws_noding.proofs.Lines.{Along, along, above_along, below_along, side_between}
 use Rattle.loc_laws_noding.proofs.Pieces.{none_inside, pieces_cut, pieces_on, pieces_path}
@@ -67,12 +68,6 @@ same_or_before p q h = elim (cases_Bool (before p q)) [
 at_most : (p q : Point) → (Before q p → ⊥) → AtMost p q
 at_most p q never = (up_to_decides p q).0 (not_from_false (before q p) (false_from_ne_true (before q p) (λ h. never ((before_decides q p).0 h))))
 
-pub low_on : (s : Edge) → side_of s s.lo ≡ pos 0
-low_on s = (is_on_decides s s.lo).0 (low_is_on s)
-
-high_on : (s : Edge) → side_of s s.hi ≡ pos 0
-high_on s = (is_on_decides s s.hi).0 (high_is_on s)
-
 -- to lie on an edge, by a test
 lies_from : (s : Edge) (p : Point) → LiesOn s p → lies_on s p ≡ true
 lies_from s p h = and_from _ _ (and_from _ _ ((is_on_decides s p).1 h.0) ((up_to_decides s.lo p).1 h.1)) ((up_to_decides p s.hi).1 h.2)
@@ -88,14 +83,14 @@ lies_to s p h =
 pub wider : (r s : Edge) (a b : Point) → IsEdge s → LiesOn s a → LiesOn s b → Before a b → Opposite (side_of r a) (side_of r b) → Opposite (side_of r s.lo) (side_of r s.hi)
 wider r s a b up on_a on_b order parted = elim (trend r s up) [
   | inl grows ↦ (let within = grows a b on_a.0 on_b.0 order in
-      let front : side_of r s.lo ≤ℤ side_of r a = elim (same_or_before s.lo a on_a.1) [ inl same ↦ (let e = ap (side_of r) same in omega (arith, ints, e)) | inr less ↦ (let l = grows s.lo a (low_on s) on_a.0 less in omega (arith, ints, l)) ] in
-      let back : side_of r b ≤ℤ side_of r s.hi = elim (same_or_before b s.hi on_b.2) [ inl same ↦ (let e = ap (side_of r) same in omega (arith, ints, e)) | inr less ↦ (let l = grows b s.hi on_b.0 (high_on s) less in omega (arith, ints, l)) ] in
+      let front : side_of r s.lo ≤ℤ side_of r a = elim (same_or_before s.lo a on_a.1) [ inl same ↦ (let e = ap (side_of r) same in omega (arith, ints, e)) | inr less ↦ (let l = grows s.lo a (side_lo s) on_a.0 less in omega (arith, ints, l)) ] in
+      let back : side_of r b ≤ℤ side_of r s.hi = elim (same_or_before b s.hi on_b.2) [ inl same ↦ (let e = ap (side_of r) same in omega (arith, ints, e)) | inr less ↦ (let l = grows b s.hi on_b.0 (side_hi s) less in omega (arith, ints, l)) ] in
       elim parted [ inl down ↦ absurd (omega (arith, ints, within, down.0, down.1)) | inr rise ↦ inr (omega (arith, ints, rise.0, front), omega (arith, ints, rise.1, back)) ])
   | inr rest ↦ elim rest [
     | inl stays ↦ (let same = stays a b on_a.0 on_b.0 order in elim parted [ inl down ↦ absurd (omega (arith, ints, same, down.0, down.1)) | inr rise ↦ absurd (omega (arith, ints, same, rise.0, rise.1)) ])
     | inr falls ↦ (let within = falls a b on_a.0 on_b.0 order in
-        let front : side_of r a ≤ℤ side_of r s.lo = elim (same_or_before s.lo a on_a.1) [ inl same ↦ (let e = ap (side_of r) same in omega (arith, ints, e)) | inr less ↦ (let l = falls s.lo a (low_on s) on_a.0 less in omega (arith, ints, l)) ] in
-        let back : side_of r s.hi ≤ℤ side_of r b = elim (same_or_before b s.hi on_b.2) [ inl same ↦ (let e = ap (side_of r) same in omega (arith, ints, e)) | inr less ↦ (let l = falls b s.hi on_b.0 (high_on s) less in omega (arith, ints, l)) ] in
+        let front : side_of r a ≤ℤ side_of r s.lo = elim (same_or_before s.lo a on_a.1) [ inl same ↦ (let e = ap (side_of r) same in omega (arith, ints, e)) | inr less ↦ (let l = falls s.lo a (side_lo s) on_a.0 less in omega (arith, ints, l)) ] in
+        let back : side_of r s.hi ≤ℤ side_of r b = elim (same_or_before b s.hi on_b.2) [ inl same ↦ (let e = ap (side_of r) same in omega (arith, ints, e)) | inr less ↦ (let l = falls b s.hi on_b.0 (side_hi s) less in omega (arith, ints, l)) ] in
         elim parted [ inl down ↦ inl (omega (arith, ints, down.0, front), omega (arith, ints, down.1, back)) | inr rise ↦ absurd (omega (arith, ints, within, rise.0, rise.1)) ])
   ]
 ]
@@ -114,15 +109,15 @@ within r s up parted c on_r on_s = and_from _ _ (lies_from r c (on_r, at_most r.
 
     whole : (Before c r.lo ⊎ Before r.hi c) → ⊥
     whole out = elim (trend s r up) [
-      | inl grows ↦ (let all = grows r.lo r.hi (low_on r) (high_on r) up in elim out [
-        | inl under ↦ (let l = grows c r.lo on_r (low_on r) under in elim parted [ inl down ↦ omega (arith, ints, all, l, on_s, down.0, down.1) | inr rise ↦ omega (arith, ints, all, l, on_s, rise.0, rise.1) ])
-        | inr over ↦ (let l = grows r.hi c (high_on r) on_r over in elim parted [ inl down ↦ omega (arith, ints, all, l, on_s, down.0, down.1) | inr rise ↦ omega (arith, ints, all, l, on_s, rise.0, rise.1) ])
+      | inl grows ↦ (let all = grows r.lo r.hi (side_lo r) (side_hi r) up in elim out [
+        | inl under ↦ (let l = grows c r.lo on_r (side_lo r) under in elim parted [ inl down ↦ omega (arith, ints, all, l, on_s, down.0, down.1) | inr rise ↦ omega (arith, ints, all, l, on_s, rise.0, rise.1) ])
+        | inr over ↦ (let l = grows r.hi c (side_hi r) on_r over in elim parted [ inl down ↦ omega (arith, ints, all, l, on_s, down.0, down.1) | inr rise ↦ omega (arith, ints, all, l, on_s, rise.0, rise.1) ])
       ])
       | inr rest ↦ elim rest [
-        | inl stays ↦ (let all = stays r.lo r.hi (low_on r) (high_on r) up in elim parted [ inl down ↦ omega (arith, ints, all, down.0, down.1) | inr rise ↦ omega (arith, ints, all, rise.0, rise.1) ])
-        | inr falls ↦ (let all = falls r.lo r.hi (low_on r) (high_on r) up in elim out [
-          | inl under ↦ (let l = falls c r.lo on_r (low_on r) under in elim parted [ inl down ↦ omega (arith, ints, all, l, on_s, down.0, down.1) | inr rise ↦ omega (arith, ints, all, l, on_s, rise.0, rise.1) ])
-          | inr over ↦ (let l = falls r.hi c (high_on r) on_r over in elim parted [ inl down ↦ omega (arith, ints, all, l, on_s, down.0, down.1) | inr rise ↦ omega (arith, ints, all, l, on_s, rise.0, rise.1) ])
+        | inl stays ↦ (let all = stays r.lo r.hi (side_lo r) (side_hi r) up in elim parted [ inl down ↦ omega (arith, ints, all, down.0, down.1) | inr rise ↦ omega (arith, ints, all, rise.0, rise.1) ])
+        | inr falls ↦ (let all = falls r.lo r.hi (side_lo r) (side_hi r) up in elim out [
+          | inl under ↦ (let l = falls c r.lo on_r (side_lo r) under in elim parted [ inl down ↦ omega (arith, ints, all, l, on_s, down.0, down.1) | inr rise ↦ omega (arith, ints, all, l, on_s, rise.0, rise.1) ])
+          | inr over ↦ (let l = falls r.hi c (side_hi r) on_r over in elim parted [ inl down ↦ omega (arith, ints, all, l, on_s, down.0, down.1) | inr rise ↦ omega (arith, ints, all, l, on_s, rise.0, rise.1) ])
         ])
       ]
     ]
@@ -140,7 +135,7 @@ changes r s up parted p c q on_p on_c on_q flat first second = elim (trend r s u
   | inl grows ↦ (let low = grows p c on_p on_c first in let high = grows c q on_c on_q second in
       ap₂ exactly_one (off p (omega (arith, ints, low, flat))) ((is_above_decides r q).1 (omega (arith, ints, high, flat))))
   | inr rest ↦ elim rest [
-    | inl stays ↦ (let all = stays s.lo s.hi (low_on s) (high_on s) up in elim parted [ inl down ↦ absurd (omega (arith, ints, all, down.0, down.1)) | inr rise ↦ absurd (omega (arith, ints, all, rise.0, rise.1)) ])
+    | inl stays ↦ (let all = stays s.lo s.hi (side_lo s) (side_hi s) up in elim parted [ inl down ↦ absurd (omega (arith, ints, all, down.0, down.1)) | inr rise ↦ absurd (omega (arith, ints, all, rise.0, rise.1)) ])
     | inr falls ↦ (let low = falls p c on_p on_c first in let high = falls c q on_c on_q second in
         ap₂ exactly_one ((is_above_decides r p).1 (omega (arith, ints, low, flat))) (off q (omega (arith, ints, high, flat))))
   ]

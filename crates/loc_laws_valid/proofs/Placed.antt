@@ -13,9 +13,6 @@ use Rattle.loc_spec_valid.specs.Breaches.{ring_places, feature_rings}
 abbrev own_places : ℕ → Rings → List (ℕ × Bool)
 own_places n rings = map (λ k. (n, not (k == 0))) (numbers (length rings))
 
-nowhere : ℕ × Bool
-nowhere = (0, false)
-
 own_many : (n : ℕ) (rings : Rings) → length (own_places n rings) ≡ length rings
 own_many n rings = length-map-range_with_len (λ k. (n, not (k == 0))) 0 (length rings)
 

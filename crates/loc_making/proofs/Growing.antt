@@ -1,21 +1,14 @@
 -- Bytes that come into a file one piece after the other.
-use Rattle.std.proofs.Common.{◌≡◌, ℕ, ◌≤◌, true, List, [], ◌++◌, take, drop, Option, Some, None, Result, Ok, Err, refl, sym, ◌∙◌, ap, append_assoc, append-nil, subst, take-append-drop}
-use Rattle.std.specs.Io.KnownBytes.{Keeps}
+use Rattle.std.proofs.Common.{◌≡◌, ℕ, ◌≤◌, true, List, [], ◌++◌, take, drop, Result, Ok, Err, refl, sym, ◌∙◌, ap, append_assoc, append-nil, subst, take-append-drop}
 use Rattle.loc_io.specs.declared.failed.Failed.{Failed}
 use Rattle.loc_io.specs.declared.sink.WriteFault.{WriteFault}
 use Rattle.loc_io.specs.Causes.{Rose}
 use Rattle.loc_io.specs.Meaning.{Meaning, KeepsReading, NoneLate, Writes, bytes_of}
-use Rattle.loc_io.specs.Reading.{WroteFront}
 use Rattle.loc_io.proofs.Appending.{Appends-more, appends-none, front-of, front-behind}
 use Rattle.loc_io.proofs.Reading.{in_time_by}
-use Rattle.loc_making.specs.Making.{Grew, Broke, WroteBytes, Passes, PutsBytes}
+use Rattle.loc_making.specs.Making.{Grew, Broke, Passes, PutsBytes}
 
 -- ---- what was told
-
-front-none : (o m : Option (List ℕ)) → Keeps o m → WroteFront o m []
-front-none None m k = ([], [], refl, tt)
-front-none (Some x) None k = absurd k
-front-none (Some x) (Some y) k = ([], [], refl, k ∙ sym (append-nil x))
 
 pub reading-on : {a b c : Meaning} → KeepsReading a b → KeepsReading b c → KeepsReading a c
 reading-on h k = record { is_open = k.is_open ∙ h.is_open; rest = k.rest ∙ h.rest; entries = k.entries ∙ h.entries; read_faults = k.read_faults ∙ h.read_faults }
@@ -75,24 +68,11 @@ broke-more {o} {m} {a} b p = record {
 pub grew-one : {m n : Meaning} {piece : List ℕ} {k : ℕ} → Writes {E = Failed} piece m n (Ok k) → Grew (take k piece) m n
 grew-one {m} {n} w = record { reading = w.reading; is_making = w.made.0; made = w.made.1; file = w.file; others = w.others; steady = w.cause.steady; in_time = in_time_by m n w.late }
 
-pub broke-one : {m n : Meaning} {piece : List ℕ} {e : Failed} → Writes piece m n (Err e) → Broke [] m n
-broke-one {m} {n} w = record {
-  reading = w.reading;
-  file = λ name is. front-none (bytes_of (m.told name)) (bytes_of (n.told name)) (w.file name is);
-  others = w.others;
-  later = w.cause.later;
-  rose = w.cause.failed;
-  in_time = in_time_by m n w.late;
-}
-
 -- the writing of a whole text under way: what was written, and what is left
 pub record Wrote (text rest : List ℕ) (old new : Meaning) : Type 0 where
   pub front : List ℕ
   pub split : text ≡ front ++ rest
   pub grew : Grew front old new
-
-pub wrote-none : {o : Meaning} (text : List ℕ) → o.is_making ≡ true → Wrote text text o o
-wrote-none text making = record { front = []; split = refl; grew = grew-none making }
 
 pub wrote-more : {o m n : Meaning} {text rest : List ℕ} (k : ℕ) → Wrote text rest o m → Writes {E = Failed} rest m n (Ok k) → Wrote text (drop k rest) o n
 wrote-more {text} {rest} k u w = record {
@@ -100,16 +80,6 @@ wrote-more {text} {rest} k u w = record {
   split = u.split ∙ ap (λ (l : List ℕ). u.front ++ l) (sym (take-append-drop k rest)) ∙ sym (append_assoc u.front (take k rest) (drop k rest));
   grew = grew-then u.grew (grew-one w);
 }
-
-pub wrote-all : {T E : Type 0} {o m : Meaning} {text : List ℕ} (x : T) → Wrote text [] o m → WroteBytes {E = E} text o m (Ok x)
-wrote-all {o} {m} {text} x u = record { ok = subst (λ l. Grew l o m) (sym (u.split ∙ append-nil u.front)) u.grew; err = tt }
-
-pub wrote-broke : {T E : Type 0} {o m n : Meaning} {text rest : List ℕ} {e : Failed} {result : Result T E} {d : E} → result ≡ Err d → Wrote text rest o m → Writes rest m n (Err e) → WroteBytes text o n result
-wrote-broke {o} {m} {n} {text} {rest} fails u w =
-    subst (λ r. WroteBytes text o n r) (sym fails) (record {
-      ok = tt;
-      err = subst (λ l. Broke l o n) (sym u.split) (subst (λ l. Broke (l ++ rest) o n) (append-nil u.front) (broke-more rest (grew-broke u.grew (broke-one w))));
-    })
 
 -- ---- texts on a page
 
@@ -124,10 +94,6 @@ passes-both {h} {i} {k} {a} {b} p q = record {
 -- a text is only held
 pub passes-held : {o : Meaning} {h k a : List ℕ} → o.is_making ≡ true → k ≡ h ++ a → Passes a o o h k
 passes-held making is = record { gone = []; cut = sym is; grew = grew-none making }
-
--- all that was held and the text are written
-pub passes-whole : {o m : Meaning} {h k a : List ℕ} → Grew (h ++ a) o m → k ≡ [] → Passes a o m h k
-passes-whole {h} {a} grew is = record { gone = h ++ a; cut = sym (ap (λ l. (h ++ a) ++ l) is ∙ append-nil (h ++ a)); grew = grew }
 
 -- of a text behind what passed a write failed
 passes-broke : {o m n : Meaning} {h i a : List ℕ} (b : List ℕ) → Passes a o m h i → Broke (i ++ b) m n → Broke (h ++ (a ++ b)) o n
@@ -170,10 +136,6 @@ goes-end {m} {i} whole o h x making none goes =
 -- the same text, written otherwise
 pub put-same : {T E : Type 0} {a b : List ℕ} {o m : Meaning} {h k : List ℕ} {r : Result T E} → a ≡ b → PutsBytes a o m h k r → PutsBytes b o m h k r
 put-same {o} {m} {h} {k} {r} is p = subst (λ l. PutsBytes l o m h k r) is p
-
--- a text that was put on an empty page, of which a write failed
-pub page-broke : {T E : Type 0} {o m : Meaning} {text h i : List ℕ} {result : Result T E} {e : E} → result ≡ Err e → h ≡ [] → PutsBytes text o m h i result → Broke text o m
-page-broke {o} {m} {text} {h} {i} is none p = subst (λ l. Broke (l ++ text) o m) none (subst (λ r. PutsBytes text o m h i r) is p).err
 
 -- a text that was put on an empty page, and then written
 pub page-whole : {T U E : Type 0} {o m n : Meaning} {text h i k : List ℕ} {first : Result T E} {second : Result U E} {x : T} {y : U} → first ≡ Ok x → second ≡ Ok y → h ≡ [] → k ≡ [] → PutsBytes text o m h i first → PutsBytes [] m n i k second → Grew text o n

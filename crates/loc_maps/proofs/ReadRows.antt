@@ -13,7 +13,7 @@ use Rattle.loc_course.specs.Sentences.{EndsSo}
 use Rattle.loc_course.specs.Stops.{source}
 use Rattle.loc_course.proofs.Streamed.{long_or_short}
 use Rattle.loc_told.proofs.Ends.{not_done}
-use Rattle.loc_told.proofs.Texts.{long, short}
+use Rattle.loc_course.proofs.Texts.{long, short}
 use Rattle.loc_maps.specs.LineTexts.{layer_fault_text}
 use Rattle.loc_maps.specs.MapCourses.{IsRead, LayerFile, read_course, read_in}
 use Rattle.loc_spec_text.specs.Limits.{most_text}

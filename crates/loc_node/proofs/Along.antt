@@ -14,8 +14,8 @@ use Rattle.loc_spec_plane.specs.Points.{Point, Edge, before, up_to, is_on, lies_
 use Rattle.loc_laws_order.proofs.Ranks.{point_rank}
 use Rattle.loc_laws_order.proofs.TableOrder.{origin_point}
 use Rattle.loc_laws_order.proofs.Sides.{before-asym_test, before_irrefl, before_trans, lt_decides}
+use Rattle.loc_laws_order.proofs.Tests.{up_to_trans}
 use Rattle.loc_laws_noding.specs.Search.{is_parallel, number_along}
-use Rattle.loc_laws_noding.proofs.Chains.{up_to_trans}
 use Rattle.loc_laws_noding.proofs.Orders.{point_cmp, points_by_before}
 use Rattle.loc_laws_noding.proofs.Search.{way_law}
 use Rattle.loc_laws_noding.proofs.SortedSet.{same_from_neither}

@@ -46,16 +46,6 @@ step ps i a b es e rise from to is_a is_b is so_far =
     ∙ (ap (λ x. neighbour_edges (take (suc k) ps) ++ x ∷ []) made
     ∙ (sym (one_more ps k b (omega (arith, to, at))) ∙ ap (λ n. neighbour_edges (take n ps)) (sym next)))
 
--- a list of one point or none
-pub first_none : (ps : List Point) → neighbour_edges (take 1 ps) ≡ []
-first_none [] = refl
-first_none (p ∷ ps) = refl
-
-pub few_none : (ps : List Point) → length ps ≤ 1 → neighbour_edges ps ≡ []
-few_none [] few = refl
-few_none (p ∷ []) few = refl
-few_none (p ∷ q ∷ ps) few = absurd (omega arith)
-
 -- a test of what is kept
 any_kept : (keeps test : Point → Bool) (ps : List Point) → list_any test (filter keeps ps) ≡ list_any (λ p. keeps p && test p) ps
 any_kept keeps test [] = refl

@@ -25,7 +25,7 @@ use Rattle.loc_node.specs.Pieces.{cut_tagged, first_with, piece_before, placed_f
 use Rattle.loc_node.proofs.PieceOrder.{edge_ties, first_not_less, piece_cmp, piece_total}
 
 -- ---- the order
-nat_lt_is : (m n : ℕ) → is_lt (nat_cmp m n) ≡ nat_lt m n
+pub nat_lt_is : (m n : ℕ) → is_lt (nat_cmp m n) ≡ nat_lt m n
 nat_lt_is m n = elim (cases_Bool (nat_lt m n)) [
   | inl lt ↦ ap is_lt (cond-true _ _ _ lt) ∙ sym lt
   | inr ge ↦ elim (cases_Bool (m == n)) [

@@ -1,5 +1,6 @@
 -- Versions stay: a stamp of a later version, a new row, and a change of colour leave what is read in an earlier one.
 use Rattle.std.proofs.Common.{◌≡◌, ℕ, zero, suc, ◌<◌, ◌≤◌, true, false, cond, Bool, ◌&&◌, nat_le, refl, sym, ap, ◌∙◌, Option, Some, None, inl, inr, arith}
+use Rattle.std.proofs.lemmas.Bool.{and_right}
 use Rattle.loc_pool.specs.declared.Link.{Link}
 use Rattle.loc_pool.specs.declared.Turn.{Turn}
 use Rattle.loc_pool.specs.declared.Turn.TheVariants.{Left, Right}
@@ -15,16 +16,12 @@ use Rattle.loc_persist.proofs.Rows.{put-has, put-by}
 not-yet : (i n : ℕ) → i < n → nat_le n i ≡ false
 not-yet i n h = grind arith
 
-and-false : (b : Bool) → (b && false) ≡ false
-and-false true = refl
-and-false false = refl
-
 plain-stamped : (n : ℕ) (turn t : Turn) (to : Option Link) (x : Row) → plain_child t (stamped n turn to x) ≡ plain_child t x
 plain-stamped n turn Left to x = refl
 plain-stamped n turn Right to x = refl
 
 before-stamp : (i n : ℕ) (turn t : Turn) (to p : Option Link) → i < n → child_by i t p (Some (record { turn = turn; version = n; to = to })) ≡ p
-before-stamp i n turn t to p h = ap (λ b. cond (same_turn turn t && b) to p) (not-yet i n h) ∙ ap (λ b. cond b to p) (and-false (same_turn turn t))
+before-stamp i n turn t to p h = ap (λ b. cond (same_turn turn t && b) to p) (not-yet i n h) ∙ ap (λ b. cond b to p) (and_right (same_turn turn t) false refl)
 
 -- a stamp of version n does not count before n
 pub child_at-stamped : (i n : ℕ) (turn t : Turn) (to : Option Link) (x : Row) → i < n → IsFree n turn x → child_at i t (stamped n turn to x) ≡ child_at i t x

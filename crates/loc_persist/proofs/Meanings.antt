@@ -1,6 +1,7 @@
 -- What the calls of versions do to their meaning, and what holds of it.
-use Rattle.std.proofs.Common.{◌≡◌, ℕ, zero, suc, ◌+◌, ◌*◌, ◌^◌, ◌<◌, ◌≤◌, max, Bool, true, false, cond, not, ◌&&◌, nat_le, List, [], ◌∷◌, ◌++◌, map, length, length-append, refl, sym, ap, ◌∙◌, subst, Option, Some, None, ◌⊎◌, inl, inr, arith}
+use Rattle.std.proofs.Common.{◌≡◌, ℕ, zero, suc, ◌+◌, ◌*◌, ◌^◌, ◌<◌, ◌≤◌, max, Bool, true, false, cond, not, ◌&&◌, List, [], ◌∷◌, ◌++◌, map, length, length-append, refl, sym, ap, ◌∙◌, subst, Option, Some, None, ◌⊎◌, inl, inr, arith}
 use Rattle.std.specs.Prelude.{slice_get}
+use Rattle.std.proofs.lemmas.Bool.{le-leb}
 use Rattle.loc_pool.specs.declared.Link.{Link}
 use Rattle.loc_pool.specs.declared.Extra.{Extra}
 use Rattle.loc_pool.specs.declared.Turn.{Turn}
@@ -185,13 +186,10 @@ removes-of s t i r p b path at k h e = record {
   is_changed = refl;
 }
 
-is-at-most : (i j : ℕ) → i ≤ j → nat_le i j ≡ true
-is-at-most i j h = grind arith
-
 -- no stamp is of a later version, so a later version reads as this one
 child-later : (n m : ℕ) (t : Turn) (p : Option Link) (o : Option Extra) → n ≤ m → ((e : Extra) → o ≡ Some e → e.version ≤ n) → pool.child_by m t p o ≡ pool.child_by n t p o
 child-later n m t p None h s = refl
-child-later n m t p (Some e) h s = let v = s e refl in ap (λ b. cond (pool.same_turn e.turn t && b) e.to p) (is-at-most e.version m (omega (arith, v, h)) ∙ sym (is-at-most e.version n v))
+child-later n m t p (Some e) h s = let v = s e refl in ap (λ b. cond (pool.same_turn e.turn t && b) e.to p) (le-leb e.version m (omega (arith, v, h)) ∙ sym (le-leb e.version n v))
 
 row-later : (n m : ℕ) (x : pool.Row) → n ≤ m → ((e : Extra) → x.extra ≡ Some e → e.version ≤ n) → row_in m x ≡ row_in n x
 row-later n m x h s = λ i. record { item = x.item; left = child-later n m Left x.left x.extra h s i; right = child-later n m Right x.right x.extra h s i; colour = x.colour }

@@ -2,7 +2,7 @@
 use Rattle.std.proofs.Common.{◌+◌, ◌-◌, ◌<◌, ◌≤◌, suc, zero, length, arith, ◌≡◌, ℕ, true, false, cond, ◌||◌, List, [], ◌∷◌, ◌++◌, refl, sym, ap, ◌∙◌, Some, set, take}
 use Rattle.std.specs.Prelude.{◌≢◌, slice_get}
 use Rattle.std.specs.List.{AllByRecursion}
-use Rattle.std.proofs.lemmas.List.{length-take, length-take-le, take_more_set, take-append-le}
+use Rattle.std.proofs.lemmas.List.{length-take, length-take-le, take_more_set}
 use Rattle.std.proofs.Math.Nat.{min-le_left}
 use Rattle.std.proofs.Math.Seq.{take-set-lt}
 use Rattle.loc_pool.specs.declared.Link.{Link}
@@ -117,7 +117,3 @@ made-new xs made h = number-new 1 (take made xs) (link_of (made + 1)) (let k = l
 
 pub made-append : (xs : List Node) (made : ℕ) (x : Node) → made < length xs → rows_from 1 (take (made + 1) (set xs made x)) ≡ rows_from 1 (take made xs) ++ (link_of (made + 1), row_of x) ∷ []
 made-append xs made x h = ap (rows_from 1) (take_more_set xs made x h) ∙ rows_from-append 1 (made + 1) (take made xs) x (let k = length-take-le made xs (omega (arith, h)) in omega (arith, k))
-
--- more places at the end leave the rows
-pub made-more : (xs ys : List Node) (made : ℕ) → made ≤ length xs → rows_from 1 (take made (xs ++ ys)) ≡ rows_from 1 (take made xs)
-made-more xs ys made h = ap (rows_from 1) (take-append-le made xs ys h)

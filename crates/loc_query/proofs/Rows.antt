@@ -1,7 +1,7 @@
 -- The refusals of a query and its output, as rows: what the told files come to.
-use Rattle.std.proofs.Common.{◌≡◌, ℕ, ◌<◌, ◌≤◌, Bool, List, length, take, Result, Ok, Err, refl, ◌∙◌, ap, arith, true, codes}
+use Rattle.std.proofs.Common.{◌≡◌, ℕ, ◌<◌, ◌≤◌, Bool, List, length, take, Result, Ok, Err, refl, ◌∙◌, ap, true, codes}
 use Rattle.std.specs.Prelude.{nat_lt}
-use Rattle.std.proofs.lemmas.Bool.{cond-true, cond-false, false_from_ne_true}
+use Rattle.std.proofs.lemmas.Bool.{cond-true}
 use Rattle.std.proofs.lemmas.Bool.Decides.{Decides-ltb}
 use Rattle.loc_io.specs.Meaning.{Told, holds}
 use Rattle.loc_spec_plane.specs.Covers.{cover_sum}
@@ -20,6 +20,7 @@ use Rattle.loc_course.specs.Outcomes.{Outcome, refusal, output, partly, by_text,
 use Rattle.loc_course.specs.Stops.{source}
 use Rattle.loc_course.specs.Streams.{Answering, answered_long, out_of}
 use Rattle.loc_course.proofs.Streamed.{of_whole}
+use Rattle.loc_course.proofs.Texts.{long, short}
 use Rattle.loc_maps.specs.Conflicts.{Accepts, names_conflict}
 use Rattle.loc_maps.specs.LineTexts.{layer_fault_text, covers_text, pieces_text}
 use Rattle.loc_maps.specs.Located.{edges_of, table_in}
@@ -34,13 +35,6 @@ use Rattle.loc_orders.specs.OrderTexts.{order_fault_text}
 use Rattle.loc_query.specs.Answered.{answer_line, output_of, output_within}
 use Rattle.loc_query.specs.Headline.{IsInOrder, edge_count}
 use Rattle.loc_query.specs.QueryCourses.{asked_layer, points_course, query_course}
-
-long : (s : Source) (o : Text → Outcome) (told : Told) (text : Text) → told ≡ holds text → s.limit < length text → by_text s o told ≡ refusal (exactly s.too_long)
-long s o told text is more = ap (by_text s o) is ∙ cond-true (nat_lt s.limit (length text)) (refusal (exactly s.too_long)) (o text) ((Decides-ltb s.limit (length text)).1 more)
-
-short : (s : Source) (o : Text → Outcome) (told : Told) (text : Text) → told ≡ holds text → length text ≤ s.limit → by_text s o told ≡ o text
-short s o told text is few = ap (by_text s o) is
-    ∙ cond-false (nat_lt s.limit (length text)) (refusal (exactly s.too_long)) (o text) (false_from_ne_true (nat_lt s.limit (length text)) (λ e. omega (arith, (Decides-ltb s.limit (length text)).0 e, few)))
 
 -- an order's file, and a course behind one that is an order
 abbrev order_source : Text → Source

@@ -1,19 +1,17 @@
 -- The answers to the lines of a spans text, one line after the other, and their steps.
-use Rattle.std.proofs.Common.{◌≡◌, ℕ, ◌+◌, ◌^◌, ◌≤◌, List, [], ◌∷◌, ◌++◌, length, sym, ◌∙◌, ap, subst, arith, append_assoc, Option, Some, None, Result, Ok, Err}
+use Rattle.std.proofs.Common.{◌≡◌, ℕ, ◌+◌, ◌^◌, ◌≤◌, List, [], ◌∷◌, ◌++◌, length, sym, ◌∙◌, ap, subst, arith, append_assoc, Result, Ok, Err}
 use Rattle.std.specs.Prelude.{codes}
 use Rattle.std.specs.List.{flat_map, sum_by}
-use Rattle.std.specs.Option.{option_map_or}
 use Rattle.std.proofs.lemmas.List.Sums.{sum_by-cons}
 use Rattle.loc_io.specs.declared.sink.WriteFault.{WriteFault}
 use Rattle.loc_io.specs.Streams.{Stream}
 use Rattle.loc_page.specs.Puts.{PutsText}
 use Rattle.loc_page.proofs.Pages.{Goes, goes_more, stop}
 use Rattle.loc_spec_plane.specs.Points.{Point}
-use Rattle.loc_spec_plane.specs.Spans.{met_at}
 use Rattle.loc_spec_plane.specs.Tables.{Table}
 use Rattle.loc_spec_text.specs.Bytes.{Text, lines}
 use Rattle.loc_spec_text.specs.Points.{ended}
-use Rattle.loc_spec_text.specs.Spans.{met_text, numbered, span_answer, span_of}
+use Rattle.loc_spec_text.specs.Spans.{met_text, numbered}
 use Rattle.loc_place.proofs.SearchBounds.{greatest_is}
 use Rattle.loc_stab.specs.Runs.{run_at}
 use Rattle.loc_stab.proofs.Ranges.{goes_stop}
@@ -28,16 +26,6 @@ pub within_span : (t : Table) (low high : Point) (before after : ℕ) → (s : �
 within_span t low high before after few = let took = few.1 in let most = greatest_is (seek_bound t low) few.0 few.2 in omega (arith, took, most)
 
 module _ (scale : ℕ) (t : Table) where
-  -- the answer to a line that reads as a span, and to one that does not
-  pub span_line : (line : Text) (span : Point × Point) → span_of scale line ≡ Some span → line_answer scale t line ≡ met_text (met_at t span.0 span.1)
-  span_line line span is = ap (λ (o : Option (Point × Point)). span_answer (λ _. o) (λ s. met_at t s.0 s.1) line) is
-
-  pub unread_line : (line : Text) → span_of scale line ≡ None → ended (line_answer scale t line) ≡ codes "unread\n"
-  unread_line line is = ap (λ (o : Option (Point × Point)). ended (span_answer (λ _. o) (λ s. met_at t s.0 s.1) line)) is
-
-  pub steps_line : (line : Text) (span : Point × Point) → span_of scale line ≡ Some span → line_steps scale t line ≡ span_steps t span
-  steps_line line span is = ap (λ (o : Option (Point × Point)). option_map_or (span_steps t) o 0) is
-
   -- one line more
   output_next : (rest line more : Text) → lines rest ≡ line ∷ lines more → met_output scale t rest ≡ ended (line_answer scale t line) ++ met_output scale t more
   unfolding met_output

@@ -1,7 +1,6 @@
 -- What the told files of spans come to, as rows: each refusal, and the answers.
-use Rattle.std.proofs.Common.{◌≡◌, ◌<◌, ◌≤◌, true, List, length, Ok, Err, ◌∙◌, ap, arith, codes}
-use Rattle.std.specs.Prelude.{nat_lt}
-use Rattle.std.proofs.lemmas.Bool.{cond-true, cond-false, false_from_ne_true}
+use Rattle.std.proofs.Common.{◌≡◌, ◌<◌, ◌≤◌, true, List, length, Ok, Err, ◌∙◌, ap, codes}
+use Rattle.std.proofs.lemmas.Bool.{cond-true}
 use Rattle.std.proofs.lemmas.Bool.Decides.{Decides-ltb}
 use Rattle.loc_io.specs.Meaning.{Told, holds}
 use Rattle.loc_spec_plane.specs.Tables.{piece_count}
@@ -16,6 +15,7 @@ use Rattle.loc_spec_text.specs.Limits.{most_pieces, most_text}
 use Rattle.loc_course.specs.Courses.{Source, Course, refuses}
 use Rattle.loc_course.specs.Outcomes.{Outcome, refusal, output, by_text, exactly, outcome}
 use Rattle.loc_course.specs.Stops.{source}
+use Rattle.loc_course.proofs.Texts.{long, short}
 use Rattle.loc_maps.specs.Conflicts.{names_conflict}
 use Rattle.loc_maps.specs.LineTexts.{layer_fault_text, pieces_text}
 use Rattle.loc_maps.specs.Located.{edges_of, table_in}
@@ -24,13 +24,6 @@ use Rattle.loc_maps.specs.Maps.{HasFewPieces, has_many_pieces}
 use Rattle.loc_maps.proofs.Judged.{on_apart, on_few_pieces}
 use Rattle.loc_reach.specs.SpanCourses.{answered_course, met_output, spans_course, stab_course}
 use Rattle.loc_reach.specs.Stabs.{IsApart}
-
-long : (s : Source) (o : Text → Outcome) (told : Told) (text : Text) → told ≡ holds text → s.limit < length text → by_text s o told ≡ refusal (exactly s.too_long)
-long s o told text is more = ap (by_text s o) is ∙ cond-true (nat_lt s.limit (length text)) (refusal (exactly s.too_long)) (o text) ((Decides-ltb s.limit (length text)).1 more)
-
-short : (s : Source) (o : Text → Outcome) (told : Told) (text : Text) → told ≡ holds text → length text ≤ s.limit → by_text s o told ≡ o text
-short s o told text is few = ap (by_text s o) is
-    ∙ cond-false (nat_lt s.limit (length text)) (refusal (exactly s.too_long)) (o text) (false_from_ne_true (nat_lt s.limit (length text)) (λ e. omega (arith, (Decides-ltb s.limit (length text)).0 e, few)))
 
 module _ (told : Text → Told) (file : LayerFile) (spans layer : Text) (is : told file.name ≡ holds layer) where
   abbrev next : List Feature → Course

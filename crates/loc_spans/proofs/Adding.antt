@@ -1,7 +1,6 @@
 -- One feature more, and boxes in another order.
-use Rattle.std.proofs.Common.{◌≡◌, ℕ, zero, suc, ◌+◌, ◌<◌, ◌≤◌, true, false, List, [], ◌∷◌, ◌++◌, length, map, filter, get_or, sym, ◌∙◌, ap, ap₂, subst, inl, inr, arith, length-append, append-nil, add-one}
+use Rattle.std.proofs.Common.{◌≡◌, ℕ, ◌+◌, ◌<◌, ◌≤◌, true, false, List, [], ◌∷◌, ◌++◌, length, map, filter, get_or, sym, ◌∙◌, ap, ap₂, subst, inl, inr, arith, length-append, append-nil}
 use Rattle.std.specs.Ordering.{is_lt}
-use Rattle.std.specs.List.{range_with_len}
 use Rattle.std.specs.List.Sorted.{IsPermutation, IsSorted, IsSortedByKey}
 use Rattle.std.proofs.lemmas.Bool.{cases_lt, cond-true, cond-false}
 use Rattle.std.proofs.lemmas.List.{get_or_append_left, get_or_push, get_or-map, length-map, map-append}
@@ -10,20 +9,14 @@ use Rattle.std.proofs.lemmas.List.Sorted.{All-permutation, IsPermutation-map}
 use Rattle.loc_spec_plane.specs.Lists.{numbers}
 use Rattle.loc_spec_plane.specs.Points.{Edge}
 use Rattle.loc_spec_plane.specs.Rings.{Rings, segments}
+use Rattle.loc_laws_order.proofs.Kept.{numbers_more}
 use Rattle.loc_laws_noding.proofs.Orders.{edge_cmp}
 use Rattle.loc_laws_any.specs.Moments.{AreClosed}
 use Rattle.loc_spans.specs.Boxes.{Kept, AreBoxes, AreKept, IsBoxOf, IsBoxed, feature_of, has_segments}
 
-range_next : (a n : ℕ) → range_with_len a (suc n) ≡ range_with_len a n ++ (a + n) ∷ []
-range_next a zero = let same : a ≡ a + 0 = omega arith in ap (λ k. k ∷ []) same
-range_next a (suc n) = let same : (a + 1) + n ≡ a + suc n = omega arith in ap (λ ns. a ∷ ns) (range_next (a + 1) n ∙ ap (λ k. range_with_len (a + 1) n ++ k ∷ []) same)
-
-numbers_on : (n : ℕ) → numbers (n + 1) ≡ numbers n ++ n ∷ []
-numbers_on n = ap (range_with_len 0) (add-one n) ∙ (range_next 0 n ∙ ap (λ k. numbers n ++ k ∷ []) (let same : 0 + n ≡ n = omega arith in same))
-
 module _ (layer : List Rings) (boxes : List Kept) (n : ℕ) (are : AreBoxes layer boxes n) where
   named_on : (last : List ℕ) → filter (has_segments layer) (n ∷ []) ≡ last → map feature_of boxes ++ last ≡ filter (has_segments layer) (numbers (n + 1))
-  named_on last is = ap₂ (λ a b. a ++ b) are.named (sym is) ∙ (sym (filter-append (has_segments layer) (numbers n) (n ∷ [])) ∙ ap (filter (has_segments layer)) (sym (numbers_on n)))
+  named_on last is = ap₂ (λ a b. a ++ b) are.named (sym is) ∙ (sym (filter-append (has_segments layer) (numbers n) (n ∷ [])) ∙ ap (filter (has_segments layer)) (sym (numbers_more n)))
 
   -- a feature without segments
   pub no_box : has_segments layer n ≡ false → AreBoxes layer boxes (n + 1)

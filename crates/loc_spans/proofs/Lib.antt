@@ -5,5 +5,4 @@ mod Idle
 mod Nexts
 mod Ordered
 mod Seen
-mod Sided
 mod Widening

@@ -4,10 +4,10 @@ use Rattle.std.specs.Ordering.{is_lt}
 use Rattle.std.specs.List.Sorted.{IsSorted}
 use Rattle.std.proofs.lemmas.Bool.{both_ways, or_left, false_from_ne_true, not_from_false}
 use Rattle.loc_spec_plane.specs.Points.{Edge, before, same_point, up_to}
+use Rattle.loc_laws_order.proofs.Tests.{up_to_trans, up_to_refl}
 use Rattle.loc_laws_noding.proofs.Orders.{edge_cmp, edges_by_before}
 use Rattle.loc_laws_noding.proofs.SortedSet.{less}
 use Rattle.loc_spans.specs.Rows.{row_at, BeginInOrder}
-use Rattle.loc_spans.proofs.Growing.{up_to_refl, up_to_trans}
 
 module _ (rows : List Edge) (sorted : IsSorted edge_cmp rows) where
   one_on : (k : ℕ) (d : Edge) → k + 1 < length rows → up_to (row_at rows k d).lo (row_at rows (k + 1) d).lo ≡ true

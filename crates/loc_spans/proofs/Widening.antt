@@ -8,11 +8,11 @@ use Rattle.std.proofs.lemmas.List.{take_more}
 use Rattle.loc_spec_plane.specs.Points.{Point, Edge, before, up_to}
 use Rattle.loc_laws_order.proofs.Sets.{all_joined, all_weaker}
 use Rattle.loc_laws_order.proofs.Sides.{le_decides}
+use Rattle.loc_laws_order.proofs.Tests.{up_to_trans}
 use Rattle.loc_laws_any.specs.Boxes.{is_boxed}
 use Rattle.loc_laws_any.proofs.Boxes.{before-up_to, up_to-before}
 use Rattle.loc_spans.specs.declared.extents.Around.{Around}
 use Rattle.loc_spans.specs.Around.{IsWider}
-use Rattle.loc_spans.proofs.Growing.{up_to_trans}
 
 -- from a first moment to a last
 pub goes_up : (first lo hi last : Point) → up_to first lo ≡ true → before lo hi ≡ true → up_to hi last ≡ true → before first last ≡ true

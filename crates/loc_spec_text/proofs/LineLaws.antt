@@ -1,5 +1,5 @@
 -- Laws of lines: of a text that is cut at an LF, and of a text that comes in pieces.
-use Rattle.std.proofs.Common.{◌≡◌, ◌≢◌, ℕ, ◌≤◌, List, [], ◌∷◌, ◌++◌, length, Bool, true, false, refl, sym, ◌∙◌, ap, ap₂, arith}
+use Rattle.std.proofs.Common.{◌≡◌, ℕ, List, [], ◌∷◌, ◌++◌, Bool, true, false, refl, sym, ◌∙◌, ap, ap₂}
 use Rattle.std.specs.Prelude.{◌==◌, if◌then◌else◌}
 use Rattle.std.specs.List.{onto_first, AllByRecursion}
 use Rattle.loc_spec_text.specs.Bytes.{lines, split_lines, onto_split, ended_lines, unfinished}
@@ -59,38 +59,3 @@ unfinished-append text piece = (split-append text piece).1
 pub lines-cons : (line text : List ℕ) → AllByRecursion (λ b. (b == 10) ≡ false) line → lines (line ++ 10 ∷ text) ≡ line ∷ lines text
 lines-cons [] text h = refl
 lines-cons (b ∷ line) text h = rw (h.0, lines-cons line text h.1) refl
-
--- a text that is cut behind an LF has the lines of both parts
-pub lines-append : (a b : List ℕ) → lines (a ++ 10 ∷ b) ≡ lines (a ++ 10 ∷ []) ++ lines b
-lines-append [] b = refl
-lines-append (x ∷ a) b = go (x == 10) (lines (a ++ 10 ∷ [])) refl (lines-append a b)
-  where
-    nonempty : (a : List ℕ) → lines (a ++ 10 ∷ []) ≢ []
-    nonempty [] e = cc
-    nonempty (y ∷ a) e = here (y == 10) (lines (a ++ 10 ∷ [])) e
-      where
-        here : (t : Bool) (ls : List (List ℕ)) → (if t then [] ∷ ls else onto_first y ls) ≡ [] → ⊥
-        here true ls e = cc
-        here false [] e = cc
-        here false (l ∷ ls) e = cc
-
-    go : (t : Bool) (front : List (List ℕ)) → lines (a ++ 10 ∷ []) ≡ front → lines (a ++ 10 ∷ b) ≡ front ++ lines b
-        → (if t then [] ∷ lines (a ++ 10 ∷ b) else onto_first x (lines (a ++ 10 ∷ b))) ≡ (if t then [] ∷ front else onto_first x front) ++ lines b
-    go true front e h = ap (λ ls. [] ∷ ls) h
-    go false [] e h = absurd (nonempty a e)
-    go false (l ∷ ls) e h = ap (onto_first x) h
-
-onto_first-more : (b : ℕ) (front all : List (List ℕ)) → length front ≤ length all → length (onto_first b front) ≤ length (onto_first b all)
-onto_first-more b [] [] more = omega arith
-onto_first-more b [] (line ∷ all) more = omega arith
-onto_first-more b (line ∷ front) [] more = absurd (omega (arith, more))
-onto_first-more b (line ∷ front) (other ∷ all) more = omega (arith, more)
-
--- a front of a text has no more lines than the text
-pub lines-front : (text rest : List ℕ) → length (lines text) ≤ length (lines (text ++ rest))
-lines-front [] rest = omega arith
-lines-front (b ∷ text) rest = by (b == 10) (lines text) (lines (text ++ rest)) (lines-front text rest)
-  where
-    by : (t : Bool) (front all : List (List ℕ)) → length front ≤ length all → length (if t then [] ∷ front else onto_first b front) ≤ length (if t then [] ∷ all else onto_first b all)
-    by true front all more = omega (arith, more)
-    by false front all more = onto_first-more b front all more

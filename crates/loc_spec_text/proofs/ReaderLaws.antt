@@ -2,7 +2,7 @@
 use Rattle.std.proofs.Common.{◌≡◌, ◌≢◌, ◌⊎◌, ℕ, zero, suc, ◌+◌, ◌≤◌, List, [], ◌∷◌, ◌++◌, length, Bool, true, false, Option, Some, None, option_map, option_and_then, refl, sym, ◌∙◌, ap, ap₂, inl, inr, arith, append_assoc, append-nil, length-append, codes, bytes_eq}
 use Rattle.std.specs.Prelude.{⊤}
 use Rattle.std.specs.List.{AllByRecursion}
-use Rattle.std.proofs.lemmas.Option.{option_and_then_some, some_pair_parts, cond_some, same_Some, none-some}
+use Rattle.std.proofs.lemmas.Option.{option_and_then_some, some_pair_parts, cond_some, none-some}
 use Rattle.std.proofs.lemmas.Slice.Eq.{bytes_eq-Decides}
 use Rattle.loc_spec_text.specs.Reader.{Reader, onto, next, members_at, enclosed_at, list_at, point_at, wide_end, wide_more, wide_point_at, one_of, all_of, tree_after, tree_of, geometry_of, wide_geometry_of}
 use Rattle.std.specs.Prelude.{Result, Err, MatchOption}
@@ -245,18 +245,6 @@ module _ {P : Type 0} (numbers_of : P → List (List ℕ)) (read : Reader P) (la
   pub read-IsTree : (text : List ℕ) (t : List (Polygon P)) → tree_of polygon_at (symbols text) ≡ Some t → IsTree numbers_of text t
   read-IsTree text t e = let s = tree-sound (symbols text) t e in
       record { spelled = s.0; points = all_in (λ rings. all_in (λ r good. good.1) rings) t s.1 }
-
-  -- a text has at most one tree
-  pub one_tree : (text : List ℕ) (t u : List (Polygon P)) → IsTree numbers_of text t → IsTree numbers_of text u → t ≡ u
-  one_tree text t u h k = same_Some t u (sym (IsTree-read text t h) ∙ IsTree-read text u k)
-
-  -- and it has one or none
-  pub tree_or_none : (text : List ℕ) → ((t : List (Polygon P)) × IsTree numbers_of text t) ⊎ ((t : List (Polygon P)) → IsTree numbers_of text t → ⊥)
-  tree_or_none text = go (tree_of polygon_at (symbols text)) refl
-    where
-      go : (o : Option (List (Polygon P))) → tree_of polygon_at (symbols text) ≡ o → ((t : List (Polygon P)) × IsTree numbers_of text t) ⊎ ((t : List (Polygon P)) → IsTree numbers_of text t → ⊥)
-      go (Some t) e = inl (t, read-IsTree text t e)
-      go None e = inr (λ t h. none-some t (sym e ∙ IsTree-read text t h))
 
 -- the plain reader gives the tree of a text exactly where the grammar does
 pub IsTree-geometry : (text : List ℕ) (t : List (Polygon PointText)) → IsTree numbers text t → geometry_of text ≡ Some t

@@ -1,7 +1,8 @@
 -- Where the symbols of a text are cut: what a reader of tokens knows of the symbols behind its place.
-use Rattle.std.proofs.Common.{◌≡◌, ℕ, List, [], ◌∷◌, Bool, true, false, ◌||◌, not, map, refl, sym, ◌∙◌, ap, ap₂, one-add, take_while}
+use Rattle.std.proofs.Common.{◌≡◌, ℕ, ◌<◌, List, [], ◌∷◌, ◌++◌, length, arith, Bool, true, false, ◌||◌, not, map, refl, sym, ◌∙◌, ap, ap₂, one-add, take_while}
 use Rattle.std.specs.Prelude.{if◌then◌else◌}
-use Rattle.std.specs.List.{onto_first}
+use Rattle.std.specs.List.{list_all, onto_first}
+use Rattle.std.proofs.lemmas.Bool.{and_parts}
 use Rattle.loc_spec_text.specs.Bytes.{is_white, drop_while}
 use Rattle.loc_spec_text.specs.Geometry.{runs, symbols, symbol_of, is_mark, is_break, ends_symbol}
 
@@ -92,3 +93,20 @@ symbols-longest b text h = ap (map symbol_of) (runs-longest b text h)
 -- and a mark is one by itself
 pub symbols-mark : (b : ℕ) (text : List ℕ) → is_white b ≡ false → is_mark b ≡ true → symbols (b ∷ text) ≡ symbol_of (b ∷ []) ∷ symbols text
 symbols-mark b text h k = rw (h, k) refl
+
+-- parts of symbols in front of a break are taken whole
+pub taken : (run rest : List ℕ) → list_all is_plain run ≡ true → ends_symbol rest ≡ true → (take_while is_plain (run ++ rest) ≡ run) × (drop_while is_plain (run ++ rest) ≡ rest)
+taken [] [] plain ends = (refl, refl)
+taken [] (b ∷ rest) plain ends = let no : is_plain b ≡ false = simp ends in (simp no, drop_while-no is_plain b rest no)
+taken (c ∷ run) rest plain ends =
+    let parts = and_parts (is_plain c) (list_all is_plain run) plain in
+    let more = taken run rest parts.1 ends in
+    (rw parts.0 (rw one-add (ap (λ l. c ∷ l) more.0)), drop_while-yes is_plain c (run ++ rest) parts.0 ∙ more.1)
+
+-- and are the first symbol
+pub run_first : (run rest : List ℕ) → 0 < length run → list_all is_plain run ≡ true → ends_symbol rest ≡ true → symbols (run ++ rest) ≡ symbol_of run ∷ symbols rest
+run_first [] rest some plain ends = absurd (omega (arith, some))
+run_first (c ∷ run) rest some plain ends =
+    let parts = and_parts (is_plain c) (list_all is_plain run) plain in
+    let all = taken run rest parts.1 ends in
+    symbols-longest c (run ++ rest) parts.0 ∙ ap₂ (λ a b. symbol_of (c ∷ a) ∷ symbols b) all.0 all.1

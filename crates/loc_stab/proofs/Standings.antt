@@ -15,16 +15,17 @@ use Rattle.loc_place.proofs.Behind.{is_passed}
 use Rattle.loc_place.proofs.Versions.{version_there}
 use Rattle.loc_laws_order.proofs.AliveAt.{IsPassed, at_corner}
 use Rattle.loc_laws_order.proofs.Sides.{same_point-true}
+use Rattle.loc_laws_order.proofs.Tests.{up_to_trans}
 use Rattle.loc_persist.specs.Meaning.{VersionsMeaning}
 use Rattle.loc_treeidx.specs.Standing.{AreVersionsOf}
 use Rattle.loc_spec_plane.specs.Spans.{IsSpan, met_at, ends_at_low, is_later}
 use Rattle.loc_spec_text.specs.Spans.{numbered}
 use Rattle.loc_laws_stab.proofs.Beginning.{begin_list}
-use Rattle.loc_laws_stab.proofs.Columns.{at_most_trans, span_up}
+use Rattle.loc_laws_stab.proofs.Columns.{span_up}
 use Rattle.loc_laws_stab.proofs.MetLists.{later_list, ending_list, no_ending}
 use Rattle.loc_laws_stab.proofs.RunOfRest.{run_of_rest}
 use Rattle.loc_laws_stab.proofs.Runs.{run_is_sorted}
-use Rattle.loc_stab.specs.Ended.{IsCornerIn, ended_at}
+use Rattle.loc_stab.specs.Ended.{ended_at}
 use Rattle.loc_stab.specs.Runs.{run_at}
 
 module _ (t : Table) (p : Point) where
@@ -43,11 +44,6 @@ module _ (t : Table) (p : Point) where
   pub version_on : (m : VersionsMeaning) → AreVersionsOf t m → (c : ℕ) → is_corner_of t p c ≡ true → IsListAt t p (get_or m.sealed_lists c [])
   version_on m stands c h = let at = on_corner c h in subst (λ (q : Point). IsListAt t q (get_or m.sealed_lists c [])) at.1 (stands.versions.are c at.0)
 
-  -- a corner on which it stands is one of the table
-  pub corner_in : (at : Standing) → IsStanding t p at → IsCornerIn t at
-  corner_in (OnCorner c) h = (on_corner c h).0
-  corner_in (Behind n) h = tt
-
 module _ (t : Table) (low high : Point) (span : IsSpan low high) where
   -- before the first corner nothing is alive
   pub run_none : (m : VersionsMeaning) → AreVersionsOf t m → IsBehind t low 0 → run_at t low high ≡ []
@@ -64,7 +60,7 @@ module _ (t : Table) (low high : Point) (span : IsSpan low high) where
     | inl less ↦ absurd (
         let fits : m < length t.corners = omega (arith, less, within) in
         let first : up_to (corner t m) low ≡ true = passed_low.passed m fits ∙ lt-ltb m n less in
-        both_ways (nat_lt m m) (le-ltb m m (omega arith)) (sym (passed_high.passed m fits) ∙ at_most_trans (corner t m) low high first (span_up low high span)))
+        both_ways (nat_lt m m) (le-ltb m m (omega arith)) (sym (passed_high.passed m fits) ∙ up_to_trans (corner t m) low high first (span_up low high span)))
   ]
 
   -- the edges that end at the low point, by where it stands

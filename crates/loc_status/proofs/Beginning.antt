@@ -8,7 +8,7 @@ use Rattle.loc_spec_plane.specs.Places.{alive, lower, neighbours_rise, is_chain}
 use Rattle.loc_edges.specs.Placing.{deciding_end}
 use Rattle.loc_laws_order.proofs.Forms.{side_of, Touch, Cross, Conflict, LiesInside}
 use Rattle.loc_laws_order.proofs.Pair.{side_lo}
-use Rattle.loc_laws_order.proofs.Sides.{before_decides, before_irrefl, before-differ, above_decides, below_decides, above-not_below, on-not_above, on-not_below, low_is_on, same_point-true, same_point_sym, same-from_neither, turn_swap}
+use Rattle.loc_laws_order.proofs.Sides.{before_decides, before_irrefl, before-differ, above_decides, below_decides, above-not_below, on-not_above, on-not_below, low_is_on, same_point-true, same_point_sym, same-from_neither, turn_swap, lower_common}
 use Rattle.loc_laws_order.proofs.Tests.{all-get, chain-is, conflict-is, is_above_decides, is_below_decides, lower_decides, same_point_decides}
 use Rattle.loc_laws_order.proofs.ChainLaws.{chain_above}
 use Rattle.loc_laws_order.proofs.ChainLaws as ChainLaws
@@ -28,13 +28,6 @@ common_end a b common = cond-true (same_point a.lo b.lo) b.hi b.lo common
 
 pub other_end : (a b : Edge) → same_point a.lo b.lo ≡ false → deciding_end a b ≡ b.lo
 other_end a b apart = cond-false (same_point a.lo b.lo) b.hi b.lo apart
-
--- of two edges that begin at one point, a is lower where b's upper end is above it
-pub lower_common : (a b : Edge) → a.lo ≡ b.lo → lower a b ≡ is_above a b.hi
-lower_common a b same =
-    let first : before a.lo b.lo ≡ false = subst (λ p. before a.lo p ≡ false) same (before_irrefl a.lo) in
-    let second : before b.lo a.lo ≡ false = subst (λ p. before p a.lo ≡ false) same (before_irrefl a.lo) in
-    cond-false (before a.lo b.lo) _ _ first ∙ cond-false (before b.lo a.lo) _ _ second
 
 -- where a is alive at b's lower end, a is lower than b exactly where b begins above it
 pub lower_is : (a b : Edge) → alive a b.lo ≡ true → lower a b ≡ begins_above a b

@@ -13,7 +13,7 @@ use Rattle.loc_spec_plane.specs.Points.{Point, Edge, before, up_to, same_point, 
 use Rattle.loc_spec_plane.specs.Tables.{Table, IsTable, corner, edge, lo_of}
 use Rattle.loc_spec_plane.specs.Places.{alive, lower, neighbours_rise, is_chain}
 use Rattle.loc_laws_order.proofs.Sets.{number_swap}
-use Rattle.loc_laws_order.proofs.Sides.{before_either, same_point_sym, before_irrefl, same_point-true}
+use Rattle.loc_laws_order.proofs.Sides.{before_either, same_point_sym, before_irrefl, same_point-true, lower_common}
 use Rattle.loc_laws_order.proofs.Tests.{same_edge_decides}
 use Rattle.loc_laws_order.proofs.TableOrder.{edge_up}
 use Rattle.loc_laws_order.proofs.ListLaws.{get-map}
@@ -23,7 +23,7 @@ use Rattle.loc_status.specs.Lists.{is_chain_at, GoesAbove, GoesBelow, IsBeside, 
 use Rattle.loc_edges.specs.declared.ranks.Placing.TheVariants.{Below, Above}
 use Rattle.loc_edges.specs.Placing.{IsPlacing}
 use Rattle.loc_status.proofs.Ends.{at_seam, member_place}
-use Rattle.loc_status.proofs.Beginning.{common_end, other_end, lower_common, lower_is, below_to_above, chain_alive}
+use Rattle.loc_status.proofs.Beginning.{common_end, other_end, lower_is, below_to_above, chain_alive}
 use Rattle.loc_status.proofs.Standing.{chain_in_range}
 use Rattle.loc_sweep.specs.Line.{AreApart, IsInRange}
 

@@ -15,7 +15,6 @@ use Rattle.loc_indexed.specs.Building.{build_course, is_index_text}
 use Rattle.loc_indexed.proofs.Behind.{ask_makes_none, ask_refuses_behind}
 use Rattle.loc_indexed.proofs.MadeCourses.{makes_one, writes_at_once}
 use Rattle.loc_indexed.proofs.VerifyRows.{verify_plain}
-use Rattle.loc_maps.specs.MapCourses.{layer_file}
 use Rattle.loc_maps.proofs.Checked.{check_plain}
 use Rattle.loc_query.proofs.Headlines.{query_makes_none, query_refuses_behind}
 use Rattle.loc_features.proofs.Ended.{features_makes_none, features_refuses_behind}
@@ -26,7 +25,7 @@ use Rattle.loc_reach.proofs.Plainly.{stab_plain}
 use Rattle.loc_trial.proofs.Plain.{gen_plain, trial_plain}
 use Rattle.loc_upgrade.specs.UpgradeCourses.{upgrade_course}
 use Rattle.loc_upgrade.proofs.Along.{edges_plain, upgrade_at_once, upgrade_makes_one}
-use Rattle.loc_top.specs.Run.{FilesOf, OutOf, Ran, RefusesPoints, RefusesWords, RunSentences, WritesFail, course_by, made_by}
+use Rattle.loc_top.specs.Run.{FilesOf, OutOf, Ran, RefusesPoints, RefusesWords, RunSentences, WritesFail, course_by, file_of, made_by}
 
 -- a command makes no file but this, and by these lines alone it refuses a file whose lines it answers
 pub record IsAnswering (made : Option Text) (c : Course) : Type 0 where
@@ -39,19 +38,19 @@ plain_answering made c plain = record { makes = λ name differ. plain.makes_none
 
 answering : (a : Asked) → IsAnswering (made_by a) (course_by a)
 answering (query asked) =
-    let file = layer_file asked.layer asked.form asked.scale in
+    let file = file_of asked.layer in
     record { makes = λ name differ. query_makes_none asked.index asked.order asked.faces file asked.points name; line = λ line by. inl (query_refuses_behind asked.index asked.order asked.faces file asked.points line by) }
 answering (features asked) =
-    let file = layer_file asked.layer asked.form asked.scale in
+    let file = file_of asked.layer in
     record { makes = λ name differ. features_makes_none file asked.points name; line = λ line by. inl (features_refuses_behind file asked.points line by) }
-answering (check asked) = plain_answering None (course_by (check asked)) (check_plain (layer_file asked.layer asked.form asked.scale))
+answering (check asked) = plain_answering None (course_by (check asked)) (check_plain (file_of asked))
 answering (build asked) =
-    let file = layer_file asked.layer asked.form asked.scale in
-    let passes = is_index_text asked.scale in
+    let file = file_of asked.layer in
+    let passes = is_index_text asked.layer.scale in
     record { makes = λ name differ. makes_one passes file asked.index name (λ same. differ (ap Some (sym same))); line = λ line by. absurd (none_behind (build_course file asked.index) line (writes_at_once passes file asked.index) by) }
 answering (ask asked) = record { makes = λ name differ. ask_makes_none asked.index asked.points name; line = ask_refuses_behind asked.index asked.points }
 answering (verify asked) = plain_answering None (course_by (verify asked)) (verify_plain asked.index)
-answering (face asked) = plain_answering None (course_by (face asked)) (face_plain (layer_file asked.layer asked.form asked.scale) asked.point)
+answering (face asked) = plain_answering None (course_by (face asked)) (face_plain (file_of asked.layer) asked.point)
 answering (gen asked) = plain_answering None (course_by (gen asked)) (gen_plain asked.kind asked.n asked.shift)
 answering (trial asked) = plain_answering None (course_by (trial asked)) (trial_plain asked.index asked.kind asked.n asked.shift)
 answering (upgrade asked) = record {
@@ -59,9 +58,9 @@ answering (upgrade asked) = record {
   line = λ line by. absurd (none_behind (upgrade_course asked.old asked.new) line (upgrade_at_once asked.old asked.new) by);
 }
 answering (edges asked) = plain_answering None (course_by (edges asked)) (edges_plain asked.index)
-answering (stab asked) = plain_answering None (course_by (stab asked)) (stab_plain (layer_file asked.layer asked.form asked.scale) asked.spans)
-answering (valid asked) = plain_answering None (course_by (valid asked)) (valid_plain (layer_file asked.layer asked.form asked.scale))
-answering (dissolve asked) = plain_answering None (course_by (dissolve asked)) (dissolve_plain (layer_file asked.layer asked.form asked.scale))
+answering (stab asked) = plain_answering None (course_by (stab asked)) (stab_plain (file_of asked.layer) asked.spans)
+answering (valid asked) = plain_answering None (course_by (valid asked)) (valid_plain (file_of asked))
+answering (dissolve asked) = plain_answering None (course_by (dissolve asked)) (dissolve_plain (file_of asked))
 
 answering_of : (o : Option Asked) (c : Course) → option_map course_by o ≡ Some c → IsAnswering (option_and_then made_by o) c
 answering_of None c is = absurd (cc is)

@@ -1,4 +1,5 @@
 -- What a run is, by its words. The words:
+--   file_of               the file of a layer that a command names
 --   course_by, course_of  the course of a command, and of words that are one
 --   made_by               the file that a command makes
 --   Untouched, Ran        what a run of words comes to
@@ -13,7 +14,7 @@ use Rattle.loc_io.specs.Meaning.{KeepsFiles}
 use Rattle.loc_io.specs.Streams.{InTime, Stream}
 use Rattle.loc_spec_text.specs.Points.{ended}
 use Rattle.loc_words.specs.Usage.{usage_text}
-use Rattle.loc_words.specs.Words.{Asked, query, features, check, build, ask, verify, face, gen, trial, upgrade, edges, stab, valid, dissolve, command_of}
+use Rattle.loc_words.specs.Words.{Asked, AskedLayer, query, features, check, build, ask, verify, face, gen, trial, upgrade, edges, stab, valid, dissolve, command_of}
 use Rattle.loc_course.specs.Courses.{Course, no_memory}
 use Rattle.loc_course.specs.Following.{IsToldAtMost}
 use Rattle.loc_course.specs.Moments.{Moment}
@@ -23,7 +24,7 @@ use Rattle.loc_answering.specs.ByLine.{deep_text}
 use Rattle.loc_indexed.specs.Building.{build_course}
 use Rattle.loc_indexed.specs.IndexedCourses.{ask_course}
 use Rattle.loc_indexed.specs.Verifying.{verify_course}
-use Rattle.loc_maps.specs.MapCourses.{check_course, layer_file}
+use Rattle.loc_maps.specs.MapCourses.{LayerFile, check_course, layer_file}
 use Rattle.loc_query.specs.QueryCourses.{query_course}
 use Rattle.loc_features.specs.FeatureCourses.{features_course}
 use Rattle.loc_face.specs.FaceCourses.{face_course}
@@ -33,22 +34,26 @@ use Rattle.loc_reach.specs.SpanCourses.{stab_course}
 use Rattle.loc_trial.specs.TrialCourses.{gen_course, trial_course}
 use Rattle.loc_upgrade.specs.UpgradeCourses.{edges_course, upgrade_course}
 
+-- the file of a layer that a command names
+abbrev pub file_of : AskedLayer → LayerFile
+file_of layer = layer_file layer.name layer.form layer.scale
+
 -- the course of a command
 abbrev pub course_by : Asked → Course
-course_by (query asked) = query_course asked.index asked.order asked.faces (layer_file asked.layer asked.form asked.scale) asked.points
-course_by (features asked) = features_course (layer_file asked.layer asked.form asked.scale) asked.points
-course_by (check asked) = check_course (layer_file asked.layer asked.form asked.scale)
-course_by (build asked) = build_course (layer_file asked.layer asked.form asked.scale) asked.index
+course_by (query asked) = query_course asked.index asked.order asked.faces (file_of asked.layer) asked.points
+course_by (features asked) = features_course (file_of asked.layer) asked.points
+course_by (check asked) = check_course (file_of asked)
+course_by (build asked) = build_course (file_of asked.layer) asked.index
 course_by (ask asked) = ask_course asked.index asked.points
 course_by (verify asked) = verify_course asked.index
-course_by (face asked) = face_course (layer_file asked.layer asked.form asked.scale) asked.point
+course_by (face asked) = face_course (file_of asked.layer) asked.point
 course_by (gen asked) = gen_course asked.kind asked.n asked.shift
 course_by (trial asked) = trial_course asked.index asked.kind asked.n asked.shift
 course_by (upgrade asked) = upgrade_course asked.old asked.new
 course_by (edges asked) = edges_course asked.index
-course_by (stab asked) = stab_course (layer_file asked.layer asked.form asked.scale) asked.spans
-course_by (valid asked) = valid_course (layer_file asked.layer asked.form asked.scale)
-course_by (dissolve asked) = dissolve_course (layer_file asked.layer asked.form asked.scale)
+course_by (stab asked) = stab_course (file_of asked.layer) asked.spans
+course_by (valid asked) = valid_course (file_of asked)
+course_by (dissolve asked) = dissolve_course (file_of asked)
 
 -- the file that a command makes, if it makes one
 abbrev pub made_by : Asked → Option Text

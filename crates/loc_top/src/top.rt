@@ -2,7 +2,7 @@
 
 ghost use Rattle.std.specs.Prelude.{◌≡◌, ◌≤◌, Some, map, string_bytes};
 ghost use Rattle.loc_io.specs.Streams.{InTime};
-ghost use Rattle.loc_words.specs.Words.{AskedAsk, AskedBuild, AskedDissolve, AskedEdges, AskedFeatures, AskedQuery, AskedStab, AskedUpgrade, AskedValid, AskedVerify, ask, build, command_of, dissolve, edges, features, query, stab, upgrade, valid, verify};
+ghost use Rattle.loc_words.specs.Words.{AskedAsk, AskedBuild, AskedEdges, AskedFeatures, AskedLayer, AskedQuery, AskedStab, AskedUpgrade, AskedVerify, ask, build, command_of, dissolve, edges, features, query, stab, upgrade, valid, verify};
 ghost use Rattle.loc_breaches.specs.Judges.{Judges};
 ghost use Rattle.loc_course.specs.Moments.{moment};
 ghost use Rattle.loc_features.specs.FeaturesTold.{FeaturesTold};
@@ -10,12 +10,11 @@ ghost use Rattle.loc_groups.specs.Dissolves.{Dissolves};
 ghost use Rattle.loc_indexed.specs.Asks.{Asks};
 ghost use Rattle.loc_indexed.specs.Builds.{Builds, Built};
 ghost use Rattle.loc_indexed.specs.Verifies.{Judged, Verifies};
-ghost use Rattle.loc_maps.specs.MapCourses.{layer_file};
 ghost use Rattle.loc_query.specs.Headline.{Headline};
 ghost use Rattle.loc_reach.specs.Stabs.{Stabs};
 ghost use Rattle.loc_upgrade.specs.TellsEdges.{Listed, TellsEdges};
 ghost use Rattle.loc_upgrade.specs.Upgrades.{Upgraded, Upgrades};
-ghost use Rattle.loc_top.specs.Run.{FilesOf, Ran, RefusesWords, RunSentences, course_of};
+ghost use Rattle.loc_top.specs.Run.{FilesOf, Ran, RefusesWords, RunSentences, course_of, file_of};
 
 use loc_breaches::valid;
 use loc_course::{Stop, report, write_text};
@@ -47,7 +46,7 @@ fn run_course<F: Shelf, O: Sink, N: Sink, L: Ledger>(
     ensures ran { Ran (course_of (map string_bytes words.now))
         (moment (F.meaning shelf.old) (O.meaning out.old) steps.old)
         (moment (F.meaning shelf.new) (O.meaning out.new) steps.new) (N.meaning notes.old) (N.meaning notes.new) result }
-    ensures built { (asked : AskedBuild) → command_of (map string_bytes words.now) ≡ Some (build asked) → Built (layer_file asked.layer asked.form asked.scale) asked.index (F.meaning shelf.old) (F.meaning shelf.new) result }
+    ensures built { (asked : AskedBuild) → command_of (map string_bytes words.now) ≡ Some (build asked) → Built (file_of asked.layer) asked.index (F.meaning shelf.old) (F.meaning shelf.new) result }
     ensures judged { (asked : AskedVerify) → command_of (map string_bytes words.now) ≡ Some (verify asked) → Judged ((F.meaning shelf.old).told asked.index) result }
     ensures upgraded { (asked : AskedUpgrade) → command_of (map string_bytes words.now) ≡ Some (upgrade asked) → Upgraded asked.old asked.new (F.meaning shelf.old) (F.meaning shelf.new) result }
     ensures listed { (asked : AskedEdges) → command_of (map string_bytes words.now) ≡ Some (edges asked) → Listed ((F.meaning shelf.old).told asked.index) result }
@@ -55,12 +54,13 @@ fn run_course<F: Shelf, O: Sink, N: Sink, L: Ledger>(
 {
     match command_of(alloc, words) {
         Ok(Command::Query(asked)) => {
+            let layer = asked.layer;
             let outcome = query(
                 alloc,
-                asked.layer,
+                layer.name,
                 asked.points,
-                asked.form,
-                Scale::new(asked.scale),
+                layer.form,
+                Scale::new(layer.scale),
                 asked.index,
                 asked.order,
                 asked.faces,
@@ -71,38 +71,20 @@ fn run_course<F: Shelf, O: Sink, N: Sink, L: Ledger>(
             report(outcome, notes)
         }
         Ok(Command::Features(asked)) => {
-            let outcome = features(
-                alloc,
-                asked.layer,
-                asked.points,
-                asked.form,
-                Scale::new(asked.scale),
-                shelf,
-                out,
-                steps,
-            );
+            let (name, form) = (asked.layer.name, asked.layer.form);
+            let scale = Scale::new(asked.layer.scale);
+            let outcome = features(alloc, name, asked.points, form, scale, shelf, out, steps);
             report(outcome, notes)
         }
-        Ok(Command::Check(asked)) => {
-            let outcome = check(
-                alloc,
-                asked.layer,
-                asked.form,
-                Scale::new(asked.scale),
-                shelf,
-                out,
-            );
+        Ok(Command::Check(layer)) => {
+            let scale = Scale::new(layer.scale);
+            let outcome = check(alloc, layer.name, layer.form, scale, shelf, out);
             report(outcome, notes)
         }
         Ok(Command::Build(asked)) => {
-            let outcome = build(
-                alloc,
-                asked.layer,
-                asked.index,
-                asked.form,
-                Scale::new(asked.scale),
-                shelf,
-            );
+            let layer = asked.layer;
+            let scale = Scale::new(layer.scale);
+            let outcome = build(alloc, layer.name, asked.index, layer.form, scale, shelf);
             report(outcome, notes)
         }
         Ok(Command::Ask(asked)) => {
@@ -114,16 +96,9 @@ fn run_course<F: Shelf, O: Sink, N: Sink, L: Ledger>(
             report(outcome, notes)
         }
         Ok(Command::Face(asked)) => {
-            let outcome = face(
-                alloc,
-                asked.layer,
-                asked.point,
-                asked.form,
-                Scale::new(asked.scale),
-                shelf,
-                out,
-                steps,
-            );
+            let (name, form) = (asked.layer.name, asked.layer.form);
+            let scale = Scale::new(asked.layer.scale);
+            let outcome = face(alloc, name, asked.point, form, scale, shelf, out, steps);
             report(outcome, notes)
         }
         Ok(Command::Gen(asked)) => {
@@ -142,35 +117,28 @@ fn run_course<F: Shelf, O: Sink, N: Sink, L: Ledger>(
             );
             report(outcome, notes)
         }
-        Ok(Command::Upgrade(asked)) => {
-            let outcome = upgrade(alloc, asked.old, asked.new, shelf);
-            report(outcome, notes)
-        }
         Ok(Command::Edges(asked)) => {
             let outcome = edges(alloc, asked.index, shelf, out);
             report(outcome, notes)
         }
+        Ok(Command::Upgrade(asked)) => {
+            let outcome = upgrade(alloc, asked.old, asked.new, shelf);
+            report(outcome, notes)
+        }
         Ok(Command::Stab(asked)) => {
-            let outcome = stab(
-                alloc,
-                asked.layer,
-                asked.spans,
-                asked.form,
-                Scale::new(asked.scale),
-                shelf,
-                out,
-                steps,
-            );
+            let (name, form) = (asked.layer.name, asked.layer.form);
+            let scale = Scale::new(asked.layer.scale);
+            let outcome = stab(alloc, name, asked.spans, form, scale, shelf, out, steps);
             report(outcome, notes)
         }
-        Ok(Command::Valid(asked)) => {
-            let scale = Scale::new(asked.scale);
-            let outcome = valid(alloc, asked.layer, asked.form, scale, shelf, out);
+        Ok(Command::Valid(layer)) => {
+            let scale = Scale::new(layer.scale);
+            let outcome = valid(alloc, layer.name, layer.form, scale, shelf, out);
             report(outcome, notes)
         }
-        Ok(Command::Dissolve(asked)) => {
-            let scale = Scale::new(asked.scale);
-            let outcome = dissolve(alloc, asked.layer, asked.form, scale, shelf, out);
+        Ok(Command::Dissolve(layer)) => {
+            let scale = Scale::new(layer.scale);
+            let outcome = dissolve(alloc, layer.name, layer.form, scale, shelf, out);
             report(outcome, notes)
         }
         Err(WordsFault::Refused) => {
@@ -191,11 +159,11 @@ pub fn run<F: Shelf, O: Sink, N: Sink, L: Ledger>(
     steps: &mut Steps<L>,
 ) -> u8
     ensures headline { (asked : AskedQuery) → command_of (map string_bytes words.now) ≡ Some (query asked)
-        → Headline asked.index asked.order asked.faces (layer_file asked.layer asked.form asked.scale) asked.points
+        → Headline asked.index asked.order asked.faces (file_of asked.layer) asked.points
         (moment (F.meaning shelf.old) (O.meaning out.old) steps.old)
         (moment (F.meaning shelf.new) (O.meaning out.new) steps.new) (N.meaning notes.old) (N.meaning notes.new) result }
     ensures features { (asked : AskedFeatures) → command_of (map string_bytes words.now) ≡ Some (features asked)
-        → FeaturesTold (layer_file asked.layer asked.form asked.scale) asked.points
+        → FeaturesTold (file_of asked.layer) asked.points
         (moment (F.meaning shelf.old) (O.meaning out.old) steps.old)
         (moment (F.meaning shelf.new) (O.meaning out.new) steps.new) (N.meaning notes.old) (N.meaning notes.new) result }
     ensures asks { (asked : AskedAsk) → command_of (map string_bytes words.now) ≡ Some (ask asked)
@@ -203,7 +171,7 @@ pub fn run<F: Shelf, O: Sink, N: Sink, L: Ledger>(
         (moment (F.meaning shelf.old) (O.meaning out.old) steps.old)
         (moment (F.meaning shelf.new) (O.meaning out.new) steps.new) (N.meaning notes.old) (N.meaning notes.new) result }
     ensures builds { (asked : AskedBuild) → command_of (map string_bytes words.now) ≡ Some (build asked)
-        → Builds (layer_file asked.layer asked.form asked.scale) asked.index
+        → Builds (file_of asked.layer) asked.index
         (moment (F.meaning shelf.old) (O.meaning out.old) steps.old)
         (moment (F.meaning shelf.new) (O.meaning out.new) steps.new) (N.meaning notes.old) (N.meaning notes.new) result }
     ensures verifies { (asked : AskedVerify) → command_of (map string_bytes words.now) ≡ Some (verify asked)
@@ -219,15 +187,15 @@ pub fn run<F: Shelf, O: Sink, N: Sink, L: Ledger>(
         (moment (F.meaning shelf.old) (O.meaning out.old) steps.old)
         (moment (F.meaning shelf.new) (O.meaning out.new) steps.new) (N.meaning notes.old) (N.meaning notes.new) result }
     ensures stabs { (asked : AskedStab) → command_of (map string_bytes words.now) ≡ Some (stab asked)
-        → Stabs (layer_file asked.layer asked.form asked.scale) asked.spans
+        → Stabs (file_of asked.layer) asked.spans
         (moment (F.meaning shelf.old) (O.meaning out.old) steps.old)
         (moment (F.meaning shelf.new) (O.meaning out.new) steps.new) (N.meaning notes.old) (N.meaning notes.new) result }
-    ensures judges { (asked : AskedValid) → command_of (map string_bytes words.now) ≡ Some (valid asked)
-        → Judges (layer_file asked.layer asked.form asked.scale)
+    ensures judges { (asked : AskedLayer) → command_of (map string_bytes words.now) ≡ Some (valid asked)
+        → Judges (file_of asked)
         (moment (F.meaning shelf.old) (O.meaning out.old) steps.old)
         (moment (F.meaning shelf.new) (O.meaning out.new) steps.new) (N.meaning notes.old) (N.meaning notes.new) result }
-    ensures dissolves { (asked : AskedDissolve) → command_of (map string_bytes words.now) ≡ Some (dissolve asked)
-        → Dissolves (layer_file asked.layer asked.form asked.scale)
+    ensures dissolves { (asked : AskedLayer) → command_of (map string_bytes words.now) ≡ Some (dissolve asked)
+        → Dissolves (file_of asked)
         (moment (F.meaning shelf.old) (O.meaning out.old) steps.old)
         (moment (F.meaning shelf.new) (O.meaning out.new) steps.new) (N.meaning notes.old) (N.meaning notes.new) result }
     ensures ran { Ran (course_of (map string_bytes words.now))

@@ -2,11 +2,10 @@
 use Rattle.std.proofs.Common.{◌≡◌, ℕ, zero, suc, ◌+◌, cond, List, [], ◌∷◌, ◌++◌, refl, sym, ◌∙◌, ap, subst, inl, inr, arith}
 use Rattle.std.specs.Prelude.{count_by, nat_lt, ◌==◌, if◌then◌else◌, IsPermutation}
 use Rattle.std.proofs.lemmas.Bool.{cases_lt, cases_eq, eq-eqb, ne_eqb, lt-ltb, le-ltb}
-use Rattle.std.proofs.lemmas.List.{map-id}
-use Rattle.std.proofs.lemmas.List.FromFn.{map-range_with_len_more}
 use Rattle.std.proofs.lemmas.List.Sums.{sum_by-append}
 use Rattle.std.proofs.lemmas.List.Sorted.{sum_by-IsPermutation}
 use Rattle.loc_spec_plane.specs.Lists.{numbers}
+use Rattle.loc_laws_order.proofs.Kept.{numbers_more}
 use Rattle.loc_trapdag.specs.Orders.{IsOrder}
 
 -- a number counts as one where it is the one sought
@@ -22,9 +21,6 @@ many_push e xs x = sum_by-append (one_of e) xs (x ∷ []) ∙ ap (λ n. many_of 
   where
     zero_add : (n : ℕ) → 0 + n ≡ n
     zero_add n = omega arith
-
-pub numbers_more : (n : ℕ) → numbers (n + 1) ≡ numbers n ++ n ∷ []
-numbers_more n = sym (map-id (numbers (n + 1))) ∙ (map-range_with_len_more (λ (k : ℕ). k) 0 n n (omega arith) ∙ ap (λ (xs : List ℕ). xs ++ n ∷ []) (map-id (numbers n)))
 
 -- each number below n stands once among the numbers below n
 pub many_numbers : (e n : ℕ) → many_of e (numbers n) ≡ (if nat_lt e n then 1 else 0)

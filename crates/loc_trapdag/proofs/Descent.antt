@@ -150,10 +150,3 @@ leaf_place t g stands n real leaf p inside =
     let sets : among g.map.added ≡ is_edge t = same_set (among g.map.added) (is_edge t) stands.all in
     area_law t stands.planar.in_order stands.ends stands.planar.apart (row_of g.map.rows n)
     (subst (λ (A : ℕ → Bool). is_trap t A (row_of g.map.rows n) ≡ true) sets (graph.map.map.sound n real (graph.leaf n real leaf))) p inside
-
--- at the start
-pub first_inside : (t : Table) (g : Graph) → IsGraphOf t g → (p : Point) → is_inside t (row_of g.map.rows 0) p ≡ true
-first_inside t g graph p = subst (λ (x : Trap). is_inside t x p ≡ true) (sym graph.first) refl
-
-pub first_begins : (t : Table) (g : Graph) → IsGraphOf t g → (f : ℕ) → begins_in t f (row_of g.map.rows 0) ≡ true
-first_begins t g graph f = subst (λ (x : Trap). begins_in t f x ≡ true) (sym graph.first) refl

@@ -1,15 +1,14 @@
 -- The rows of a text, read one after another: what is wrong so far, and in which line each edge stands.
-use Rattle.std.proofs.Common.{◌≡◌, ◌≢◌, ℕ, zero, suc, ◌+◌, ◌<◌, ◌≤◌, Bool, true, false, not, cond, List, [], ◌∷◌, ◌++◌, length, set, replicate, get_or, get_or-set_other, get_or-set_same, refl, sym, ◌∙◌, ap, subst, ◌⊎◌, inl, inr, arith}
-use Rattle.std.specs.Prelude.{Option, Some, None, find, is_some, filter, map, nat_lt, ◌==◌, if◌then◌else◌, Result, Ok, Err, option_map}
+use Rattle.std.proofs.Common.{◌≡◌, ◌≢◌, ℕ, zero, suc, ◌+◌, ◌<◌, ◌≤◌, Bool, true, false, not, cond, List, [], ◌∷◌, ◌++◌, length, set, get_or, get_or-set_other, get_or-set_same, refl, sym, ◌∙◌, ap, subst, ◌⊎◌, inl, inr, arith}
+use Rattle.std.specs.Prelude.{Option, Some, None, find, is_some, filter, map, nat_lt, ◌==◌, if◌then◌else◌, Ok, Err, option_map}
 use Rattle.std.specs.List.{list_all, enumerate_from}
 use Rattle.std.proofs.lemmas.Bool.{cases_Bool, cases_lt, cases_eq, and_parts, and_from, ltb-true, eq-eqb, ne_eqb, lt-ltb, le-ltb}
-use Rattle.std.proofs.lemmas.List.{append_assoc, append-nil, length-set, get_or-replicate}
-use Rattle.std.proofs.lemmas.List.{length-replicate}
+use Rattle.std.proofs.lemmas.List.{append_assoc, append-nil, length-set}
 use Rattle.loc_spec_plane.specs.Lists.{is_in}
 use Rattle.loc_spec_text.specs.Bytes.{is_blank, lines, or_else, ok_unless}
 use Rattle.loc_trapdag.specs.declared.order.OrderFault.{OrderFault}
-use Rattle.loc_trapdag.specs.declared.order.OrderFault.TheVariants.{NotNumber, OutOfRange, Twice, Missing, NoMemory}
-use Rattle.loc_trapdag.specs.Orders.{IsOrder, IsFaultOf, Row, row_of, is_row, rows_from, has_number, number_fault, fault_behind, numbers_of, missing_edge, order_from, line_number}
+use Rattle.loc_trapdag.specs.declared.order.OrderFault.TheVariants.{OutOfRange, Twice, Missing}
+use Rattle.loc_trapdag.specs.Orders.{IsOrder, Row, row_of, is_row, rows_from, has_number, number_fault, fault_behind, numbers_of, missing_edge, order_from, line_number}
 use Rattle.loc_laws_traps.proofs.Numbers.{find_is_least, least-unique}
 use Rattle.loc_trapdag.proofs.Counts.{one_of, many_of, many_push}
 
@@ -69,41 +68,9 @@ numbers_push (r ∷ rows) line e = push_number r.number r.line rows (rows ++ rec
 
 -- no row is found where the line is 0, since lines are numbered from 1
 module _ (edges : ℕ) (all : List Row) (line_of order : List ℕ) where
-  -- at the start
-  pub read_none : line_of ≡ replicate edges 0 → order ≡ [] → IsRead edges all all line_of order
-  read_none lines_are none = record {
-    done = [];
-    whole = refl;
-    fault = refl;
-    order_is = none;
-    many = ap length lines_are ∙ length-replicate edges 0;
-    stands = λ e less. ap (λ (xs : List ℕ). get_or xs e 0) lines_are ∙ get_or-replicate edges e 0 0 less;
-    positive = refl;
-    once = λ e. ap (many_of e) none ∙ nothing (nat_lt e edges);
-  }
-    where
-      nothing : (b : Bool) → zero ≡ (if b then (if 0 == 0 then 0 else 1) else 0)
-      nothing true = refl
-      nothing false = refl
-
   module _ (rest : List Row) (line : ℕ) (number : Option ℕ) (read : IsRead edges all (record { line = line; number = number } ∷ rest) line_of order) where
-    -- a fault that needs no earlier row
-    same_fault : (o : Option ℕ) (earlier : List Row) (f : OrderFault) → number_fault edges [] line o ≡ Some f → number_fault edges earlier line o ≡ Some f
-    same_fault None earlier f h = h
-    same_fault (Some e) earlier f h = at (nat_lt e edges) h
-      where
-        at : (b : Bool) → (if b then option_map (λ (row : Row). Twice line row.line) (find (has_number e) []) else Some (OutOfRange line)) ≡ Some f → (if b then option_map (λ (row : Row). Twice line row.line) (find (has_number e) earlier) else Some (OutOfRange line)) ≡ Some f
-        at true g = absurd (none_some g)
-          where
-            none_some : None ≡ Some f → ⊥
-            none_some q = cc
-        at false g = g
-
     faulty : (f : OrderFault) → number_fault edges read.done line number ≡ Some f → order_from edges all ≡ Err f
     faulty f h = ap (λ (o : Option OrderFault). ok_unless (or_else o (option_map (λ e. Missing e) (missing_edge edges all))) (numbers_of all)) (read.fault ∙ ap (λ (o : Option OrderFault). or_else o (fault_behind edges (read.done ++ record { line = line; number = number } ∷ []) rest)) h)
-
-    pub edge_fault : (f : OrderFault) → number_fault edges [] line number ≡ Some f → order_from edges all ≡ Err f
-    edge_fault f h = faulty f (same_fault number read.done f h)
 
     module _ (e : ℕ) (is_e : number ≡ Some e) (real : e < edges) where
       abbrev this : Row
@@ -172,14 +139,6 @@ module _ (edges : ℕ) (all : List Row) (line_of order : List ℕ) where
 
               plus_zero : (n : ℕ) → n + 0 ≡ n
               plus_zero n = omega arith
-
--- a fault that is no want of memory
-pub fault_of : (read : Result (List ℕ) OrderFault) (f : OrderFault) → read ≡ Err f → IsFaultOf read f
-fault_of read NoMemory h = tt
-fault_of read (NotNumber line) h = h
-fault_of read (OutOfRange line) h = h
-fault_of read (Twice line earlier) h = h
-fault_of read (Missing edge) h = h
 
 -- ---- all rows are read
 any_of : (e : ℕ) (rows : List Row) → is_in e (numbers_of rows) ≡ is_some (find (has_number e) rows)

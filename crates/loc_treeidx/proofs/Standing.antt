@@ -13,20 +13,14 @@ use Rattle.loc_place.specs.Standing.{IsBehind}
 use Rattle.loc_place.proofs.Versions.{version_there}
 use Rattle.loc_spec_plane.specs.Points.{Point}
 use Rattle.loc_spec_plane.specs.Lists.{is_in}
-use Rattle.loc_spec_plane.specs.Tables.{Table, IsTable, NoConflict, edge_numbers}
+use Rattle.loc_spec_plane.specs.Tables.{Table, edge_numbers}
 use Rattle.loc_spec_plane.specs.Places.{alive_at, IsListAt}
 use Rattle.loc_laws_order.proofs.AliveAt.{alive_parts}
 use Rattle.loc_laws_order.proofs.Kept.{is_in-range}
 use Rattle.loc_laws_order.proofs.Sets.{any_weaker, number_swap}
 use Rattle.loc_place.proofs.Listed.{distinct}
-use Rattle.loc_sweep.specs.Swept.{IsSwept}
-use Rattle.loc_treeidx.specs.Meaning.{meaning_of}
 use Rattle.loc_treeidx.specs.Standing.{AreVersionsOf}
 use Rattle.loc_place.specs.Steps.{alive_count}
-
--- an index that swept a table stands for it
-pub swept_stands : (t : Table) (m : VersionsMeaning) → IsTable t → NoConflict t → IsSwept t (meaning_of m) → AreVersionsOf t m
-swept_stands t m in_order apart swept = record { planar = record { in_order = in_order; apart = apart }; versions = swept.versions }
 
 -- the version of the last corner before a point is the list there
 pub version_behind : (t : Table) (m : VersionsMeaning) (p : Point) (n : ℕ) → AreVersionsOf t m → IsBehind t p n → 0 < n → IsListAt t p (get_or m.sealed_lists (n - 1) [])

@@ -1,5 +1,5 @@
 -- The texts of rectangles and of points, as they are read.
-use Rattle.std.proofs.Common.{◌≡◌, ℕ, ◌+◌, ◌*◌, ◌%◌, ◌^◌, ◌<◌, ◌≤◌, ◌&&◌, true, List, [], ◌∷◌, ◌++◌, length, append_assoc, append-nil, length-append, Some, None, Ok, refl, sym, ◌∙◌, ap, ap₂, arith}
+use Rattle.std.proofs.Common.{◌≡◌, ℕ, ◌+◌, ◌*◌, ◌%◌, ◌^◌, ◌<◌, ◌≤◌, ◌&&◌, true, List, [], ◌∷◌, ◌++◌, length, append_assoc, append-nil, length-append, Some, Ok, refl, sym, ◌∙◌, ap, ap₂, arith}
 use Rattle.std.specs.Prelude.{codes, pos, option_and_then}
 use Rattle.std.specs.Fmt.{decimal}
 use Rattle.std.proofs.lemmas.Bool.{le-leb}
@@ -8,13 +8,13 @@ use Rattle.std.proofs.lemmas.Nat.{mod_below}
 use Rattle.loc_spec_plane.specs.Points.{point_at}
 use Rattle.loc_spec_text.specs.Geometry.{Symbol, number, comma, open_mark, close_mark, word, symbols}
 use Rattle.loc_spec_text.specs.Points.{is_grid_number, point_of, point_on_grid, point_texts}
-use Rattle.loc_spec_text.specs.Reading.{number_fault, reading, ring_fault}
+use Rattle.loc_spec_text.specs.Reading.{reading}
 use Rattle.loc_laws_order.proofs.Sides.{same_point_refl}
 use Rattle.loc_spec_text.specs.Reader.{geometry_of, tree_of, list_at, enclosed_at, point_at as text_point_at}
 use Rattle.loc_gen.specs.declared.features.Rectangle.{Rectangle}
 use Rattle.loc_gen.specs.Layers.{corner_text, feature_text, point_number, start_of}
 use Rattle.loc_trial.specs.Generated.{point_line, ring_of}
-use Rattle.loc_trial.proofs.Decimals.{IsRead, decimal_read, pair_first}
+use Rattle.loc_trial.proofs.Decimals.{decimal_read, pair_first}
 
 -- a number of at most so many digits
 pub decimal_short : (n : ℕ) → n < 2 ^ 64 → length (decimal n) ≤ 20
@@ -85,13 +85,6 @@ pub tree_of_body : (r : Rectangle) → IsSmall r → geometry_of (body r) ≡ So
     ∷ []) ∷ [])
 unfolding geometry_of
 tree_of_body r small = ap (tree_of (list_at (enclosed_at text_point_at))) (body_cut r small ∙ ap (λ ps. word (codes "POLYGON") ∷ open_mark ∷ open_mark ∷ ps) (corners_cut r small))
-
--- a decimal that is read has no fault
-no_fault : (n : ℕ) → IsRead n → number_fault 0 (decimal n) ≡ None
-no_fault n is = rw (is.on_the_grid, is.within) refl
-
-no_ring_fault : (r : Rectangle) → ring_fault (ring_of r) ≡ None
-no_ring_fault r = rw (same_point_refl (point_at (pos r.left) (pos r.low))) refl
 
 -- the text of a rectangle reads as its ring
 pub body_read : (r : Rectangle) → IsSmall r → reading 0 (body r) ≡ Ok ((ring_of r ∷ []) ∷ [])

@@ -1,25 +1,19 @@
 -- A number in decimal, as it is read: digits, which are one symbol of a text, and the number itself.
-use Rattle.std.proofs.Common.{◌≡◌, ℕ, ◌*◌, ◌^◌, ◌<◌, ◌≤◌, ◌||◌, ◌&&◌, Bool, true, false, not, List, [], ◌∷◌, ◌++◌, length, take_all, drop_of_length-le, append-nil, refl, ◌∙◌, ap, ap₂, arith, one-add, take_while, nat_le}
+use Rattle.std.proofs.Common.{◌≡◌, ℕ, ◌*◌, ◌^◌, ◌<◌, ◌≤◌, ◌||◌, ◌&&◌, true, false, not, List, [], ◌∷◌, ◌++◌, length, append-nil, refl, ◌∙◌, ap, ap₂, arith, nat_le}
 use Rattle.std.specs.Prelude.{◌==◌, codes, pos, if◌then◌else◌}
 use Rattle.std.specs.Char.{is_ascii_digit, is_ascii_alphabetic}
 use Rattle.std.specs.Fmt.{decimal}
-use Rattle.std.specs.Int.{IsInRange}
-use Rattle.std.specs.List.{list_all, list_any, before_first, after_first, position_or_len}
+use Rattle.std.specs.List.{list_all, list_any, before_first, after_first}
 use Rattle.std.specs.Str.Parse.{digits_value}
-use Rattle.std.proofs.lemmas.Bool.{and_parts, ne_eqb, leb-true, le-leb, lt-leb}
+use Rattle.std.proofs.lemmas.Bool.{and_parts, ne_eqb, le-leb, lt-leb}
 use Rattle.std.proofs.lemmas.Fmt.{decimal_is_IsNumeral}
-use Rattle.std.proofs.lemmas.Str.Parse.{IsDigitsTest, numerals_by_value}
-use Rattle.loc_spec_text.specs.Bytes.{drop_while}
 use Rattle.loc_spec_text.specs.Geometry.{number, symbols, symbol_of, ends_symbol}
 use Rattle.loc_spec_text.specs.Number.{are_digits, exponent, fraction_digits, grid_value, has_exponent, is_exponent_mark, is_in_range as is_within, is_negative, is_number, is_on_grid, is_point, lowered, magnitude, raised, significand, unsigned, whole_digits}
 use Rattle.loc_spec_text.proofs.NumberLaws.{on_grid}
-use Rattle.loc_spec_text.proofs.SymbolLaws.{drop_while-no, drop_while-yes, is_plain, symbols-longest}
-use Rattle.loc_spec_text.proofs.DigitLaws.{ascii_digits, digit_range, range_digit}
+use Rattle.loc_spec_text.proofs.SymbolLaws.{run_first}
+use Rattle.loc_spec_text.proofs.DigitLaws.{digit_range, decimal_digits, no_mark, no_point, no_sign, not_byte, plain_digits}
+use Rattle.loc_spec_text.proofs.CutLaws.{none_of, uncut}
 use Rattle.loc_wkt.proofs.SymbolLemmas.{not_that}
-
--- the decimal of a number is digits, one at least
-pub decimal_digits : (n : ℕ) → n < 2 ^ 64 → list_all is_ascii_digit (decimal n) ≡ true
-decimal_digits n small = (numerals_by_value (λ ds. list_all is_ascii_digit ds ≡ true) ascii_digits).from (decimal n) (decimal_is_IsNumeral n small).0.1
 
 pub decimal_some : (n : ℕ) → n < 2 ^ 64 → 0 < length (decimal n)
 decimal_some n small = (decimal_is_IsNumeral n small).0.0
@@ -27,59 +21,8 @@ decimal_some n small = (decimal_is_IsNumeral n small).0.0
 decimal_value : (n : ℕ) → n < 2 ^ 64 → digits_value 10 (decimal n) ≡ n
 decimal_value n small = (decimal_is_IsNumeral n small).1
 
--- what a digit is not
-not_byte : (c k : ℕ) → is_ascii_digit c ≡ true → (IsInRange 48 57 k → ⊥) → (c == k) ≡ false
-not_byte c k h other = ne_eqb c k (λ e. other (rw e at (digit_range c h)))
-
-plain_digit : (c : ℕ) → is_ascii_digit c ≡ true → is_plain c ≡ true
-plain_digit c h =
-    let r = digit_range c h in
-    let a : (c == 32) ≡ false = ne_eqb c 32 (λ e. omega (arith, r.0, e)) in
-    let b : (c == 9) ≡ false = ne_eqb c 9 (λ e. omega (arith, r.0, e)) in
-    let d : (c == 13) ≡ false = ne_eqb c 13 (λ e. omega (arith, r.0, e)) in
-    let f : (c == 10) ≡ false = ne_eqb c 10 (λ e. omega (arith, r.0, e)) in
-    let g : (c == 40) ≡ false = ne_eqb c 40 (λ e. omega (arith, r.0, e)) in
-    let i : (c == 41) ≡ false = ne_eqb c 41 (λ e. omega (arith, r.0, e)) in
-    let j : (c == 44) ≡ false = ne_eqb c 44 (λ e. omega (arith, r.0, e)) in
-    simp (a, b, d, f, g, i, j)
-
--- digits in front of a break are taken whole
-taken : (ds rest : List ℕ) → list_all is_ascii_digit ds ≡ true → ends_symbol rest ≡ true → (take_while is_plain (ds ++ rest) ≡ ds) × (drop_while is_plain (ds ++ rest) ≡ rest)
-taken [] [] digits ends = (refl, refl)
-taken [] (b ∷ rest) digits ends = let no : is_plain b ≡ false = simp ends in (simp no, drop_while-no is_plain b rest no)
-taken (c ∷ ds) rest digits ends =
-    let two = and_parts (is_ascii_digit c) (list_all is_ascii_digit ds) digits in
-    let yes = plain_digit c two.0 in
-    let more = taken ds rest two.1 ends in
-    (rw yes (rw one-add (ap (λ l. c ∷ l) more.0)), drop_while-yes is_plain c (ds ++ rest) yes ∙ more.1)
-
--- none of them passes a test that no digit passes: nothing is cut off
-module _ (test : ℕ → Bool) (none : (c : ℕ) → is_ascii_digit c ≡ true → test c ≡ false) where
-  nowhere : (ds : List ℕ) → list_all is_ascii_digit ds ≡ true → (position_or_len test ds ≡ length ds) × (list_any test ds ≡ false)
-  nowhere [] digits = (refl, refl)
-  nowhere (c ∷ ds) digits =
-      let two = and_parts (is_ascii_digit c) (list_all is_ascii_digit ds) digits in
-      let here = none c two.0 in
-      let more = nowhere ds two.1 in
-      (rw here (omega (arith, more.0)), rw here more.1)
-
-  uncut : (ds : List ℕ) → list_all is_ascii_digit ds ≡ true → (before_first test ds ≡ ds) × (after_first test ds ≡ []) × (list_any test ds ≡ false)
-  uncut ds digits =
-      let all = nowhere ds digits in
-      (rw all.0 (take_all (length ds) ds (omega arith)), rw all.0 (drop_of_length-le ds (omega arith)), all.1)
-
-no_point : (c : ℕ) → is_ascii_digit c ≡ true → is_point c ≡ false
-no_point c h = not_byte c 46 h (λ r. omega (arith, r.0))
-
-no_mark : (c : ℕ) → is_ascii_digit c ≡ true → is_exponent_mark c ≡ false
-no_mark c h =
-    let e = not_byte c 101 h (λ r. omega (arith, r.1)) in
-    let f = not_byte c 69 h (λ r. omega (arith, r.1)) in
-    simp (e, f)
-
 -- the parts of digits as a number text
 pub record AreParts (ds : List ℕ) : Type 0 where
-  pub unsigned_is : unsigned ds ≡ ds
   pub positive : is_negative ds ≡ false
   pub whole : whole_digits ds ≡ ds
   pub fraction : fraction_digits ds ≡ []
@@ -90,18 +33,17 @@ pub parts_of : (ds : List ℕ) → 0 < length ds → list_all is_ascii_digit ds 
 parts_of [] some digits = absurd (omega (arith, some))
 parts_of (c ∷ cs) some digits =
     let first = (and_parts (is_ascii_digit c) (list_all is_ascii_digit cs) digits).0 in
-    let plus = not_byte c 43 first (λ r. omega (arith, r.0)) in
     let minus = not_byte c 45 first (λ r. omega (arith, r.0)) in
-    let bare : unsigned (c ∷ cs) ≡ c ∷ cs = simp (plus, minus) in
-    let marks = uncut is_exponent_mark no_mark (c ∷ cs) digits in
-    let points = uncut is_point no_point (c ∷ cs) digits in
+    let bare : unsigned (c ∷ cs) ≡ c ∷ cs = rw (no_sign c first) refl in
+    let none = none_of is_exponent_mark is_ascii_digit no_mark (c ∷ cs) digits in
+    let marks = uncut is_exponent_mark (c ∷ cs) none in
+    let points = uncut is_point (c ∷ cs) (none_of is_point is_ascii_digit no_point (c ∷ cs) digits) in
     record {
-      unsigned_is = bare;
       positive = minus;
       whole = ap (λ t. before_first is_point (before_first is_exponent_mark t)) bare ∙ ap (before_first is_point) marks.0 ∙ points.0;
       fraction = ap (λ t. after_first is_point (before_first is_exponent_mark t)) bare ∙ ap (after_first is_point) marks.0 ∙ points.1;
       no_exponent = ap (after_first is_exponent_mark) bare ∙ marks.1;
-      no_mark = ap (list_any is_exponent_mark) bare ∙ marks.2;
+      no_mark = ap (list_any is_exponent_mark) bare ∙ none;
     }
 
 -- digits are a number text
@@ -157,14 +99,7 @@ decimal_symbol n small =
 
 -- the first symbol of a text that begins with a decimal
 pub decimal_first : (n : ℕ) (rest : List ℕ) → n < 2 ^ 64 → ends_symbol rest ≡ true → symbols (decimal n ++ rest) ≡ number (decimal n) ∷ symbols rest
-decimal_first n rest small ends = by (decimal n) (decimal_some n small) (decimal_digits n small) (decimal_symbol n small)
-  where
-    by : (ds : List ℕ) → 0 < length ds → list_all is_ascii_digit ds ≡ true → symbol_of ds ≡ number ds → symbols (ds ++ rest) ≡ number ds ∷ symbols rest
-    by [] some digits is = absurd (omega (arith, some))
-    by (c ∷ cs) some digits is =
-        let two = and_parts (is_ascii_digit c) (list_all is_ascii_digit cs) digits in
-        let all = taken cs rest two.1 ends in
-        symbols-longest c (cs ++ rest) (plain_digit c two.0) ∙ ap₂ (λ a b. symbol_of (c ∷ a) ∷ symbols b) all.0 all.1 ∙ ap (λ p. p ∷ symbols rest) is
+decimal_first n rest small ends = run_first (decimal n) rest (decimal_some n small) (plain_digits (decimal n) (decimal_digits n small)) ends ∙ ap (λ p. p ∷ symbols rest) (decimal_symbol n small)
 
 -- two numbers with a space between them
 pub pair_first : (x y : ℕ) (rest : List ℕ) → x < 2 ^ 64 → y < 2 ^ 64 → ends_symbol rest ≡ true

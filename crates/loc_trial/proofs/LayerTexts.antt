@@ -14,6 +14,7 @@ use Rattle.loc_spec_text.specs.Bytes.{lines, result_and_then}
 use Rattle.loc_spec_text.specs.Reading.{reading}
 use Rattle.loc_spec_text.specs.declared.Form.TheVariants.{Lines}
 use Rattle.loc_spec_text.proofs.LineLaws.{lines-cons}
+use Rattle.loc_spec_text.proofs.DigitLaws.{decimal_digits}
 use Rattle.loc_rings.specs.Values.{Feature}
 use Rattle.loc_rings.specs.Layers.{point_count, layer_points}
 use Rattle.loc_csvform.specs.Layer.{Row, RowRead, features_from, is_row_line, layer_of, line_row, with_row}
@@ -23,7 +24,6 @@ use Rattle.loc_gen.specs.declared.features.Rectangle.{Rectangle}
 use Rattle.loc_gen.specs.Layers.{feature_text, features, layer_text, limit_of, nested, square, start_of, strip}
 use Rattle.loc_gen.proofs.Numbered.{count_is}
 use Rattle.loc_trial.specs.Generated.{feature_of, generated}
-use Rattle.loc_trial.proofs.Decimals.{decimal_digits}
 use Rattle.loc_trial.proofs.Corners.{IsSmall, body, body_read, corners_text, decimal_short, feature_text_is}
 
 module _ {X : Type 0} (P : X → Type 0) where
@@ -173,12 +173,6 @@ pub layer_short : (kind : Kind) (n shift : ℕ) → n ≤ limit_of kind → leng
 layer_short kind n shift within =
     let rs = features kind n (start_of shift) in
     omega (arith, text_short rs (all_small kind n (start_of shift) within (mod_below shift 65536 (omega arith))), few_features kind n (start_of shift) within)
-
--- no limit is above 131072, and so a layer within its limit has no more features
-pub size_small : (kind : Kind) (n : ℕ) → n ≤ limit_of kind → n ≤ 131072
-size_small Grid n few = omega (arith, few)
-size_small Nest n few = omega (arith, few)
-size_small Strips n few = omega (arith, few)
 
 length_numbered : (k : ℕ) (rs : List Rectangle) → length (map feature_of (enumerate_from k rs)) ≡ length rs
 length_numbered k [] = refl

@@ -7,9 +7,9 @@ use Rattle.std.proofs.lemmas.Nat.{mod_below}
 use Rattle.loc_spec_plane.specs.Lists.{numbers}
 use Rattle.loc_spec_text.specs.Bytes.{ended_lines}
 use Rattle.loc_spec_text.specs.Points.{ended}
+use Rattle.loc_laws_order.proofs.Kept.{range_more}
 use Rattle.loc_batch.specs.Kept.{IsUnbroken}
 use Rattle.loc_batch.proofs.Cutting.{split_cons, unbroken_both}
-use Rattle.loc_cover.proofs.Gathered.{range_more}
 use Rattle.loc_gen.specs.Layers.{start_of}
 use Rattle.loc_trial.specs.Generated.{point_line, points_text}
 use Rattle.loc_trial.proofs.Corners.{decimal_short}

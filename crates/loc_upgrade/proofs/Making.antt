@@ -1,28 +1,21 @@
 -- How an upgrade ended, by what was held and what was made of it.
-use Rattle.std.proofs.Common.{◌≡◌, ◌⊎◌, ℕ, Bool, [], Option, None, Some, Result, Ok, Err, refl, ◌∙◌, inl, inr, arith}
+use Rattle.std.proofs.Common.{◌⊎◌, ℕ, Bool, [], Option, None, Some, Result, Ok, Err, refl, ◌∙◌, inl, inr, arith}
 use Rattle.loc_spec_text.specs.Bytes.{Text}
 use Rattle.loc_io.specs.Meaning.{KeepsFiles, Meaning, Told}
 use Rattle.loc_spec_index.specs.Content.{Content}
 use Rattle.loc_spec_index.specs.IndexFile.{bytes_of}
 use Rattle.loc_laws_index.specs.IndexReading.{reading}
-use Rattle.loc_course.specs.Courses.{Course, refuses, Stopped, refused, unread, unwritten, no_memory}
+use Rattle.loc_course.specs.Courses.{Course, refuses, Stopped, refused}
 use Rattle.loc_course.specs.Following.{Follows, MakesFile, Moment, refuses_by}
 use Rattle.loc_course.specs.Outcomes.{exactly}
 use Rattle.loc_course.specs.Sentences.{MakesNone, MayMake, status_of}
-use Rattle.loc_course.proofs.Along.{files}
+use Rattle.loc_course.proofs.Along.{files, not_done}
 use Rattle.loc_course.proofs.Told.{exactly_it}
 use Rattle.loc_indexed.specs.IndexedCourses.{index_course}
 use Rattle.loc_indexed.specs.Verifies.{IsToldFile}
 use Rattle.loc_indexed.proofs.Behind.{index_all}
 use Rattle.loc_upgrade.specs.TellsEdges.{Listed}
 use Rattle.loc_upgrade.specs.Upgrades.{Upgraded}
-
--- a command that stopped was not done
-pub stopped_not_done : (stop : Stopped) → status_of (Some stop) ≡ 0 → ⊥
-stopped_not_done (refused line) zero = omega (arith, zero)
-stopped_not_done unread zero = omega (arith, zero)
-stopped_not_done unwritten zero = omega (arith, zero)
-stopped_not_done no_memory zero = omega (arith, zero)
 
 -- a course that refuses every index makes no file
 abbrev refusing : Content → Course
@@ -42,16 +35,16 @@ module _ (old : Text) (m n : Moment) where
 module _ (old new : Text) (from to : Meaning) where
   -- the old file was not read
   pub not_upgraded : (stop : Stopped) → KeepsFiles from to → Upgraded old new from to (status_of (Some stop))
-  not_upgraded stop keeps = record { done = λ zero. absurd (stopped_not_done stop zero); cut = λ four. inl (keeps new) }
+  not_upgraded stop keeps = record { done = λ zero. absurd (not_done stop zero); cut = λ four. inl (keeps new) }
 
   -- it was read, and a file was made of it
   pub upgraded_by : (c : Content) (mid : Meaning) → IsToldFile (from.told old) c → KeepsFiles from mid → (came : Option Stopped) → MakesFile new (bytes_of 2 c) mid to came → Upgraded old new from to (status_of came)
   upgraded_by c mid told keeps None made = record { done = λ zero. (c, told, made.made); cut = λ four. absurd (omega (arith, four)) }
   upgraded_by c mid told keeps (Some stop) made = record {
-    done = λ zero. absurd (stopped_not_done stop zero);
+    done = λ zero. absurd (not_done stop zero);
     cut = λ four. elim made.made [ inl same ↦ inl (same ∙ keeps new) | inr front ↦ inr (c, told, front) ];
   }
 
 -- an index that was not read is not listed
 pub not_listed : (told : Told) (stop : Stopped) → Listed told (status_of (Some stop))
-not_listed told stop zero = absurd (stopped_not_done stop zero)
+not_listed told stop zero = absurd (not_done stop zero)

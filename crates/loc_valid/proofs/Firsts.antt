@@ -1,9 +1,9 @@
 -- The least pairs by the lists above edges are the first breaches.
-use Rattle.std.proofs.Common.{◌≡◌, ℕ, zero, suc, ◌+◌, ◌<◌, ◌≤◌, Bool, true, false, not, ◌&&◌, List, [], ◌∷◌, length, get_or, refl, sym, ◌∙◌, ap, subst, inl, inr, arith}
+use Rattle.std.proofs.Common.{◌≡◌, ℕ, ◌<◌, ◌≤◌, Bool, true, false, not, ◌&&◌, List, [], ◌∷◌, length, get_or, refl, sym, ◌∙◌, ap, subst, inl, inr, arith}
 use Rattle.std.specs.Prelude.{◌==◌, nat_lt, find, Option, option_map}
-use Rattle.std.specs.List.{list_any, list_all, range_with_len}
+use Rattle.std.specs.List.{list_any, list_all}
 use Rattle.std.proofs.Math.Bool.{and_comm}
-use Rattle.std.proofs.lemmas.Bool.{and_from, and_parts, both_ways, cases_Bool, cases_eq, eq-eqb, eqb-true, false_from_ne_true, lt-ltb, ltb-true, ne_eqb, not-true, not_from_false, or_cases, or_left, or_right, true≢false}
+use Rattle.std.proofs.lemmas.Bool.{and_from, and_parts, both_ways, cases_Bool, cases_eq, eq-eqb, eqb-true, false_from_ne_true, lt-ltb, ltb-true, ne_eqb, not-true, not_from_false, true≢false}
 use Rattle.loc_spec_plane.specs.Lists.{exactly_one, is_in, is_rising, numbers, odd_many}
 use Rattle.loc_spec_plane.specs.Rings.{Rings}
 use Rattle.loc_spec_plane.specs.declared.Mark.{Mark}
@@ -19,6 +19,7 @@ use Rattle.loc_laws_dissolve.proofs.Prefixes.{by_members}
 use Rattle.loc_laws_valid.specs.Laws.{ByLists, HasOneRing, ring_of}
 use Rattle.loc_laws_valid.proofs.ByLists.{breaches_by_lists}
 use Rattle.loc_rings.specs.Values.{rings_before}
+use Rattle.loc_cover.proofs.Gathered.{any_range, some_in}
 use Rattle.loc_valid.specs.declared.hits.Fault.{Fault}
 use Rattle.loc_valid.specs.declared.least.Least.{Least}
 use Rattle.loc_valid.specs.Hits.{AreLeast, IsLeast, IsLeastOf, misplaced_in, nested_in, other_than, outside_in, overlap_in}
@@ -28,25 +29,12 @@ use Rattle.loc_valid.proofs.Turns.{other, other_odd}
 use Rattle.loc_valid.proofs.RingHomes.{exterior, fits_all, is_of, no_hole}
 
 -- ---- tests of some number below n
-some_in : (p : ℕ → Bool) (a n : ℕ) → list_any p (range_with_len a n) ≡ true → (e : ℕ) × (e < a + n) × (p e ≡ true)
-some_in p a zero h = absurd (true≢false (sym h))
-some_in p a (suc n) h = elim (or_cases (p a) (list_any p (range_with_len (a + 1) n)) h) [
-  | inl here ↦ (a, omega arith, here)
-  | inr later ↦ (let rest = some_in p (a + 1) n later in (rest.0, omega (arith, rest.1), rest.2))
-]
 
 some_of : (p : ℕ → Bool) (n : ℕ) → list_any p (numbers n) ≡ true → (e : ℕ) × (e < n) × (p e ≡ true)
 some_of p n h = let found = some_in p 0 n h in (found.0, omega (arith, found.1), found.2)
 
-in_some : (p : ℕ → Bool) (a n e : ℕ) → a ≤ e → e < a + n → p e ≡ true → list_any p (range_with_len a n) ≡ true
-in_some p a zero e le lt h = absurd (omega arith)
-in_some p a (suc n) e le lt h = elim (cases_eq a e) [
-  | inl same ↦ or_left (p a) (list_any p (range_with_len (a + 1) n)) (ap p same ∙ h)
-  | inr other ↦ or_right (p a) (list_any p (range_with_len (a + 1) n)) (in_some p (a + 1) n e (omega arith) (omega arith) h)
-]
-
 in_numbers : (p : ℕ → Bool) (n e : ℕ) → e < n → p e ≡ true → list_any p (numbers n) ≡ true
-in_numbers p n e lt h = in_some p 0 n e (omega arith) (omega arith) h
+in_numbers p n e lt h = any_range p 0 n e (omega arith) (omega arith) h
 
 -- what holds of some by one test does by another that follows from it
 some_too : (p q : ℕ → Bool) (n : ℕ) → ((e : ℕ) → e < n → p e ≡ true → q e ≡ true) → list_any p (numbers n) ≡ true → list_any q (numbers n) ≡ true

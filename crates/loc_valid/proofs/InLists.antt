@@ -1,16 +1,17 @@
 -- The least pair of a ring by the list above an edge of it: a hole and its exterior, and a hole and another hole.
-use Rattle.std.proofs.Common.{◌≡◌, ℕ, suc, ◌+◌, ◌<◌, ◌≤◌, Bool, true, false, not, ◌&&◌, List, [], ◌∷◌, length, get_or, refl, sym, ◌∙◌, ap, ap₂, subst, inl, inr, arith}
+use Rattle.std.proofs.Common.{◌≡◌, ℕ, ◌+◌, ◌<◌, ◌≤◌, Bool, true, false, not, ◌&&◌, List, [], length, get_or, refl, sym, ◌∙◌, ap, ap₂, subst, inl, inr, arith}
 use Rattle.std.specs.Prelude.{◌==◌, ◌⊎◌, nat_lt, Some, None}
-use Rattle.std.proofs.lemmas.Bool.{and_from, and_parts, both_ways, cases_eq, cases_lt, eq-eqb, eqb-true, false_from_ne_true, lt-ltb, ltb-true, ne_eqb, not-true, not_from_false, or_cases, true≢false}
+use Rattle.std.proofs.lemmas.Bool.{and_from, and_parts, both_ways, cases_eq, cases_lt, eq-eqb, eqb-true, false_from_ne_true, lt-ltb, ltb-true, ne_eqb, not-true, not_from_false, true≢false}
 use Rattle.std.proofs.lemmas.List.{get_or_past}
 use Rattle.std.proofs.lemmas.List.Folds.{list_any_at}
 use Rattle.loc_spec_plane.specs.Lists.{is_in, is_rising}
 use Rattle.loc_spec_plane.specs.Rings.{Rings}
 use Rattle.loc_spec_plane.specs.Tables.{pair_before}
 use Rattle.loc_spec_valid.specs.Breaches.{feature_rings, is_hole, polygon_of, ring_places}
-use Rattle.loc_laws_order.proofs.TableOrder.{rises}
+use Rattle.loc_laws_order.proofs.TableOrder.{rises, rises_weakly}
 use Rattle.loc_laws_valid.proofs.Placed.{as_many_places}
 use Rattle.loc_rings.specs.Values.{rings_before}
+use Rattle.loc_half.proofs.Linked.{place_of}
 use Rattle.loc_valid.specs.declared.hits.Fault.{Fault}
 use Rattle.loc_valid.specs.declared.hits.Fault.TheVariants.{Outside, Nested}
 use Rattle.loc_valid.specs.Hits.{AreHomes, IsLeast, misplaced_in, nested_in, outside_in}
@@ -18,20 +19,6 @@ use Rattle.loc_valid.proofs.RingHomes.{IsOf, between, exterior, fits_all, is_of,
 use Rattle.loc_valid.proofs.Minima.{not_lower}
 
 -- ---- members of rising lists
--- a member has a place
-pub member_at : (k : ℕ) (xs : List ℕ) → is_in k xs ≡ true → (i : ℕ) × (i < length xs) × (get_or xs i 0 ≡ k)
-member_at k [] h = absurd (true≢false (sym h))
-member_at k (x ∷ xs) h = elim (or_cases (x == k) (is_in k xs) h) [
-  | inl here ↦ (0, omega arith, eqb-true x k here)
-  | inr later ↦ (let rest = member_at k xs later in (suc rest.0, omega (arith, rest.1), rest.2))
-]
-
--- a later member is no less
-pub up : (xs : List ℕ) → is_rising nat_lt xs ≡ true → (i j : ℕ) → i ≤ j → j < length xs → get_or xs i 0 ≤ get_or xs j 0
-up xs rising i j low fits = elim (cases_lt i j) [
-  | inl less ↦ (let next = ltb-true (get_or xs i 0) (get_or xs j 0) (rises nat_lt 0 xs i j rising less fits) in omega arith)
-  | inr same ↦ omega (arith, ap (λ k. get_or xs k 0) (let is : i ≡ j = omega arith in is))
-]
 
 -- an earlier member is less
 pub strictly : (xs : List ℕ) → is_rising nat_lt xs ≡ true → (i j : ℕ) → i < j → j < length xs → get_or xs i 0 < get_or xs j 0
@@ -39,12 +26,12 @@ strictly xs rising i j less fits = ltb-true (get_or xs i 0) (get_or xs j 0) (ris
 
 -- whether a number is a member, by the first place that is not below it
 pub among_none : (xs : List ℕ) (n at : ℕ) → ((k : ℕ) → k < at → get_or xs k 0 < n) → at ≡ length xs → is_in n xs ≡ false
-among_none xs n at below past = false_from_ne_true (is_in n xs) (λ h. (let found = member_at n xs h in omega (arith, found.1, found.2, past, below found.0 (omega (arith, found.1, past)))))
+among_none xs n at below past = false_from_ne_true (is_in n xs) (λ h. (let found = place_of n xs h in omega (arith, found.1, found.2, past, below found.0 (omega (arith, found.1, past)))))
 
 pub among_at : (xs : List ℕ) (n at : ℕ) → is_rising nat_lt xs ≡ true → at < length xs → ((k : ℕ) → k < at → get_or xs k 0 < n) → ((k : ℕ) → at ≤ k → k < length xs → n ≤ get_or xs k 0) → (get_or xs at 0 == n) ≡ is_in n xs
 among_at xs n at rising fits below from = elim (cases_eq (get_or xs at 0) n) [
   | inl same ↦ eq-eqb (get_or xs at 0) n same ∙ sym (list_any_at (λ m. m == n) xs at 0 fits (eq-eqb (get_or xs at 0) n same))
-  | inr other ↦ ne_eqb (get_or xs at 0) n other ∙ sym (false_from_ne_true (is_in n xs) (λ h. (let found = member_at n xs h in elim (cases_lt found.0 at) [
+  | inr other ↦ ne_eqb (get_or xs at 0) n other ∙ sym (false_from_ne_true (is_in n xs) (λ h. (let found = place_of n xs h in elim (cases_lt found.0 at) [
     | inl less ↦ omega (arith, found.2, below found.0 less)
     | inr more ↦ elim (cases_eq found.0 at) [
       | inl here ↦ other (ap (λ k. get_or xs k 0) (sym here) ∙ found.2)
@@ -156,7 +143,7 @@ module _ (polygons : List Rings) (homes : List ℕ) (are : AreHomes polygons hom
   later : (at j k : ℕ) → ArePassed at → nested_in polygons ring list j k ≡ true → (i : ℕ) × (i < length list) × (get_or list i 0 ≡ k) × (at ≤ i)
   later at j k passed h =
       let parts = around_parts j k h in
-      let found = member_at k list parts.here in (
+      let found = place_of k list parts.here in (
         found.0,
         found.1,
         found.2,
@@ -171,7 +158,7 @@ module _ (polygons : List Rings) (homes : List ℕ) (are : AreHomes polygons hom
 
   module _ (rising : is_rising nat_lt list ≡ true) (at : ℕ) (fits : at < length list) (passed : ArePassed at) where
     pub around_past : rings_before polygons (m + 1) ≤ get_or list at 0 → IsLeast (nested_in polygons ring list) None
-    around_past past = λ j k. false_from_ne_true (nested_in polygons ring list j k) (λ h. (let found = later at j k passed h in omega (arith, up list rising at found.0 found.3 found.1, found.2, (around_parts j k h).past, past)))
+    around_past past = λ j k. false_from_ne_true (nested_in polygons ring list j k) (λ h. (let found = later at j k passed h in omega (arith, rises_weakly list rising at found.0 found.3 found.1, found.2, (around_parts j k h).past, past)))
 
     pub around : (ring ≡ first → ⊥) → first < get_or list at 0 → get_or list at 0 < rings_before polygons (m + 1) → (get_or list at 0 ≡ ring → ⊥) → IsLeast (nested_in polygons ring list) (Some (ring, get_or list at 0))
     around inner above past other =
@@ -182,7 +169,7 @@ module _ (polygons : List Rings) (homes : List ℕ) (are : AreHomes polygons hom
               (and_from _ _ (eq-eqb (polygon_of polygons ring) (polygon_of polygons k) (is.home ∙ sym of_k.home)) (ap not (ne_eqb ring k (λ e. other (sym e))))))
               (list_any_at (λ n. n == k) list at 0 fits (eq-eqb k k refl))),
           λ j n h. (let found = later at j n passed h in
-              ap (λ i. pair_before (i, n) (ring, k)) (around_parts j n h).same ∙ not_lower ring n k (omega (arith, up list rising at found.0 found.3 found.1, found.2))),
+              ap (λ i. pair_before (i, n) (ring, k)) (around_parts j n h).same ∙ not_lower ring n k (omega (arith, rises_weakly list rising at found.0 found.3 found.1, found.2))),
         )
 
   -- the exterior is not misplaced

@@ -7,18 +7,18 @@ use Rattle.std.proofs.lemmas.List.{get_or_append_left, length-append}
 use Rattle.std.proofs.lemmas.List.Elements.{All-get_or}
 use Rattle.loc_spec_plane.specs.Lists.{is_rising, odd_many}
 use Rattle.loc_spec_plane.specs.Rings.{Rings}
+use Rattle.loc_laws_order.proofs.TableOrder.{rises_weakly}
 use Rattle.loc_spec_valid.specs.Breaches.{polygon_of}
 use Rattle.loc_laws_rays.proofs.Parity.{odd_many-same}
 use Rattle.loc_valid.specs.declared.least.Least.{Least}
 use Rattle.loc_valid.specs.declared.least.Least.TheVariants.{Zero}
 use Rattle.loc_valid.specs.Hits.{AreClimbing, AreHomes, AreLeast, AreOddLists}
-use Rattle.loc_valid.proofs.InLists.{up}
 use Rattle.loc_valid.proofs.RingHomes.{as_many_homes, climbs, home_is}
 use Rattle.loc_valid.proofs.Turns.{same_least}
 
 -- the members of a rising list of rings have polygons that do not fall
 pub members_climb : (homes list : List ℕ) → AreClimbing homes → is_rising nat_lt list ≡ true → All (λ r. r < length homes) list → (i j : ℕ) → i ≤ j → j < length list → get_or homes (get_or list i 0) 0 ≤ get_or homes (get_or list j 0) 0
-members_climb homes list climbing rising fits i j le lt = climbing (get_or list i 0) (get_or list j 0) (up list rising i j le lt) (All-get_or (λ r. r < length homes) list j 0 lt fits)
+members_climb homes list climbing rising fits i j le lt = climbing (get_or list i 0) (get_or list j 0) (rises_weakly list rising i j le lt) (All-get_or (λ r. r < length homes) list j 0 lt fits)
 
 module _ (polygons : List Rings) (homes : List ℕ) (are : AreHomes polygons homes) where
   pub homes_climb : AreClimbing homes

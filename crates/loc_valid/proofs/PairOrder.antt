@@ -8,6 +8,7 @@ use Rattle.std.proofs.lemmas.Bool.{and_parts, and_from, cases_order, cond-true, 
 use Rattle.std.proofs.lemmas.Cmp.{nat_cmp_total, on_total, then_total}
 use Rattle.std.proofs.lemmas.List.Sorted.{ranks_by}
 use Rattle.loc_spec_plane.specs.Tables.{pair_before}
+use Rattle.loc_node.proofs.Placed.{nat_lt_is}
 use Rattle.loc_valid.specs.Pinches.{pair_cmp, same_pair}
 
 -- the order of pairs, as a test
@@ -29,16 +30,10 @@ equal_is x y same = cond-false (nat_lt x y) _ _ (le-ltb x y (omega arith)) ∙ c
 greater_is : (x y : ℕ) → y < x → nat_cmp x y ≡ Greater
 greater_is x y gt = cond-false (nat_lt x y) _ _ (le-ltb x y (omega arith)) ∙ cond-false (x == y) _ _ (ne_eqb x y (λ e. omega arith))
 
-number_lt : (x y : ℕ) → is_lt (nat_cmp x y) ≡ nat_lt x y
-number_lt x y = elim (cases_order x y) [
-  | inl same ↦ ap is_lt (equal_is x y same) ∙ sym (le-ltb x y (omega arith))
-  | inr differ ↦ elim differ [ inl lt ↦ ap is_lt (less_is x y lt) ∙ sym (lt-ltb x y lt) | inr gt ↦ ap is_lt (greater_is x y gt) ∙ sym (le-ltb x y (omega arith)) ]
-]
-
 -- it is the order of pairs by their numbers
 pub lt_is : (a b : ℕ × ℕ) → pair_lt a b ≡ pair_before a b
 lt_is a b = elim (cases_order a.0 b.0) [
-  | inl same ↦ ap (λ o. is_lt (ordering_then o (nat_cmp a.1 b.1))) (equal_is a.0 b.0 same) ∙ (number_lt a.1 b.1 ∙ sym (ap₂ (λ p q. p || (q && nat_lt a.1 b.1)) (le-ltb a.0 b.0 (omega arith)) (eq-eqb a.0 b.0 same)))
+  | inl same ↦ ap (λ o. is_lt (ordering_then o (nat_cmp a.1 b.1))) (equal_is a.0 b.0 same) ∙ (nat_lt_is a.1 b.1 ∙ sym (ap₂ (λ p q. p || (q && nat_lt a.1 b.1)) (le-ltb a.0 b.0 (omega arith)) (eq-eqb a.0 b.0 same)))
   | inr differ ↦ elim differ [
     | inl lt ↦ ap (λ o. is_lt (ordering_then o (nat_cmp a.1 b.1))) (less_is a.0 b.0 lt) ∙ sym (or_left (nat_lt a.0 b.0) ((a.0 == b.0) && nat_lt a.1 b.1) (lt-ltb a.0 b.0 lt))
     | inr gt ↦ ap (λ o. is_lt (ordering_then o (nat_cmp a.1 b.1))) (greater_is a.0 b.0 gt) ∙ sym (ap₂ (λ p q. p || (q && nat_lt a.1 b.1)) (le-ltb a.0 b.0 (omega arith)) (ne_eqb a.0 b.0 (λ e. omega arith)))

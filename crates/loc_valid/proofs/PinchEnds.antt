@@ -55,13 +55,6 @@ module _ (r c lo hi : ℕ) (up : lo < hi) where
   abbrev marked : List Mark → Bool
   marked ms = list_any (λ (m : Mark). m.feature == r) ms
 
-  marked_none : (f : ℕ) (odd : Bool) (ms : List Mark) → r ≤ f → list_all (mark_before (record { feature = f; odd = odd })) ms ≡ true → marked ms ≡ false
-  marked_none f odd [] le later = refl
-  marked_none f odd (m ∷ ms) le later =
-      let parts = and_parts (nat_lt f m.feature) (list_all (mark_before (record { feature = f; odd = odd })) ms) later in
-      let less : f < m.feature = ltb-true f m.feature parts.0 in
-      ap₂ (λ (a b : Bool). a || b) (ne_eqb m.feature r (λ e. omega arith)) (marked_none f odd ms le parts.1)
-
   of_edge : (ms : List Mark) → is_rising mark_before ms ≡ true → count_by is (ends_by (lo, hi) ms) ≡ one_if (marked ms && ((lo == c) || (hi == c)))
   of_edge [] rise = refl
   of_edge (m ∷ ms) rise =

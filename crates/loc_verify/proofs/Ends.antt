@@ -1,32 +1,24 @@
 -- A corner is an end exactly where an edge begins or ends there.
-use Rattle.std.proofs.Common.{◌≡◌, ℕ, zero, suc, ◌+◌, ◌<◌, Bool, true, not, List, [], ◌∷◌, length, refl, sym, ◌∙◌, ap, inl, inr, arith}
+use Rattle.std.proofs.Common.{◌≡◌, ℕ, suc, ◌<◌, Bool, true, not, List, [], ◌∷◌, length, refl, sym, ◌∙◌, ap, inl, inr, arith}
 use Rattle.std.specs.Prelude.{◌==◌}
-use Rattle.std.specs.List.{list_any, range_with_len}
+use Rattle.std.specs.List.{list_any}
 use Rattle.std.proofs.lemmas.Bool.{and_from, and_parts, eq-eqb, eqb-true, lt-ltb, ltb-true, not_from_false, ne_eqb, or_cases, or_left, or_right, true≢false}
 use Rattle.loc_spec_plane.specs.Lists.{is_in}
 use Rattle.loc_spec_plane.specs.Tables.{Table, edge_numbers, ends_at, hi_of, lo_of}
 use Rattle.loc_spec_plane.specs.Places.{is_edge}
 use Rattle.loc_laws_order.proofs.Booleans.{same-from_both}
 use Rattle.loc_edges.specs.Ending.{IsBeginning}
-use Rattle.loc_cover.proofs.Gathered.{any_range}
+use Rattle.loc_cover.proofs.Gathered.{any_range, some_in}
 use Rattle.loc_sweep.specs.Line.{ending_at}
 use Rattle.loc_sweep.proofs.EdgesLeaving.{is_in-ending}
 
--- a number of a range passes a test
-passes : (p : ℕ → Bool) (a n : ℕ) → list_any p (range_with_len a n) ≡ true → (k : ℕ) × (k < a + n) × (p k ≡ true)
-passes p a zero h = absurd (true≢false (sym h))
-passes p a (suc n) h = elim (or_cases (p a) (list_any p (range_with_len (a + 1) n)) h) [
-  | inl here ↦ (a, omega arith, here)
-  | inr later ↦ (let found = passes p (a + 1) n later in (found.0, omega (arith, found.1), found.2))
-]
-
 module _ (t : Table) where
-  -- an edge passes a test
+  -- an edge some_in a test
   pub edge_passes : (p : ℕ → Bool) (e : ℕ) → e < length t.ends → p e ≡ true → list_any p (edge_numbers t) ≡ true
   edge_passes p e fits h = any_range p 0 (length t.ends) e (omega arith) (omega (arith, fits)) h
 
   pub passing_edge : (p : ℕ → Bool) → list_any p (edge_numbers t) ≡ true → (e : ℕ) × (e < length t.ends) × (p e ≡ true)
-  passing_edge p h = let found = passes p 0 (length t.ends) h in (found.0, omega (arith, found.1), found.2)
+  passing_edge p h = let found = some_in p 0 (length t.ends) h in (found.0, omega (arith, found.1), found.2)
 
   module _ (c first past : ℕ) (beginning : IsBeginning t c first past) where
     pub ends_begin : first < past → list_any (ends_at t c) (edge_numbers t) ≡ true

@@ -9,9 +9,10 @@ use Rattle.std.specs.Char.{is_ascii_digit}
 use Rattle.std.specs.List.{list_all}
 use Rattle.std.specs.Str.Parse.{digits_value}
 use Rattle.loc_spec_text.proofs.NumberLaws.{ten_pos}
+use Rattle.loc_spec_text.proofs.DigitLaws.{digit_range}
 use Rattle.loc_wkt.specs.declared.grid_numbers.digits.Digits.{Digits}
 use Rattle.loc_wkt.specs.GridNumbers.{Represents}
-use Rattle.loc_wkt.proofs.NumberLemmas.{digit_bounds, digit_number}
+use Rattle.loc_wkt.proofs.NumberLemmas.{digit_number}
 
 next_power : (z : ℕ) → 10 ^ (z + 1) ≡ 10 ^ z * 10
 next_power z = ap (λ k. 10 ^ k) (add-one z) ∙ pow-suc 10 z
@@ -79,7 +80,7 @@ head_small d v r short h = let s = rw short at r.size in omega (arith, s.0, s.1)
 -- a digit among digits
 pub digit_at : (ds : List ℕ) (i : ℕ) → i < length ds → list_all is_ascii_digit ds ≡ true → (48 ≤ get_or ds i 0) × (get_or ds i 0 ≤ 57)
 digit_at [] i h all = absurd (omega arith)
-digit_at (d ∷ ds) zero h all = digit_bounds d (and_parts (is_ascii_digit d) (list_all is_ascii_digit ds) all).0
+digit_at (d ∷ ds) zero h all = digit_range d (and_parts (is_ascii_digit d) (list_all is_ascii_digit ds) all).0
 digit_at (d ∷ ds) (suc i) h all = digit_at ds i (omega arith) (and_parts (is_ascii_digit d) (list_all is_ascii_digit ds) all).1
 
 -- the number of digits and one more of others behind them

@@ -1,11 +1,11 @@
 -- What the bytes of a short number tell: its parts, and that it is a whole symbol.
-use Rattle.std.proofs.Common.{◌≡◌, ◌≢◌, ◌⊎◌, inl, inr, ℕ, zero, suc, ◌+◌, ◌-◌, ◌*◌, ◌^◌, ◌<◌, ◌≤◌, List, [], ◌∷◌, ◌++◌, Bool, true, false, not, ◌&&◌, ◌||◌, length, take, drop, get_or, Some, refl, sym, mul_assoc, mul-le-mul_left, mul-le-mul_right, ◌∙◌, ap, ap₂, subst, arith, ne_eqb, drop_of_length-le, length-take}
+use Rattle.std.proofs.Common.{◌≡◌, ◌≢◌, ◌⊎◌, inl, inr, ℕ, zero, suc, ◌+◌, ◌-◌, ◌*◌, ◌^◌, ◌<◌, ◌≤◌, List, [], ◌∷◌, ◌++◌, Bool, true, false, not, ◌&&◌, ◌||◌, length, take, drop, get_or, Some, refl, sym, mul_assoc, mul-le-mul_left, mul-le-mul_right, ◌∙◌, ap, ap₂, subst, arith, ne_eqb, length-take}
 use Rattle.std.specs.Prelude.{if◌then◌else◌, ◌==◌, slice_index}
 use Rattle.std.specs.Char.{is_ascii_digit}
-use Rattle.std.specs.List.{before_first, after_first, list_all, list_any, position_or_len}
+use Rattle.std.specs.List.{before_first, after_first, list_all, position_or_len}
 use Rattle.std.specs.Str.{byte}
 use Rattle.std.specs.Str.Parse.{digits_value}
-use Rattle.std.proofs.Math.Seq.{take-append_seam, drop-append-add, take-append-add, take-length}
+use Rattle.std.proofs.Math.Seq.{take-append-add}
 use Rattle.std.proofs.lemmas.Bool.{and_parts, eqb-true, or_cases, or_parts}
 use Rattle.std.proofs.lemmas.List.{length-append, take-append-drop, take-take, take_all}
 use Rattle.std.proofs.lemmas.Nat.{pow-add}
@@ -14,26 +14,13 @@ use Rattle.loc_spec_text.specs.Bytes.{is_white}
 use Rattle.loc_spec_text.specs.Geometry.{ends_symbol, is_break, is_mark, symbols}
 use Rattle.loc_spec_text.specs.Number.{are_digits, exponent, fraction_digits, has_exponent, is_exponent_mark, is_number, is_point, is_sign, lowered, raised, significand, unsigned, whole_digits}
 use Rattle.loc_spec_text.proofs.NumberLaws.{ten_pos}
+use Rattle.loc_spec_text.proofs.CutLaws.{cut as cut_at_first, first_behind, none_of, uncut}
+use Rattle.loc_spec_text.proofs.DigitLaws.{digit_range, no_point}
 use Rattle.loc_wkt.specs.declared.grid_numbers.short.Front.{Front}
 use Rattle.loc_wkt.specs.Fronts.{number_at}
 use Rattle.loc_wkt.specs.ShortNumbers.{IsFront}
 use Rattle.loc_wkt.proofs.FirstSymbol.{plain_symbol}
 use Rattle.loc_wkt.proofs.FrontLemmas.{number_first}
-use Rattle.loc_wkt.proofs.NumberLemmas.{digit_bounds}
-
--- where no element at the front passes, the first that passes is behind them
-module _ (p q : ℕ → Bool) (no : (b : ℕ) → q b ≡ true → p b ≡ false) where
-  first_behind : (xs ys : List ℕ) → list_all q xs ≡ true → position_or_len p (xs ++ ys) ≡ length xs + position_or_len p ys
-  first_behind [] ys h = omega arith
-  first_behind (x ∷ xs) ys h = let hs = and_parts (q x) (list_all q xs) h in rw (no x hs.0) (omega (arith, first_behind xs ys hs.1))
-
-  none_in : (xs : List ℕ) → list_all q xs ≡ true → (position_or_len p xs ≡ length xs) × (list_any p xs ≡ false)
-  none_in [] h = (refl, refl)
-  none_in (x ∷ xs) h = let hs = and_parts (q x) (list_all q xs) h in let more = none_in xs hs.1 in rw (no x hs.0) (omega (arith, more.0), more.1)
-
-  uncut : (xs : List ℕ) → list_all q xs ≡ true → (before_first p xs ≡ xs) × (after_first p xs ≡ [])
-  uncut xs h = let e = (none_in xs h).0 in
-      (ap (λ n. take n xs) e ∙ take-length xs, ap (λ n. drop (n + 1) xs) e ∙ drop_of_length-le xs (omega arith))
 
 -- digits and the point are no breaks and no marks of an exponent
 abbrev in_short : ℕ → Bool
@@ -41,7 +28,7 @@ in_short b = is_ascii_digit b || is_point b
 
 digit_or_point : (b : ℕ) → in_short b ≡ true → ((48 ≤ b) × (b ≤ 57)) ⊎ (b ≡ 46)
 digit_or_point b h = elim (or_cases (is_ascii_digit b) (is_point b) h) [
-  | inl d ↦ inl (digit_bounds b d)
+  | inl d ↦ inl (digit_range b d)
   | inr e ↦ inr (eqb-true b 46 e)
 ]
 
@@ -65,9 +52,6 @@ no_break b h = let w = within_short b h in
 
 no_exponent_mark : (b : ℕ) → in_short b ≡ true → is_exponent_mark b ≡ false
 no_exponent_mark b h = let w = within_short b h in rw (ne_eqb b 101 (λ e. omega (arith, w.0, w.1, e)), ne_eqb b 69 (λ e. omega (arith, w.0, w.1, e))) refl
-
-no_point : (b : ℕ) → is_ascii_digit b ≡ true → is_point b ≡ false
-no_point b h = let w = digit_bounds b h in ne_eqb b 46 (λ e. omega (arith, w.0, e))
 
 sign_no_break : (b : ℕ) → is_sign b ≡ true → is_break b ≡ false
 sign_no_break b h = elim (or_cases (b == byte "+") (b == byte "-") h) [
@@ -93,14 +77,12 @@ all_short body whole fraction (inr e) h = let ds = digits_of whole fraction h in
 
 -- its parts round the point
 cut_parts : (body whole fraction : List ℕ) → IsCut body whole fraction → list_all is_ascii_digit (whole ++ fraction) ≡ true → (before_first is_point body ≡ whole) × (after_first is_point body ≡ fraction)
-cut_parts body whole fraction (inl e) h = let ds = digits_of whole fraction h in
-    let at : position_or_len is_point (whole ++ 46 ∷ fraction) ≡ length whole + 0 = first_behind is_point is_ascii_digit no_point whole (46 ∷ fraction) ds.0 in
-    let place : position_or_len is_point (whole ++ 46 ∷ fraction) ≡ length whole = omega (arith, at) in (
-      ap (before_first is_point) e ∙ ap (λ n. take n (whole ++ 46 ∷ fraction)) place ∙ take-append_seam whole (46 ∷ fraction),
-      ap (after_first is_point) e ∙ ap (λ n. drop (n + 1) (whole ++ 46 ∷ fraction)) place ∙ drop-append-add whole (46 ∷ fraction) 1,
-    )
-cut_parts body whole fraction (inr e) h = let ds = digits_of whole fraction h in let u = uncut is_point is_ascii_digit no_point whole ds.0 in
-    (ap (before_first is_point) e.0 ∙ u.0, ap (after_first is_point) e.0 ∙ u.1 ∙ sym e.1)
+cut_parts body whole fraction (inl e) h =
+    let all = cut_at_first is_point whole 46 fraction (none_of is_point is_ascii_digit no_point whole (digits_of whole fraction h).0) refl in
+    (ap (before_first is_point) e ∙ all.0, ap (after_first is_point) e ∙ all.1)
+cut_parts body whole fraction (inr e) h =
+    let all = uncut is_point whole (none_of is_point is_ascii_digit no_point whole (digits_of whole fraction h).0) in
+    (ap (before_first is_point) e.0 ∙ all.0, ap (after_first is_point) e.0 ∙ all.1 ∙ sym e.1)
 
 -- What such a text behind its sign tells of a number text.
 pub record IsPlain (run whole fraction : List ℕ) : Type 0 where
@@ -113,11 +95,11 @@ pub record IsPlain (run whole fraction : List ℕ) : Type 0 where
 pub plain_number : (run whole fraction : List ℕ) → IsCut (unsigned run) whole fraction → 0 < length whole → list_all is_ascii_digit (whole ++ fraction) ≡ true → IsPlain run whole fraction
 plain_number run whole fraction cut some all =
     let short = all_short (unsigned run) whole fraction cut all in
-    let mantissa = uncut is_exponent_mark in_short no_exponent_mark (unsigned run) short in
+    let none : has_exponent run ≡ false = none_of is_exponent_mark in_short no_exponent_mark (unsigned run) short in
+    let mantissa = uncut is_exponent_mark (unsigned run) none in
     let parts = cut_parts (unsigned run) whole fraction cut all in
     let w : whole_digits run ≡ whole = ap (before_first is_point) mantissa.0 ∙ parts.0 in
     let f : fraction_digits run ≡ fraction = ap (after_first is_point) mantissa.0 ∙ parts.1 in
-    let none : has_exponent run ≡ false = (none_in is_exponent_mark in_short no_exponent_mark (unsigned run) short).1 in
     let e : exponent run ≡ [] = mantissa.1 in
     let long : length (whole ++ fraction) ≢ 0 = λ z. omega (arith, length-append whole fraction, some, z) in
     let digits : are_digits (whole ++ fraction) ≡ true = rw (ne_eqb (length (whole ++ fraction)) 0 long, all) refl in
@@ -179,7 +161,7 @@ module _ (text : List ℕ) (front : Front) (is : IsFront front (unsigned text)) 
         let body = unsigned text in
         let at : position_or_len is_break body ≡ front.length =
         ap (position_or_len is_break) (sym (take-append-drop front.length body))
-        ∙ first_behind is_break in_short no_break (take front.length body) (drop front.length body) (all_short (take front.length body) is.whole is.fraction is.cut is.all)
+        ∙ first_behind is_break (take front.length body) (drop front.length body) (none_of is_break in_short no_break (take front.length body) (all_short (take front.length body) is.whole is.fraction is.cut is.all))
         ∙ (let z = no_more (drop front.length body) ended in let l = length-take front.length body in omega (arith, z, l, is.within)) in
         let here = (sign_cut text front.length k size place).1 at in
         let start = starts text k (omega (arith, size, place)) here in

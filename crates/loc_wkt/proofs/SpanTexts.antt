@@ -12,11 +12,6 @@ use Rattle.loc_spec_text.specs.Spans.{span_on_grid, span_texts}
 use Rattle.loc_wkt.specs.Fronts.{number_at}
 use Rattle.loc_wkt.proofs.PassLemmas.{number_front}
 
--- no two numbers
-pub no_span : (ps : List Symbol) → point_at ps ≡ None → span_texts ps ≡ None
-no_span (number x ∷ number y ∷ ps) e = absurd (cc)
-no_span _ e = refl
-
 -- two numbers at the front are the first symbols
 front_pair : (ps rest : List Symbol) (x y : List ℕ) → point_at ps ≡ Some ((x, y), rest) → ps ≡ number x ∷ number y ∷ rest
 front_pair (number a ∷ number b ∷ ps) rest x y e = ap (λ (p : PointText × List Symbol). number p.0.0 ∷ number p.0.1 ∷ p.1) (same_Some ((a, b), ps) ((x, y), rest) e)

@@ -17,9 +17,6 @@ module _ (p : ℕ → Bool) (x : ℕ) (xs : List ℕ) where
   pub after_first-no : p x ≡ false → after_first p (x ∷ xs) ≡ after_first p xs
   after_first-no h = rw h (rw (one-add, add-one, add-one) refl)
 
-  pub after_first-yes : p x ≡ true → after_first p (x ∷ xs) ≡ xs
-  after_first-yes h = rw h refl
-
 -- which tests a byte passes
 record IsDigit (b : ℕ) : Type 0 where
   digit : is_ascii_digit b ≡ true

@@ -18,37 +18,32 @@ use Rattle.loc_words.specs.declared.row.OptionKind.TheVariants.{Required, Option
 use Rattle.loc_words.specs.declared.row.CommandRow.{CommandRow as Row}
 use Rattle.loc_words.specs.declared.row.OptionRow.{OptionRow as Declared}
 use Rattle.loc_words.specs.declared.command.Command.{Command}
+use Rattle.loc_words.specs.declared.command.LayerFile.{LayerFile}
 use Rattle.loc_words.specs.declared.command.Command.TheVariants.{Query, Features, Check, Build, Ask, Verify, Face, Gen, Trial, Upgrade, Edges, Stab, Valid, Dissolve}
+
+-- what a command says of its layer's file
+pub record AskedLayer : Type 0 where
+  pub name : Text
+  pub scale : ℕ
+  pub form : Form
 
 -- what a query says
 pub record AskedQuery : Type 0 where
-  pub layer : Text
+  pub layer : AskedLayer
   pub points : Text
-  pub scale : ℕ
-  pub form : Form
   pub index : Index
   pub order : AskedOrder
   pub faces : Bool
 
 -- what a question for the features at points says
 pub record AskedFeatures : Type 0 where
-  pub layer : Text
+  pub layer : AskedLayer
   pub points : Text
-  pub scale : ℕ
-  pub form : Form
-
--- what a check says
-pub record AskedCheck : Type 0 where
-  pub layer : Text
-  pub scale : ℕ
-  pub form : Form
 
 -- of which layer an index file is made
 pub record AskedBuild : Type 0 where
-  pub layer : Text
+  pub layer : AskedLayer
   pub index : Text
-  pub scale : ℕ
-  pub form : Form
 
 -- what is asked, and of which index
 pub record AskedAsk : Type 0 where
@@ -61,10 +56,8 @@ pub record AskedVerify : Type 0 where
 
 -- what a question for a face says
 pub record AskedFace : Type 0 where
-  pub layer : Text
+  pub layer : AskedLayer
   pub point : Text
-  pub scale : ℕ
-  pub form : Form
 
 -- what is said of a layer to be generated: its kind, its size and its shift
 pub record AskedGen : Type 0 where
@@ -90,28 +83,14 @@ pub record AskedEdges : Type 0 where
 
 -- what a question for the edges on spans says
 pub record AskedStab : Type 0 where
-  pub layer : Text
+  pub layer : AskedLayer
   pub spans : Text
-  pub scale : ℕ
-  pub form : Form
-
--- the features of which layer are judged
-pub record AskedValid : Type 0 where
-  pub layer : Text
-  pub scale : ℕ
-  pub form : Form
-
--- which layer is dissolved
-pub record AskedDissolve : Type 0 where
-  pub layer : Text
-  pub scale : ℕ
-  pub form : Form
 
 -- a command with its values
 pub data Asked : Type 0 where
   query : AskedQuery → Asked
   features : AskedFeatures → Asked
-  check : AskedCheck → Asked
+  check : AskedLayer → Asked
   build : AskedBuild → Asked
   ask : AskedAsk → Asked
   verify : AskedVerify → Asked
@@ -121,36 +100,40 @@ pub data Asked : Type 0 where
   upgrade : AskedUpgrade → Asked
   edges : AskedEdges → Asked
   stab : AskedStab → Asked
-  valid : AskedValid → Asked
-  dissolve : AskedDissolve → Asked
+  valid : AskedLayer → Asked
+  dissolve : AskedLayer → Asked
+
+-- what a layer's file is
+abbrev pub layer_by : LayerFile → AskedLayer
+layer_by file = record { name = file.name.now; scale = file.scale; form = file.form }
 
 -- what a command says
 abbrev pub asked_by : Command → Asked
-asked_by (Query q) = query (record { layer = q.layer.now; points = q.points.now; scale = q.scale; form = q.form; index = q.index; order = asked_order q.order; faces = q.faces })
-asked_by (Features f) = features (record { layer = f.layer.now; points = f.points.now; scale = f.scale; form = f.form })
-asked_by (Check c) = check (record { layer = c.layer.now; scale = c.scale; form = c.form })
-asked_by (Build b) = build (record { layer = b.layer.now; index = b.index.now; scale = b.scale; form = b.form })
+asked_by (Query q) = query (record { layer = layer_by q.layer; points = q.points.now; index = q.index; order = asked_order q.order; faces = q.faces })
+asked_by (Features f) = features (record { layer = layer_by f.layer; points = f.points.now })
+asked_by (Check layer) = check (layer_by layer)
+asked_by (Build b) = build (record { layer = layer_by b.layer; index = b.index.now })
 asked_by (Ask a) = ask (record { index = a.index.now; points = a.points.now })
 asked_by (Verify v) = verify (record { index = v.index.now })
-asked_by (Face f) = face (record { layer = f.layer.now; point = f.point.now; scale = f.scale; form = f.form })
+asked_by (Face f) = face (record { layer = layer_by f.layer; point = f.point.now })
 asked_by (Gen g) = gen (record { kind = g.kind; n = g.n; shift = g.shift })
 asked_by (Trial t) = trial (record { kind = t.kind; n = t.n; shift = t.shift; index = t.index })
 asked_by (Upgrade u) = upgrade (record { old = u.old.now; new = u.new.now })
 asked_by (Edges e) = edges (record { index = e.index.now })
-asked_by (Stab s) = stab (record { layer = s.layer.now; spans = s.spans.now; scale = s.scale; form = s.form })
-asked_by (Valid v) = valid (record { layer = v.layer.now; scale = v.scale; form = v.form })
-asked_by (Dissolve d) = dissolve (record { layer = d.layer.now; scale = d.scale; form = d.form })
+asked_by (Stab s) = stab (record { layer = layer_by s.layer; spans = s.spans.now })
+asked_by (Valid layer) = valid (layer_by layer)
+asked_by (Dissolve layer) = dissolve (layer_by layer)
 
 -- the scale of a command that has one is one that coordinates can have
 abbrev pub HasScale : Command → Type 0
-HasScale (Query q) = q.scale ≤ 15
-HasScale (Features f) = f.scale ≤ 15
-HasScale (Check c) = c.scale ≤ 15
-HasScale (Build b) = b.scale ≤ 15
-HasScale (Face f) = f.scale ≤ 15
-HasScale (Stab s) = s.scale ≤ 15
-HasScale (Valid v) = v.scale ≤ 15
-HasScale (Dissolve d) = d.scale ≤ 15
+HasScale (Query q) = q.layer.scale ≤ 15
+HasScale (Features f) = f.layer.scale ≤ 15
+HasScale (Check layer) = layer.scale ≤ 15
+HasScale (Build b) = b.layer.scale ≤ 15
+HasScale (Face f) = f.layer.scale ≤ 15
+HasScale (Stab s) = s.layer.scale ≤ 15
+HasScale (Valid layer) = layer.scale ≤ 15
+HasScale (Dissolve layer) = layer.scale ≤ 15
 HasScale other = ⊤
 
 -- an option as the program has it
@@ -267,9 +250,9 @@ valid_row = record { name = codes "valid"; places = codes "layer" ∷ []; option
 abbrev pub dissolve_row : CommandRow
 dissolve_row = record { name = codes "dissolve"; places = codes "layer" ∷ []; options = layer_options }
 
--- the layer's name, its scale and its form, of what was given
-abbrev pub layer_given : List Entry → Option (Text × ℕ × Form)
-layer_given given = option_and_then (λ name. option_map (λ values. (name, values.0, values.1)) (scale_and_form (value_in given (codes "scale")) (value_in given (codes "form"))))
+-- the layer's file, of what was given
+abbrev pub layer_given : List Entry → Option AskedLayer
+layer_given given = option_and_then (λ name. option_map (λ values. record { name = name; scale = values.0; form = values.1 }) (scale_and_form (value_in given (codes "scale")) (value_in given (codes "form"))))
     (value_in given (codes "layer"))
 
 -- the kind, the size and the shift of a generated layer, of what was given
@@ -287,20 +270,20 @@ order_given given = option_and_then (λ index. option_map (λ order. (index, ord
 
 -- the query of what was given
 abbrev pub query_from : List Entry → Option Asked
-query_from given = option_and_then (λ file. option_and_then (λ points. option_map (λ by. query (record { layer = file.0; points = points; scale = file.1; form = file.2; index = by.0; order = by.1; faces = stands given (codes "faces") }))
+query_from given = option_and_then (λ layer. option_and_then (λ points. option_map (λ by. query (record { layer = layer; points = points; index = by.0; order = by.1; faces = stands given (codes "faces") }))
     (order_given given)) (value_in given (codes "points"))) (layer_given given)
 
 -- the question for the features at points of what was given
 abbrev pub features_from : List Entry → Option Asked
-features_from given = option_and_then (λ file. option_map (λ points. features (record { layer = file.0; points = points; scale = file.1; form = file.2 })) (value_in given (codes "points"))) (layer_given given)
+features_from given = option_and_then (λ layer. option_map (λ points. features (record { layer = layer; points = points })) (value_in given (codes "points"))) (layer_given given)
 
 -- the check of what was given
 abbrev pub check_from : List Entry → Option Asked
-check_from given = option_map (λ file. check (record { layer = file.0; scale = file.1; form = file.2 })) (layer_given given)
+check_from given = option_map check (layer_given given)
 
 -- the layer and the index file of what was given
 abbrev pub build_from : List Entry → Option Asked
-build_from given = option_and_then (λ file. option_map (λ index. build (record { layer = file.0; index = index; scale = file.1; form = file.2 })) (value_in given (codes "index"))) (layer_given given)
+build_from given = option_and_then (λ layer. option_map (λ index. build (record { layer = layer; index = index })) (value_in given (codes "index"))) (layer_given given)
 
 -- the index and the points of what was given
 abbrev pub ask_from : List Entry → Option Asked
@@ -312,7 +295,7 @@ verify_from given = option_map (λ index. verify (record { index = index })) (va
 
 -- the question for a face of what was given
 abbrev pub face_from : List Entry → Option Asked
-face_from given = option_and_then (λ file. option_map (λ point. face (record { layer = file.0; point = point; scale = file.1; form = file.2 })) (value_in given (codes "point"))) (layer_given given)
+face_from given = option_and_then (λ layer. option_map (λ point. face (record { layer = layer; point = point })) (value_in given (codes "point"))) (layer_given given)
 
 -- the generated layer of what was given
 abbrev pub gen_from : List Entry → Option Asked
@@ -332,15 +315,15 @@ edges_from given = option_map (λ index. edges (record { index = index })) (valu
 
 -- the question for the edges on spans of what was given
 abbrev pub stab_from : List Entry → Option Asked
-stab_from given = option_and_then (λ file. option_map (λ spans. stab (record { layer = file.0; spans = spans; scale = file.1; form = file.2 })) (value_in given (codes "spans"))) (layer_given given)
+stab_from given = option_and_then (λ layer. option_map (λ spans. stab (record { layer = layer; spans = spans })) (value_in given (codes "spans"))) (layer_given given)
 
 -- the layer whose features are to be judged, of what was given
 abbrev pub valid_from : List Entry → Option Asked
-valid_from given = option_map (λ file. valid (record { layer = file.0; scale = file.1; form = file.2 })) (layer_given given)
+valid_from given = option_map valid (layer_given given)
 
 -- the layer to be dissolved, of what was given
 abbrev pub dissolve_from : List Entry → Option Asked
-dissolve_from given = option_map (λ file. dissolve (record { layer = file.0; scale = file.1; form = file.2 })) (layer_given given)
+dissolve_from given = option_map dissolve (layer_given given)
 
 -- a command: its row, and what is made of what is given for the row
 abbrev pub Making : Type 0

@@ -18,7 +18,7 @@ pub enum Command<'a> {
     /// The features at the points of a file, against a layer.
     Features(Features<'a>),
     /// The counts of a layer.
-    Check(Check<'a>),
+    Check(LayerFile<'a>),
     /// An index file of a layer.
     Build(Build<'a>),
     /// Answers to the points of a file, from an index file.
@@ -38,19 +38,25 @@ pub enum Command<'a> {
     /// The edges that the spans of a file meet, against a layer.
     Stab(Stab<'a>),
     /// The first breach of each feature of a layer.
-    Valid(Valid<'a>),
+    Valid(LayerFile<'a>),
     /// The features of a layer by their ids, as the polygons that they cover together.
-    Dissolve(Dissolve<'a>),
+    Dissolve(LayerFile<'a>),
+}
+
+/// What is said of a layer's file: its name, and the scale and the form in which it is read.
+#[derive(Clone, Copy, Debug, PartialEq, Eq)]
+pub struct LayerFile<'a> {
+    pub name: &'a str,
+    pub scale: u8,
+    pub form: Form,
 }
 
 /// What a query says. Its places are as they stand in the words. The trapezoids are made of edges in the order of a file, or shuffled from a
 /// number.
 #[derive(Clone, Copy, Debug, PartialEq, Eq)]
 pub struct Query<'a> {
-    pub layer: &'a str,
+    pub layer: LayerFile<'a>,
     pub points: &'a str,
-    pub scale: u8,
-    pub form: Form,
     pub index: Index,
     pub order: EdgeOrder<'a>,
     pub faces: bool,
@@ -59,27 +65,15 @@ pub struct Query<'a> {
 /// What a question for the features at points says. Its places are as they stand in the words.
 #[derive(Clone, Copy, Debug, PartialEq, Eq)]
 pub struct Features<'a> {
-    pub layer: &'a str,
+    pub layer: LayerFile<'a>,
     pub points: &'a str,
-    pub scale: u8,
-    pub form: Form,
-}
-
-/// What a check says.
-#[derive(Clone, Copy, Debug, PartialEq, Eq)]
-pub struct Check<'a> {
-    pub layer: &'a str,
-    pub scale: u8,
-    pub form: Form,
 }
 
 /// Of which layer an index file is made, and its name.
 #[derive(Clone, Copy, Debug, PartialEq, Eq)]
 pub struct Build<'a> {
-    pub layer: &'a str,
+    pub layer: LayerFile<'a>,
     pub index: &'a str,
-    pub scale: u8,
-    pub form: Form,
 }
 
 /// What is asked, and of which index.
@@ -98,10 +92,8 @@ pub struct Verify<'a> {
 /// What a question for a face says. Its places are as they stand in the words.
 #[derive(Clone, Copy, Debug, PartialEq, Eq)]
 pub struct Face<'a> {
-    pub layer: &'a str,
+    pub layer: LayerFile<'a>,
     pub point: &'a str,
-    pub scale: u8,
-    pub form: Form,
 }
 
 /// What is said of a layer to be generated.
@@ -121,6 +113,12 @@ pub struct Trial {
     pub index: Index,
 }
 
+/// Which index file's edges are listed.
+#[derive(Clone, Copy, Debug, PartialEq, Eq)]
+pub struct Edges<'a> {
+    pub index: &'a str,
+}
+
 /// Which index file is upgraded, and the name of the new one.
 #[derive(Clone, Copy, Debug, PartialEq, Eq)]
 pub struct Upgrade<'a> {
@@ -128,35 +126,11 @@ pub struct Upgrade<'a> {
     pub new: &'a str,
 }
 
-/// Which index file's edges are listed.
-#[derive(Clone, Copy, Debug, PartialEq, Eq)]
-pub struct Edges<'a> {
-    pub index: &'a str,
-}
-
 /// What a question for the edges on spans says. Its places are as they stand in the words.
 #[derive(Clone, Copy, Debug, PartialEq, Eq)]
 pub struct Stab<'a> {
-    pub layer: &'a str,
+    pub layer: LayerFile<'a>,
     pub spans: &'a str,
-    pub scale: u8,
-    pub form: Form,
-}
-
-/// The features of which layer are judged.
-#[derive(Clone, Copy, Debug, PartialEq, Eq)]
-pub struct Valid<'a> {
-    pub layer: &'a str,
-    pub scale: u8,
-    pub form: Form,
-}
-
-/// Which layer is dissolved.
-#[derive(Clone, Copy, Debug, PartialEq, Eq)]
-pub struct Dissolve<'a> {
-    pub layer: &'a str,
-    pub scale: u8,
-    pub form: Form,
 }
 
 const SCALE: OptionRow<'static> = OptionRow {
@@ -243,15 +217,15 @@ const TRIAL: CommandRow<'static> = CommandRow {
     options: &[INDEX],
 };
 
-const UPGRADE: CommandRow<'static> = CommandRow {
-    name: "upgrade",
-    places: &["old", "new"],
-    options: &[],
-};
-
 const EDGES: CommandRow<'static> = CommandRow {
     name: "edges",
     places: &["index"],
+    options: &[],
+};
+
+const UPGRADE: CommandRow<'static> = CommandRow {
+    name: "upgrade",
+    places: &["old", "new"],
     options: &[],
 };
 
@@ -273,14 +247,14 @@ const DISSOLVE: CommandRow<'static> = CommandRow {
     options: &[SCALE, FORM],
 };
 
-// The layer's name, its scale and its form, of what was given.
-fn layer_given<'a>(given: &Given<'a>) -> Option<(&'a str, u8, Form)>
-    ensures bound { IfSome result (λ file. file.1 ≤ 15) }
-    ensures value { option_map (λ file. (file.0.now, file.1, file.2)) result ≡ spec.layer_given (given_by given.now) }
+// The layer's file, of what was given.
+fn layer_given<'a>(given: &Given<'a>) -> Option<LayerFile<'a>>
+    ensures bound { IfSome result (λ file. file.scale ≤ 15) }
+    ensures value { option_map spec.layer_by result ≡ spec.layer_given (given_by given.now) }
 {
     let name = given.value("layer")?;
     let (scale, form) = read_scale_and_form(given.value("scale"), given.value("form"))?;
-    Some((name, scale, form))
+    Some(LayerFile { name, scale, form })
 }
 
 // The kind, the size and the shift of a generated layer, of what was given.
@@ -306,15 +280,13 @@ fn query_from<'a>(given: &Given<'a>) -> Option<Command<'a>>
     ensures scale { IfSome result spec.HasScale }
     ensures value { option_map spec.asked_by result ≡ spec.query_from (given_by given.now) }
 {
-    let (layer, scale, form) = layer_given(given)?;
+    let layer = layer_given(given)?;
     let points = given.value("points")?;
     let (index, order) = order_given(given)?;
     let faces = given.stands("faces");
     Some(Command::Query(Query {
         layer,
         points,
-        scale,
-        form,
         index,
         order,
         faces,
@@ -325,36 +297,25 @@ fn features_from<'a>(given: &Given<'a>) -> Option<Command<'a>>
     ensures scale { IfSome result spec.HasScale }
     ensures value { option_map spec.asked_by result ≡ spec.features_from (given_by given.now) }
 {
-    let (layer, scale, form) = layer_given(given)?;
+    let layer = layer_given(given)?;
     let points = given.value("points")?;
-    Some(Command::Features(Features {
-        layer,
-        points,
-        scale,
-        form,
-    }))
+    Some(Command::Features(Features { layer, points }))
 }
 
 fn check_from<'a>(given: &Given<'a>) -> Option<Command<'a>>
     ensures scale { IfSome result spec.HasScale }
     ensures value { option_map spec.asked_by result ≡ spec.check_from (given_by given.now) }
 {
-    let (layer, scale, form) = layer_given(given)?;
-    Some(Command::Check(Check { layer, scale, form }))
+    Some(Command::Check(layer_given(given)?))
 }
 
 fn build_from<'a>(given: &Given<'a>) -> Option<Command<'a>>
     ensures scale { IfSome result spec.HasScale }
     ensures value { option_map spec.asked_by result ≡ spec.build_from (given_by given.now) }
 {
-    let (layer, scale, form) = layer_given(given)?;
+    let layer = layer_given(given)?;
     let index = given.value("index")?;
-    Some(Command::Build(Build {
-        layer,
-        index,
-        scale,
-        form,
-    }))
+    Some(Command::Build(Build { layer, index }))
 }
 
 fn ask_from<'a>(given: &Given<'a>) -> Option<Command<'a>>
@@ -378,14 +339,9 @@ fn face_from<'a>(given: &Given<'a>) -> Option<Command<'a>>
     ensures scale { IfSome result spec.HasScale }
     ensures value { option_map spec.asked_by result ≡ spec.face_from (given_by given.now) }
 {
-    let (layer, scale, form) = layer_given(given)?;
+    let layer = layer_given(given)?;
     let point = given.value("point")?;
-    Some(Command::Face(Face {
-        layer,
-        point,
-        scale,
-        form,
-    }))
+    Some(Command::Face(Face { layer, point }))
 }
 
 fn gen_from<'a>(given: &Given<'a>) -> Option<Command<'a>>
@@ -394,6 +350,13 @@ fn gen_from<'a>(given: &Given<'a>) -> Option<Command<'a>>
 {
     let (kind, n, shift) = generated_given(given)?;
     Some(Command::Gen(Gen { kind, n, shift }))
+}
+
+fn valid_from<'a>(given: &Given<'a>) -> Option<Command<'a>>
+    ensures scale { IfSome result spec.HasScale }
+    ensures value { option_map spec.asked_by result ≡ spec.valid_from (given_by given.now) }
+{
+    Some(Command::Valid(layer_given(given)?))
 }
 
 fn trial_from<'a>(given: &Given<'a>) -> Option<Command<'a>>
@@ -410,13 +373,11 @@ fn trial_from<'a>(given: &Given<'a>) -> Option<Command<'a>>
     }))
 }
 
-fn upgrade_from<'a>(given: &Given<'a>) -> Option<Command<'a>>
+fn dissolve_from<'a>(given: &Given<'a>) -> Option<Command<'a>>
     ensures scale { IfSome result spec.HasScale }
-    ensures value { option_map spec.asked_by result ≡ spec.upgrade_from (given_by given.now) }
+    ensures value { option_map spec.asked_by result ≡ spec.dissolve_from (given_by given.now) }
 {
-    let old = given.value("old")?;
-    let new = given.value("new")?;
-    Some(Command::Upgrade(Upgrade { old, new }))
+    Some(Command::Dissolve(layer_given(given)?))
 }
 
 fn edges_from<'a>(given: &Given<'a>) -> Option<Command<'a>>
@@ -427,34 +388,22 @@ fn edges_from<'a>(given: &Given<'a>) -> Option<Command<'a>>
     Some(Command::Edges(Edges { index }))
 }
 
+fn upgrade_from<'a>(given: &Given<'a>) -> Option<Command<'a>>
+    ensures scale { IfSome result spec.HasScale }
+    ensures value { option_map spec.asked_by result ≡ spec.upgrade_from (given_by given.now) }
+{
+    let old = given.value("old")?;
+    let new = given.value("new")?;
+    Some(Command::Upgrade(Upgrade { old, new }))
+}
+
 fn stab_from<'a>(given: &Given<'a>) -> Option<Command<'a>>
     ensures scale { IfSome result spec.HasScale }
     ensures value { option_map spec.asked_by result ≡ spec.stab_from (given_by given.now) }
 {
-    let (layer, scale, form) = layer_given(given)?;
+    let layer = layer_given(given)?;
     let spans = given.value("spans")?;
-    Some(Command::Stab(Stab {
-        layer,
-        spans,
-        scale,
-        form,
-    }))
-}
-
-fn valid_from<'a>(given: &Given<'a>) -> Option<Command<'a>>
-    ensures scale { IfSome result spec.HasScale }
-    ensures value { option_map spec.asked_by result ≡ spec.valid_from (given_by given.now) }
-{
-    let (layer, scale, form) = layer_given(given)?;
-    Some(Command::Valid(Valid { layer, scale, form }))
-}
-
-fn dissolve_from<'a>(given: &Given<'a>) -> Option<Command<'a>>
-    ensures scale { IfSome result spec.HasScale }
-    ensures value { option_map spec.asked_by result ≡ spec.dissolve_from (given_by given.now) }
-{
-    let (layer, scale, form) = layer_given(given)?;
-    Some(Command::Dissolve(Dissolve { layer, scale, form }))
+    Some(Command::Stab(Stab { layer, spans }))
 }
 
 // The row of the command of this name.

@@ -13,8 +13,8 @@ mod values;
 mod words;
 
 pub use command::{
-    Ask, Build, Check, Command, Dissolve, Edges, Face, Features, Gen, Query, Stab, Trial, Upgrade,
-    Valid, Verify, command_of,
+    Ask, Build, Command, Edges, Face, Features, Gen, LayerFile, Query, Stab, Trial, Upgrade,
+    Verify, command_of,
 };
 pub use fault::WordsFault;
 pub use loc_gen::Kind;

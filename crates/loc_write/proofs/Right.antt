@@ -32,10 +32,6 @@ pub each-at : {X : Type 0} (P : X → Type 0) (xs : List X) → ((i : ℕ) (d : 
 each-at P [] h = tt
 each-at P (x ∷ xs) h = (h 0 x (omega arith), each-at P xs (λ i d lt. h (suc i) d (omega (arith, lt))))
 
-pub each-more : {X : Type 0} (P Q : X → Type 0) → ((x : X) → P x → Q x) → (xs : List X) → Each P xs → Each Q xs
-each-more P Q f [] e = tt
-each-more P Q f (x ∷ xs) e = (f x e.0, each-more P Q f xs e.1)
-
 each-append : {X : Type 0} (P : X → Type 0) (xs ys : List X) → Each P xs → Each P ys → Each P (xs ++ ys)
 each-append P [] ys e f = f
 each-append P (x ∷ xs) ys e f = (e.0, each-append P xs ys e.1 f)

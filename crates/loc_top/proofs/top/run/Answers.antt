@@ -1,7 +1,6 @@
 use Rattle.std.proofs.Common.{ap, map, string_bytes}
 use Rattle.std.specs.Prelude.{option_map}
 use Rattle.loc_words.specs.Words.{command_of}
-use Rattle.loc_maps.specs.MapCourses.{layer_file}
 use Rattle.loc_indexed.specs.Building.{build_course}
 use Rattle.loc_indexed.specs.IndexedCourses.{ask_course}
 use Rattle.loc_indexed.specs.Verifying.{verify_course}
@@ -21,19 +20,19 @@ use Rattle.loc_reach.proofs.Stabbed.{stabs}
 use Rattle.loc_upgrade.specs.UpgradeCourses.{edges_course, upgrade_course}
 use Rattle.loc_upgrade.proofs.EdgesTold.{tells}
 use Rattle.loc_upgrade.proofs.Upgraded.{upgrades}
-use Rattle.loc_top.specs.Run.{course_by}
+use Rattle.loc_top.specs.Run.{course_by, file_of}
 use Rattle.loc_top.proofs.Runs.{ended_of, files_of, range, refuses_words, sentences_hold, sentences_of}
 use Rattle.loc_top.proofs.top.run.Goals as goal
 
 pub returns-clause-headline : goal.returns-clause-headline
 returns-clause-headline g c asked is =
-    let file = layer_file asked.layer asked.form asked.scale in
+    let file = file_of asked.layer in
     let course = query_course asked.index asked.order asked.faces file asked.points in
     headline asked.index asked.order asked.faces file asked.points _ _ _ _ _ (sentences_of _ _ _ _ c.run_course.result _ c.run_course.ensures.ran course (ap (option_map course_by) is))
 
 pub returns-clause-features : goal.returns-clause-features
 returns-clause-features g c asked is =
-    let file = layer_file asked.layer asked.form asked.scale in
+    let file = file_of asked.layer in
     features_told file asked.points _ _ _ _ _ (sentences_of _ _ _ _ c.run_course.result _ c.run_course.ensures.ran (features_course file asked.points) (ap (option_map course_by) is))
 
 pub returns-clause-asks : goal.returns-clause-asks
@@ -42,7 +41,7 @@ returns-clause-asks g c asked is =
 
 pub returns-clause-builds : goal.returns-clause-builds
 returns-clause-builds g c asked is =
-    let file = layer_file asked.layer asked.form asked.scale in
+    let file = file_of asked.layer in
     builds file asked.index _ _ _ _ _ (ended_of _ _ _ _ c.run_course.result _ c.run_course.ensures.ran (build_course file asked.index) (ap (option_map course_by) is)) (c.run_course.ensures.built asked is)
 
 pub returns-clause-verifies : goal.returns-clause-verifies
@@ -59,17 +58,17 @@ returns-clause-edges g c asked is =
 
 pub returns-clause-stabs : goal.returns-clause-stabs
 returns-clause-stabs g c asked is =
-    let file = layer_file asked.layer asked.form asked.scale in
+    let file = file_of asked.layer in
     stabs file asked.spans _ _ _ _ _ (sentences_of _ _ _ _ c.run_course.result _ c.run_course.ensures.ran (stab_course file asked.spans) (ap (option_map course_by) is))
 
 pub returns-clause-judges : goal.returns-clause-judges
 returns-clause-judges g c asked is =
-    let file = layer_file asked.layer asked.form asked.scale in
+    let file = file_of asked in
     judges file _ _ _ _ _ (sentences_of _ _ _ _ c.run_course.result _ c.run_course.ensures.ran (valid_course file) (ap (option_map course_by) is))
 
 pub returns-clause-dissolves : goal.returns-clause-dissolves
 returns-clause-dissolves g c asked is =
-    let file = layer_file asked.layer asked.form asked.scale in
+    let file = file_of asked in
     dissolves file _ _ _ _ _ (sentences_of _ _ _ _ c.run_course.result _ c.run_course.ensures.ran (dissolve_course file) (ap (option_map course_by) is))
 
 pub returns-clause-sentences : goal.returns-clause-sentences

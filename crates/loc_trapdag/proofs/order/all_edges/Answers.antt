@@ -1,5 +1,5 @@
 use Rattle.std.proofs.Common.{◌∙◌, ◌++◌, [], ◌∷◌, List, ℕ, ap, sym}
-use Rattle.loc_trapdag.proofs.Counts.{numbers_more}
+use Rattle.loc_laws_order.proofs.Kept.{numbers_more}
 use Rattle.loc_trapdag.proofs.order.all_edges.Goals as goal
 
 pub loop-edge-preserved : goal.loop-edge-preserved

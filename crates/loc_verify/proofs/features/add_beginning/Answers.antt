@@ -3,8 +3,8 @@ use Rattle.std.specs.List.{range_with_len}
 use Rattle.std.proofs.lemmas.Option.{get_or_from_slice_get}
 use Rattle.loc_spec_plane.specs.Lists.{exactly_one, odd_many}
 use Rattle.loc_spec_plane.specs.Tables.{has_odd}
+use Rattle.loc_laws_order.proofs.Kept.{range_more}
 use Rattle.loc_cover.specs.Exchanges.{is_marked_odd}
-use Rattle.loc_cover.proofs.Gathered.{range_more}
 use Rattle.loc_verify.specs.Least.{is_odd_in}
 use Rattle.loc_verify.proofs.Odd.{GathersOdd, gathers_odd, odd_begun}
 use Rattle.loc_verify.proofs.features.add_beginning.Goals as goal
