@@ -1,7 +1,7 @@
 // How two edges meet, and which of them is lower.
 
 ghost use Rattle.std.specs.Prelude.{◌≡◌, ◌&&◌, ◌||◌, int_lt, pos};
-ghost use Rattle.loc_spec_plane.specs.Points.{inside, ends_inside, is_on, lies_on, turn as turn_of};
+ghost use Rattle.loc_spec_plane.specs.Points.{inside, ends_inside, touch, is_on, lies_on, turn as turn_of};
 ghost use Rattle.loc_spec_plane.specs.Places.{lower as lower_of};
 ghost use Rattle.loc_geom.specs.Answers.{IsMeeting};
 
@@ -58,15 +58,25 @@ fn turns_of(a: Edge, b: Edge) -> (i128, i128)
     (side_number(b, a.lo()), side_number(b, a.hi()))
 }
 
+// Whether two edges touch, by the turns of the ends of each against the other.
+fn touches(a: Edge, b: Edge, of_a: (i128, i128), of_b: (i128, i128)) -> bool
+    requires lower_of_a { of_a.0 ≡ turn_of b.lo b.hi a.lo }
+    requires upper_of_a { of_a.1 ≡ turn_of b.lo b.hi a.hi }
+    requires lower_of_b { of_b.0 ≡ turn_of a.lo a.hi b.lo }
+    requires upper_of_b { of_b.1 ≡ turn_of a.lo a.hi b.hi }
+    ensures { result ≡ touch a b }
+{
+    ends_on(a, b, of_a) || ends_on(b, a, of_b)
+}
+
 /// How two edges meet: they touch where an end of one lies on the other and is no end of it, and they cross where the ends of each lie
 /// strictly on opposite sides of the other. Equal edges are apart.
-#[tactic(auto, using(loc_laws_order::proofs::Tests::they_conflict))]
 pub fn conflict(a: Edge, b: Edge) -> Meeting
     ensures { IsMeeting a b result }
 {
     let of_a = turns_of(a, b);
     let of_b = turns_of(b, a);
-    if ends_on(a, b, of_a) || ends_on(b, a, of_b) {
+    if touches(a, b, of_a, of_b) {
         Meeting::Touch
     } else if are_opposite(of_a) && are_opposite(of_b) {
         Meeting::Cross

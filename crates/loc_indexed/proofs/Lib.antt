@@ -4,6 +4,7 @@ pub mod Behind
 pub mod Flawed
 pub mod IndexFiles
 pub mod IndexOutcomes
+pub mod Judging
 pub mod MadeCourses
 pub mod MarkedAnswers
 pub mod OwnRows

@@ -2,6 +2,7 @@
 
 ghost use Rattle.std.specs.Prelude.{◌≡◌, ◌++◌, IfOk, OnOk, ℕ};
 ghost use Rattle.std.specs.Fmt.{decimal};
+ghost use Rattle.loc_io.specs.Meaning.{Meaning};
 ghost use Rattle.loc_spec_text.specs.Points.{ended};
 ghost use Rattle.loc_spec_index.specs.TrueIndex.{IsTrueIndex};
 ghost use Rattle.loc_laws_judge.specs.FirstFlaw.{first_flaw};
@@ -58,6 +59,23 @@ fn judge_held(alloc: Global, held: &Held) -> Result<(), Stop>
     }
 }
 
+// The counts of an index are written.
+fn write_counts<O: Sink>(alloc: Global, held: &Held, out: &mut O) -> Result<(), Stop>
+    ensures { (shelf : Meaning) (k : ℕ) → Follows (writes (exactly (ended (index_text held.now.content)))) (moment shelf (O.meaning out.old) k) (moment shelf (O.meaning out.new) k) (end_of result) }
+{
+    let line = index_line(alloc, held)?;
+    write_out(out, &line)
+}
+
+// What was read is judged, and its counts are written where it is true.
+fn tell<O: Sink>(alloc: Global, held: &Held, out: &mut O) -> Result<(), Stop>
+    ensures follows { (shelf : Meaning) (k : ℕ) → Follows (judged_course held.now.content (first_flaw held.now.content)) (moment shelf (O.meaning out.old) k) (moment shelf (O.meaning out.new) k) (end_of result) }
+    ensures is_true { OnOk result (IsTrueIndex held.now.content) }
+{
+    judge_held(alloc, held)?;
+    write_counts(alloc, held, out)
+}
+
 /// Reads the index whole and judges it, and writes its counts where it is true. All memory is taken before the first byte on `out`.
 pub fn verify<F: Shelf, O: Sink>(
     alloc: Global,
@@ -69,7 +87,5 @@ pub fn verify<F: Shelf, O: Sink>(
     ensures judged { Judged ((F.meaning shelf.old).told index_name.now) (status_of (end_of result)) }
 {
     let held = read_index_file(alloc, shelf, index_name)?;
-    judge_held(alloc, &held)?;
-    let line = index_line(alloc, &held)?;
-    write_out(out, &line)
+    tell(alloc, &held, out)
 }

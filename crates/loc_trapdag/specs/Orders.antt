@@ -4,10 +4,11 @@
 --   Row, row_of, rows_from, order_rows  the lines that are not blank, by number
 --   has_number, fault_at, fault_behind, numbers_of, missing_edge  what is wrong with rows
 --   order_of                       the order of a text, or its one fault
+--   IsFreeFault                    the fault of the least edge that has no line
 --   IsFaultOf                      a fault, unless it is want of memory
 --   IsCapped                       a number that is read up to a cap
 --   shuffled_order                 the order shuffled from a number
-use Rattle.std.specs.Prelude.{◌≡◌, ℕ, ◌^◌, min, Bool, false, not, ◌&&◌, List, [], ◌∷◌, ◌++◌, length, map, filter, filter_map, find, count_by, nat_lt, nat_le, ◌==◌, if◌then◌else◌, Option, Some, None, option_map, Result, Err}
+use Rattle.std.specs.Prelude.{◌≡◌, ℕ, ◌^◌, min, Bool, false, not, ◌&&◌, List, [], ◌∷◌, ◌++◌, ◌<◌, ◌≢◌, length, get_or, map, filter, filter_map, find, count_by, nat_lt, nat_le, ◌==◌, if◌then◌else◌, Option, Some, None, option_map, Result, Err}
 use Rattle.std.specs.Char.{is_ascii_digit}
 use Rattle.std.specs.Str.Parse.{digits_value}
 use Rattle.std.specs.List.{enumerate_from, take_while}
@@ -88,6 +89,10 @@ order_from edges rows = ok_unless (or_else (fault_behind edges [] rows) (option_
 -- the order of a text for so many edges, or its one fault
 abbrev pub order_of : ℕ → List ℕ → Result (List ℕ) OrderFault
 order_of edges text = order_from edges (rows_from 1 text)
+
+-- the fault names an edge whose line is 0, and before which each edge has a line
+abbrev pub IsFreeFault : ℕ → List ℕ → OrderFault → Type 0
+IsFreeFault edges line_of fault = (e : ℕ) × (fault ≡ Missing e) × (e < edges) × (get_or line_of e 0 ≡ 0) × ((d : ℕ) → d < e → get_or line_of d 0 ≢ 0)
 
 -- the fault of what is read, unless it is want of memory
 abbrev pub IsFaultOf : Result (List ℕ) OrderFault → OrderFault → Type 0

@@ -1,12 +1,12 @@
 // The text of an order, line by line.
 
-ghost use Rattle.std.specs.Prelude.{◌≡◌, ℕ, ◌<◌, ◌≤◌, ◌^◌, Ok, IfOk, IfErr, IsTrue, OnOk, Some, [], ◌∷◌, ◌++◌, length, min};
+ghost use Rattle.std.specs.Prelude.{◌≡◌, ℕ, ◌<◌, ◌≤◌, ◌^◌, Ok, IfOk, IfErr, IsTrue, OnOk, Some, [], ◌∷◌, ◌++◌, ◌≢◌, length, get_or, min, replicate};
 ghost use Rattle.std.specs.Char.{is_ascii_digit};
 ghost use Rattle.std.specs.List.{list_all, prefix_len};
 ghost use Rattle.std.specs.Str.Parse.{digits_value};
 ghost use Rattle.loc_spec_text.specs.Limits.{most_text};
 ghost use Rattle.loc_spec_text.specs.Bytes.{is_white as is_white_byte};
-ghost use Rattle.loc_trapdag.specs.Orders.{IsOrder, IsFaultOf, order_of, digits_of, rest_of, line_number, number_fault, IsCapped};
+ghost use Rattle.loc_trapdag.specs.Orders.{IsOrder, IsFaultOf, order_of, digits_of, rest_of, line_number, number_fault, IsFreeFault, IsCapped};
 
 use crate::OrderFault;
 use loc_wkt::{is_blank, next_line};
@@ -91,15 +91,34 @@ fn put(order: &mut Vec<u32>, edge: u32) -> Result<(), AllocError>
     Ok(())
 }
 
-// The edges of a text, in order.
-pub(crate) fn read_order(alloc: Global, text: &[u8], edges: u32) -> Result<Vec<u32>, OrderFault>
+// Refuses the least edge that has no line.
+fn find_missing(line_of: &[u32], edges: u32) -> Result<(), OrderFault>
+    requires { length line_of.now ≡ edges }
+    ensures ok { OnOk result ((e : ℕ) → e < edges → get_or line_of.now e 0 ≢ 0) }
+    ensures err { IfErr result (IsFreeFault edges line_of.now) }
+{
+    for edge in 0..edges {
+        if line_of[edge as usize] == 0 {
+            return Err(OrderFault::Missing { edge });
+        }
+    }
+    Ok(())
+}
+
+// Reads the lines of a text: puts each edge behind the others, and its line into its place.
+fn read_lines(
+    text: &[u8],
+    edges: u32,
+    line_of: &mut [u32],
+    order: &mut Vec<u32>,
+) -> Result<(), OrderFault>
     requires size { length text.now ≤ most_text }
-    ensures ok { IfOk result (λ order. order_of edges text.now ≡ Ok order.items) }
-    ensures permutation { IfOk result (λ order. IsOrder edges order.items) }
+    requires no_line { line_of.old ≡ replicate edges 0 }
+    requires no_edge { order.old.items ≡ [] }
+    ensures ok { OnOk result (order_of edges text.now ≡ Ok order.new.items) }
+    ensures permutation { OnOk result (IsOrder edges order.new.items) }
     ensures err { IfErr result (IsFaultOf (order_of edges text.now)) }
 {
-    let mut line_of = vec![in alloc; 0u32; edges as usize]?;
-    let mut order = Vec::new(alloc);
     let mut rest = text;
     let mut number = 0u32;
     while let Some((line, more)) = next_line(rest) {
@@ -114,14 +133,22 @@ pub(crate) fn read_order(alloc: Global, text: &[u8], edges: u32) -> Result<Vec<u
                 });
             }
             line_of[edge as usize] = number;
-            put(&mut order, edge)?;
+            put(order, edge)?;
         }
         rest = more;
     }
-    for edge in 0..edges {
-        if line_of[edge as usize] == 0 {
-            return Err(OrderFault::Missing { edge });
-        }
-    }
+    find_missing(line_of, edges)
+}
+
+// The edges of a text, in order.
+pub(crate) fn read_order(alloc: Global, text: &[u8], edges: u32) -> Result<Vec<u32>, OrderFault>
+    requires size { length text.now ≤ most_text }
+    ensures ok { IfOk result (λ order. order_of edges text.now ≡ Ok order.items) }
+    ensures permutation { IfOk result (λ order. IsOrder edges order.items) }
+    ensures err { IfErr result (IsFaultOf (order_of edges text.now)) }
+{
+    let mut line_of = vec![in alloc; 0u32; edges as usize]?;
+    let mut order = Vec::new(alloc);
+    read_lines(text, edges, &mut line_of, &mut order)?;
     Ok(order)
 }

@@ -2,3 +2,4 @@ pub mod Meaning
 pub mod Names
 pub mod Splits
 pub mod Walks
+pub mod Pieces

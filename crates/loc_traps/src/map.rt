@@ -4,15 +4,17 @@ ghost use Rattle.std.specs.Prelude.{◌≡◌, ℕ, ◌+◌, ◌*◌, ◌&&◌, 
 ghost use Rattle.loc_spec_plane.specs.Points.{conflict};
 ghost use Rattle.loc_spec_plane.specs.Tables.{Table, IsTable, corner as corner_of, edge as edge_of, lo_of, hi_of};
 ghost use Rattle.loc_spec_plane.specs.Traps.{in_order};
-ghost use Rattle.loc_laws_traps.specs.Sets.{is_inside, is_lowest_at, is_highest_at};
+ghost use Rattle.loc_laws_traps.specs.Sets.{IsCalmSet, with_edge, begins_in, is_inside, is_lowest_at, is_highest_at};
 ghost use Rattle.loc_traps.specs.Meaning.{IsMapOf, no_bounds, row_of, live_of, named_of, among, live_count};
 ghost use Rattle.loc_laws_traps.specs.Maps.{Renames};
 ghost use Rattle.loc_traps.specs.Names.{IsNamable, IsOneOfAKind};
+ghost use Rattle.loc_traps.specs.Walks.{IsWalk};
+ghost use Rattle.loc_traps.specs.Pieces.{ArePieces};
 ghost use Rattle.loc_traps.specs.Splits.{split_of, is_cut_by, AreSplits, AllSendOn, IsAdded};
 
-use crate::names::{Kind, name_at, rename};
+use crate::names::{Kind, name_at, name_new};
 use crate::pieces::{fresh_pieces, splits};
-use crate::walk::walk_along;
+use crate::walk::{Walk, walk_along};
 use loc_edges::Ranks;
 use loc_spec_plane::Trap;
 use std::alloc::{AllocError, Global};
@@ -31,6 +33,13 @@ pub struct Split {
 
 /// The splits that an edge brings, one for each trapezoid that it cuts.
 pub type Splits = Vec<Split>;
+
+// What an edge makes of the trapezoids that it cuts: the new rows, and the splits that tell them.
+#[derive(Drop)]
+struct Pieces {
+    fresh: Vec<Trap>,
+    splits: Splits,
+}
 
 /// The trapezoids of the edges added, by number, and those that were cut. No number is used again.
 #[derive(Drop)]
@@ -134,16 +143,50 @@ impl Traps {
         ensures refused { OnErr result (self.new ≡ self.old) }
     {
         ranks.law();
+        let pieces = self.pieces_of(ranks, edge, from)?;
+        self.write(ranks, edge, &pieces.fresh, &pieces.splits)?;
+        let Pieces { splits, .. } = pieces;
+        Ok(splits)
+    }
+
+    // The pieces that an edge makes of the trapezoids that it cuts. Only room is taken for them.
+    fn pieces_of(&mut self, ranks: &Ranks<'_>, edge: u32, from: usize) -> Result<Pieces, AllocError>
+        requires in_range { edge < length ranks.now.ends }
+        requires is_map { IsMapOf ranks.now self.old }
+        requires calm { IsCalmSet ranks.now (with_edge (among self.old.added) edge) }
+        requires is_new { among self.old.added edge ≡ false }
+        requires row { from < length self.old.rows }
+        requires is_live { live_of self.old.is_live from ≡ true }
+        requires begins { begins_in ranks.now edge (row_of self.old.rows from) ≡ true }
+        ensures ok { IfOk result (λ pieces. ArePieces ranks.now self.old edge from pieces.fresh.items pieces.splits.items) }
+        ensures same { self.new ≡ self.old }
+    {
+        let alloc = *self.rows.allocator();
+        let walk = walk_along(alloc, self, ranks, edge, from)?;
+        self.cut_along(ranks, edge, from, &walk)
+    }
+
+    // The pieces of a walk.
+    fn cut_along(
+        &mut self,
+        ranks: &Ranks<'_>,
+        edge: u32,
+        from: usize,
+        walk: &Walk,
+    ) -> Result<Pieces, AllocError>
+        requires in_range { edge < length ranks.now.ends }
+        requires walk { IsWalk ranks.now self.old.added self.old.rows self.old.is_live edge from walk.now.last walk.now.overs.items walk.now.unders.items walk.now.cuts.items }
+        ensures ok { IfOk result (λ pieces. ArePieces ranks.now self.old edge from pieces.fresh.items pieces.splits.items) }
+        ensures same { self.new ≡ self.old }
+    {
         let alloc = *self.rows.allocator();
         let ends = ranks.ends(edge);
-        let walk = walk_along(alloc, self, ranks, edge, from)?;
         let first = self.trap(from);
         let last = self.trap(walk.last);
-        let fresh = fresh_pieces(alloc, edge, ends, &walk, first, last)?;
+        let fresh = fresh_pieces(alloc, edge, ends, walk, first, last)?;
         self.rows.reserve(fresh.len())?;
-        let splits = splits(alloc, &self.rows, ends, &walk, first)?;
-        self.write(ranks, edge, &fresh, &splits)?;
-        Ok(splits)
+        let splits = splits(alloc, &self.rows, ends, walk, first)?;
+        Ok(Pieces { fresh, splits })
     }
 
     // Writes the new rows and their names, and that the cut rows are live no longer. All memory is taken before the first change.
@@ -175,22 +218,64 @@ impl Traps {
         let (_, hi) = ranks.ends(edge);
         let corners = hi as usize + 1;
         let from = self.rows.len();
-        self.is_live.reserve(fresh.len())?;
-        self.added.reserve(1)?;
         self.lowest.reserve(corners)?;
         self.highest.reserve(corners)?;
-        self.rows.extend_from_slice(fresh)?;
-        bury(&mut self.is_live, splits);
-        self.is_live.resize(self.rows.len(), true).unwrap();
-        self.added.push(edge).unwrap();
-        let lowest = self.lowest.len().max(corners);
-        self.lowest.resize(lowest, None).unwrap();
-        let highest = self.highest.len().max(corners);
-        self.highest.resize(highest, None).unwrap();
-        rename(ranks, &self.rows, from, Kind::Lowest, &mut self.lowest);
-        rename(ranks, &self.rows, from, Kind::Highest, &mut self.highest);
+        put_rows(
+            &mut self.rows,
+            &mut self.is_live,
+            &mut self.added,
+            edge,
+            fresh,
+            splits,
+        )?;
+        name_new(
+            ranks,
+            &self.rows,
+            from,
+            Kind::Lowest,
+            corners,
+            &mut self.lowest,
+        );
+        name_new(
+            ranks,
+            &self.rows,
+            from,
+            Kind::Highest,
+            corners,
+            &mut self.highest,
+        );
         Ok(())
     }
+}
+
+// Puts the new rows and the edge behind the others, and marks which rows are live. After a refusal all is as before.
+fn put_rows(
+    rows: &mut Vec<Trap>,
+    is_live: &mut Vec<bool>,
+    added: &mut Vec<u32>,
+    edge: u32,
+    fresh: &[Trap],
+    splits: &[Split],
+) -> Result<(), AllocError>
+    requires flags { length is_live.old.items ≡ length rows.old.items }
+    requires cut_rows { (j : ℕ) → j < length splits.now → (split_of splits.now j).cut < length is_live.old.items }
+    requires live_rows { (j : ℕ) → j < length splits.now → live_of is_live.old.items (split_of splits.now j).cut ≡ true }
+    requires apart { (i j : ℕ) → i < length splits.now → j < length splits.now → (split_of splits.now i).cut ≡ (split_of splits.now j).cut → i ≡ j }
+    ensures rows { OnOk result (rows.new.items ≡ rows.old.items ++ fresh.now) }
+    ensures added { OnOk result (added.new.items ≡ added.old.items ++ edge ∷ []) }
+    ensures flags { OnOk result (length is_live.new.items ≡ length rows.new.items) }
+    ensures stays { OnOk result ((i : ℕ) → i < length rows.old.items → live_of is_live.new.items i ≡ (live_of is_live.old.items i && not (is_cut_by splits.now i))) }
+    ensures fresh { OnOk result ((i : ℕ) → length rows.old.items ≤ i → i < length rows.new.items → live_of is_live.new.items i ≡ true) }
+    ensures count { OnOk result (live_count is_live.new.items + length splits.now ≡ live_count is_live.old.items + length fresh.now) }
+    ensures refused { OnErr result ((rows.new.items ≡ rows.old.items) × ((is_live.new.items ≡ is_live.old.items) × (added.new.items ≡ added.old.items))) }
+{
+    is_live.reserve(fresh.len())?;
+    added.reserve(1)?;
+    rows.extend_from_slice(fresh)?;
+    bury(is_live, splits);
+    is_live.resize(rows.len(), true).unwrap();
+    added.push(edge).unwrap();
+    Ok(())
 }
 
 // Marks that the cut rows are live no longer.

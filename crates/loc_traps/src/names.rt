@@ -1,6 +1,6 @@
 // The names of the lowest and of the highest trapezoid that begin at each corner.
 
-ghost use Rattle.std.specs.Prelude.{◌≡◌, ℕ, ◌<◌, ◌≤◌, Some, IsSome, IfSome, length};
+ghost use Rattle.std.specs.Prelude.{◌≡◌, ℕ, ◌<◌, ◌≤◌, Some, IsSome, IfSome, length, vec_capacity};
 ghost use Rattle.loc_laws_traps.specs.Maps.{Renames};
 ghost use Rattle.loc_traps.specs.Meaning.{row_of, named_of};
 ghost use Rattle.loc_traps.specs.Names.{starts_apart, bound_of, is_kind, IsNamable, IsOneOfAKind};
@@ -65,4 +65,24 @@ pub(crate) fn rename(
             }
         }
     }
+}
+
+// Names the new rows of a kind in a list that has room for so many corners, and now has a place for each of them.
+pub(crate) fn name_new(
+    ranks: &Ranks<'_>,
+    rows: &[Trap],
+    from: usize,
+    kind: Kind,
+    corners: usize,
+    names: &mut Vec<Option<usize>>,
+)
+    requires within { from ≤ length rows.now }
+    requires room { corners ≤ vec_capacity names.old }
+    requires in_range { (i : ℕ) → from ≤ i → i < length rows.now → IsNamable ranks.now corners (row_of rows.now i) }
+    requires one { IsOneOfAKind from (length rows.now) (row_of rows.now) (is_kind kind ranks.now) }
+    ensures { Renames from (length rows.now) (row_of rows.now) (is_kind kind ranks.now) (named_of names.old.items) (named_of names.new.items) }
+{
+    let many = names.len().max(corners);
+    names.resize(many, None).unwrap();
+    rename(ranks, rows, from, kind, names);
 }

@@ -4,7 +4,7 @@ ghost use Rattle.std.specs.Prelude.{◌≡◌, ◌≤◌, None, find, length, op
 ghost use Rattle.loc_spec_text.specs.Limits.{most_points};
 ghost use Rattle.loc_spec_plane.specs.Covers.{feature_count};
 ghost use Rattle.loc_spec_plane.specs.Tables.{AllEnds, AllEven, NoConflict, edge as edge_of, edge_numbers};
-ghost use Rattle.loc_spec_valid.specs.Breaches.{HasNoCrossing, HasSegments, IsBreachOf, feature_rings, is_twice, ring_table};
+ghost use Rattle.loc_spec_valid.specs.Breaches.{HasSegments, IsBreachOf, feature_rings, is_twice, ring_table};
 ghost use Rattle.loc_edges.specs.Floors.{AreFloors};
 ghost use Rattle.loc_rings.specs.Layers.{point_count};
 ghost use Rattle.loc_cover.specs.Legends.{FitsTable as FitsLegend, IsFew, IsTrueLegend};
@@ -58,9 +58,33 @@ fn judge_rings(alloc: Global, feature: &Feature) -> Result<Option<Breach>, Valid
     ensures refused { IfErr result (IsRefusedFeature feature.now.polygons) }
 {
     let (layer, table, twice) = table_of_rings(alloc, feature)?;
+    judge_table(alloc, feature, &layer, &table, twice)
+}
+
+// The first breach of a feature in which each ring has a segment, by the table of its rings.
+fn judge_table(
+    alloc: Global,
+    feature: &Feature,
+    layer: &Layer,
+    table: &EdgeTable,
+    twice: Option<Edge>,
+) -> Result<Option<Breach>, ValidFault>
+    requires few { point_count feature.now ≤ most_points }
+    requires segments { HasSegments feature.now.polygons }
+    requires few_pieces { HasFewPieces feature.now.polygons }
+    requires of_rings { table.now ≡ ring_table feature.now.polygons }
+    requires all_ends { AllEnds table.now }
+    requires all_even { AllEven table.now }
+    requires twice { option_map (edge_of table.now) (find (is_twice feature.now.polygons table.now) (edge_numbers table.now)) ≡ twice }
+    requires as_many { length layer.now ≡ length (feature_rings feature.now.polygons) }
+    requires features { feature_count table.now ≤ length layer.now }
+    ensures breach { IfOk result (λ breach. IsBreachOf next_at face_at feature.now.polygons (told breach)) }
+    ensures few_covers { IfOk result (λ _. HasManyCovers feature.now.polygons → ⊥) }
+    ensures refused { IfErr result (IsRefusedFeature feature.now.polygons) }
+{
     table.law();
-    match swept_floors(alloc, &table) {
-        Ok(floors) => judge_calm(alloc, feature, &layer, &table, twice, &floors),
+    match swept_floors(alloc, table) {
+        Ok(floors) => judge_calm(alloc, feature, layer, table, twice, &floors),
         Err(SweepFault::Conflict { a, b, .. }) => Ok(Some(Breach::Cross {
             a: table.edge(a),
             b: table.edge(b),

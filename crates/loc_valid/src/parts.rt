@@ -12,8 +12,7 @@ ghost use Rattle.loc_edges.specs.Layers.{layer_rings};
 ghost use Rattle.loc_spec_text.specs.Limits.{most_pieces, most_points};
 ghost use Rattle.loc_rings.specs.Layers.{point_count};
 ghost use Rattle.loc_cover.specs.Legends.{IsTrueLegend, FitsTable as FitsLegend};
-ghost use Rattle.loc_half.specs.HalfEdgeLists.{HalfEdgeLists, next_in};
-ghost use Rattle.loc_faces.specs.FaceLists.{AreFaces, face_in};
+ghost use Rattle.loc_faces.specs.FaceLists.{FitsTable as FitsFaces, face_in};
 ghost use Rattle.loc_faces.specs.Subdivision.{face_at, next_at};
 ghost use Rattle.loc_valid.specs.Judged.{IsNoMemory};
 
@@ -78,30 +77,21 @@ fn noded_swept(alloc: Global, layer: &Layer) -> Result<(EdgeTable, Floors), Vali
     Ok((table, floors))
 }
 
-// The layer of polygon n alone, its noded table, and the floors of that.
-fn table_of_polygon(
-    alloc: Global,
-    feature: &Feature,
-    n: u32,
-) -> Result<(Layer, EdgeTable, Floors), ValidFault>
-    requires few { point_count feature.now ≤ most_points }
-    requires in_range { n < length feature.now.polygons }
-    requires few_pieces { piece_count (get_or feature.now.polygons n [] ∷ []) ≤ most_pieces }
-    requires apart { NoConflict (polygon_table feature.now.polygons n) }
-    ensures table { IfOk result (λ made. made.1 ≡ polygon_table feature.now.polygons n) }
-    ensures all_ends { IfOk result (λ made. AllEnds made.1) }
-    ensures all_even { IfOk result (λ made. AllEven made.1) }
-    ensures one_feature { IfOk result (λ made. feature_count made.1 ≤ 1) }
-    ensures one_layer { IfOk result (λ made. length made.0 ≡ 1) }
-    ensures floors { IfOk result (λ made. AreFloors made.1 made.2) }
+// The noded table of a layer and its floors, by the plain table where that is the noded one.
+fn swept_table(alloc: Global, layer: &Layer) -> Result<(EdgeTable, Floors), ValidFault>
+    requires few_pieces { piece_count (layer_rings layer.now) ≤ most_pieces }
+    requires apart { NoConflict (noded_table_of (layer_rings layer.now)) }
+    ensures table { IfOk result (λ made. made.0 ≡ noded_table_of (layer_rings layer.now)) }
+    ensures all_ends { IfOk result (λ made. AllEnds made.0) }
+    ensures all_even { IfOk result (λ made. AllEven made.0) }
+    ensures features { IfOk result (λ made. feature_count made.0 ≤ length layer.now) }
+    ensures floors { IfOk result (λ made. AreFloors made.0 made.1) }
     ensures refused { IfErr result IsNoMemory }
 {
-    let layer = Layer::of_polygon(alloc, feature, n)?;
-    if let Some((table, floors)) = plain_swept(alloc, &layer)? {
-        return Ok((layer, table, floors));
+    match plain_swept(alloc, layer)? {
+        Some(made) => Ok(made),
+        None => noded_swept(alloc, layer),
     }
-    let (table, floors) = noded_swept(alloc, &layer)?;
-    Ok((layer, table, floors))
 }
 
 // The legend of the table of one feature, whose cover lists have at most one member each.
@@ -169,6 +159,74 @@ fn covered_faces(
     Ok(covered)
 }
 
+// For each face of the table of one feature whether it has the upper side of an edge above which the feature is.
+fn covered_of_one(
+    alloc: Global,
+    layer: &Layer,
+    table: &EdgeTable,
+    floors: &Floors,
+    faces: &Faces,
+) -> Result<Vec<bool>, ValidFault>
+    requires all_ends { AllEnds table.now }
+    requires all_even { AllEven table.now }
+    requires apart { NoConflict table.now }
+    requires one_feature { feature_count table.now ≤ 1 }
+    requires one_layer { length layer.now ≡ 1 }
+    requires swept { AreFloors table.now floors.now }
+    requires fits { FitsFaces table.now faces.now }
+    ensures as_many { IfOk result (λ covered. length covered.items ≡ faces.now.count) }
+    ensures covered { IfOk result (λ covered. (f : ℕ) → f < faces.now.count → get_or covered.items f false ≡ list_any (λ e. (face_in faces.now (2 * e) == f) && is_in 0 (cover_above table.now e)) (edge_numbers table.now)) }
+    ensures refused { IfErr result IsNoMemory }
+{
+    let legend = legend_of_one(alloc, layer, table, floors)?;
+    let covered = covered_faces(alloc, table, &legend, faces)?;
+    Ok(covered)
+}
+
+// The faces of a table, by half-edges of its own.
+fn faces_of(alloc: Global, table: &EdgeTable, floors: &Floors) -> Result<Faces, AllocError>
+    requires apart { NoConflict table.now }
+    requires swept { AreFloors table.now floors.now }
+    ensures { IfOk result (FitsFaces table.now) }
+{
+    let half = HalfEdges::make(alloc, table)?;
+    Faces::make(alloc, table, &half, floors)
+}
+
+// How many parts the inside of the one feature of a layer has, by its table and the floors of that.
+fn count_parts(
+    alloc: Global,
+    layer: &Layer,
+    table: &EdgeTable,
+    floors: &Floors,
+) -> Result<u32, ValidFault>
+    requires all_ends { AllEnds table.now }
+    requires all_even { AllEven table.now }
+    requires apart { NoConflict table.now }
+    requires one_feature { feature_count table.now ≤ 1 }
+    requires one_layer { length layer.now ≡ 1 }
+    requires swept { AreFloors table.now floors.now }
+    ensures parts { IfOk result (λ parts. parts ≡ part_count table.now (next_at table.now) (face_at table.now)) }
+    ensures refused { IfErr result IsNoMemory }
+{
+    table.law();
+    let faces = faces_of(alloc, table, floors)?;
+    let covered = covered_of_one(alloc, layer, table, floors, &faces)?;
+    Ok(count_covered(&covered))
+}
+
+// How many parts the inside of the one feature of a layer has, where no two edges of its noded table conflict.
+fn parts_of_layer(alloc: Global, layer: &Layer) -> Result<u32, ValidFault>
+    requires one_layer { length layer.now ≡ 1 }
+    requires few_pieces { piece_count (layer_rings layer.now) ≤ most_pieces }
+    requires apart { NoConflict (noded_table_of (layer_rings layer.now)) }
+    ensures parts { IfOk result (λ parts. parts ≡ part_count (noded_table_of (layer_rings layer.now)) (next_at (noded_table_of (layer_rings layer.now))) (face_at (noded_table_of (layer_rings layer.now)))) }
+    ensures refused { IfErr result IsNoMemory }
+{
+    let (table, floors) = swept_table(alloc, layer)?;
+    count_parts(alloc, layer, &table, &floors)
+}
+
 /// How many parts the inside of polygon n has, where no two edges of its table conflict.
 pub(crate) fn parts_of(alloc: Global, feature: &Feature, n: u32) -> Result<u32, ValidFault>
     requires few { point_count feature.now ≤ most_points }
@@ -178,11 +236,6 @@ pub(crate) fn parts_of(alloc: Global, feature: &Feature, n: u32) -> Result<u32, 
     ensures parts { IfOk result (λ parts. parts ≡ part_count (polygon_table feature.now.polygons n) (next_at (polygon_table feature.now.polygons n)) (face_at (polygon_table feature.now.polygons n))) }
     ensures refused { IfErr result IsNoMemory }
 {
-    let (layer, table, floors) = table_of_polygon(alloc, feature, n)?;
-    table.law();
-    let half = HalfEdges::make(alloc, &table)?;
-    let faces = Faces::make(alloc, &table, &half, &floors)?;
-    let legend = legend_of_one(alloc, &layer, &table, &floors)?;
-    let covered = covered_faces(alloc, &table, &legend, &faces)?;
-    Ok(count_covered(&covered))
+    let layer = Layer::of_polygon(alloc, feature, n)?;
+    parts_of_layer(alloc, &layer)
 }

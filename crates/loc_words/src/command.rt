@@ -11,7 +11,7 @@ use crate::{EdgeOrder, Form, Index, Kind, WordsFault};
 use std::alloc::{AllocError, Global};
 
 /// A command with its values.
-#[derive(Clone, Copy, Debug, PartialEq, Eq)]
+#[derive(Clone, Copy)]
 pub enum Command<'a> {
     /// Answers to the points of a file, against a layer.
     Query(Query<'a>),
@@ -44,7 +44,7 @@ pub enum Command<'a> {
 }
 
 /// What is said of a layer's file: its name, and the scale and the form in which it is read.
-#[derive(Clone, Copy, Debug, PartialEq, Eq)]
+#[derive(Clone, Copy)]
 pub struct LayerFile<'a> {
     pub name: &'a str,
     pub scale: u8,
@@ -53,7 +53,7 @@ pub struct LayerFile<'a> {
 
 /// What a query says. Its places are as they stand in the words. The trapezoids are made of edges in the order of a file, or shuffled from a
 /// number.
-#[derive(Clone, Copy, Debug, PartialEq, Eq)]
+#[derive(Clone, Copy)]
 pub struct Query<'a> {
     pub layer: LayerFile<'a>,
     pub points: &'a str,
@@ -63,41 +63,41 @@ pub struct Query<'a> {
 }
 
 /// What a question for the features at points says. Its places are as they stand in the words.
-#[derive(Clone, Copy, Debug, PartialEq, Eq)]
+#[derive(Clone, Copy)]
 pub struct Features<'a> {
     pub layer: LayerFile<'a>,
     pub points: &'a str,
 }
 
 /// Of which layer an index file is made, and its name.
-#[derive(Clone, Copy, Debug, PartialEq, Eq)]
+#[derive(Clone, Copy)]
 pub struct Build<'a> {
     pub layer: LayerFile<'a>,
     pub index: &'a str,
 }
 
 /// What is asked, and of which index.
-#[derive(Clone, Copy, Debug, PartialEq, Eq)]
+#[derive(Clone, Copy)]
 pub struct Ask<'a> {
     pub index: &'a str,
     pub points: &'a str,
 }
 
 /// Which index file is judged.
-#[derive(Clone, Copy, Debug, PartialEq, Eq)]
+#[derive(Clone, Copy)]
 pub struct Verify<'a> {
     pub index: &'a str,
 }
 
 /// What a question for a face says. Its places are as they stand in the words.
-#[derive(Clone, Copy, Debug, PartialEq, Eq)]
+#[derive(Clone, Copy)]
 pub struct Face<'a> {
     pub layer: LayerFile<'a>,
     pub point: &'a str,
 }
 
 /// What is said of a layer to be generated.
-#[derive(Clone, Copy, Debug, PartialEq, Eq)]
+#[derive(Clone, Copy)]
 pub struct Gen {
     pub kind: Kind,
     pub n: u64,
@@ -105,7 +105,7 @@ pub struct Gen {
 }
 
 /// What a trial says.
-#[derive(Clone, Copy, Debug, PartialEq, Eq)]
+#[derive(Clone, Copy)]
 pub struct Trial {
     pub kind: Kind,
     pub n: u64,
@@ -114,20 +114,20 @@ pub struct Trial {
 }
 
 /// Which index file's edges are listed.
-#[derive(Clone, Copy, Debug, PartialEq, Eq)]
+#[derive(Clone, Copy)]
 pub struct Edges<'a> {
     pub index: &'a str,
 }
 
 /// Which index file is upgraded, and the name of the new one.
-#[derive(Clone, Copy, Debug, PartialEq, Eq)]
+#[derive(Clone, Copy)]
 pub struct Upgrade<'a> {
     pub old: &'a str,
     pub new: &'a str,
 }
 
 /// What a question for the edges on spans says. Its places are as they stand in the words.
-#[derive(Clone, Copy, Debug, PartialEq, Eq)]
+#[derive(Clone, Copy)]
 pub struct Stab<'a> {
     pub layer: LayerFile<'a>,
     pub spans: &'a str,

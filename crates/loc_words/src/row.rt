@@ -12,14 +12,14 @@ pub enum OptionKind {
 }
 
 /// An option of a command, by its full name.
-#[derive(Clone, Copy, Debug)]
+#[derive(Clone, Copy)]
 pub(crate) struct OptionRow<'a> {
     pub(crate) name: &'a str,
     pub(crate) kind: OptionKind,
 }
 
 /// A command: its name, its places in their order, and its options.
-#[derive(Clone, Copy, Debug)]
+#[derive(Clone, Copy)]
 pub(crate) struct CommandRow<'a> {
     pub(crate) name: &'a str,
     pub(crate) places: &'a [&'a str],

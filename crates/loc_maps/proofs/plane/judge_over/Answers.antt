@@ -1,5 +1,5 @@
 use Rattle.std.proofs.Common.{refl}
-use Rattle.std.proofs.lemmas.Result.{err_from_is_err_and}
+use Rattle.std.proofs.lemmas.Result.{IfOk-weaker, err_from_is_err_and}
 use Rattle.loc_course.proofs.Going.{lacks_on}
 use Rattle.loc_maps.specs.Located.{table_in}
 use Rattle.loc_maps.specs.MapCourses.{covers_course}
@@ -20,3 +20,27 @@ pub returns-clause-goes_on : goal.returns-clause-goes_on
 returns-clause-goes_on g c next m =
     behind_swept c.args.layer c.args.scale next m c.in_ok-swept.swept c.in_ok-swept.swept.table c.with_legend.result c.in_ok-swept.ensures.table.table (c.in_ok-swept.ensures.goes_on (covers_course (table_in c.args.layer) next) m)
     (c.with_legend.ensures.goes_on next m)
+
+pub with_legend-requires-clause-few_features : goal.with_legend-requires-clause-few_features
+with_legend-requires-clause-few_features g c = c.in_ok-ids.ensures.few
+
+pub with_legend-requires-clause-table : goal.with_legend-requires-clause-table
+with_legend-requires-clause-table g c = (c.args.layer, (c.in_ok-ids.ensures.value, c.in_ok-swept.ensures.table))
+
+pub with_legend-requires-clause-apart : goal.with_legend-requires-clause-apart
+with_legend-requires-clause-apart g c = c.in_ok-swept.ensures.apart
+
+pub with_legend-requires-clause-swept : goal.with_legend-requires-clause-swept
+with_legend-requires-clause-swept g c = c.in_ok-swept.ensures.swept
+
+pub with_legend-requires-clause-floors : goal.with_legend-requires-clause-floors
+with_legend-requires-clause-floors g c = c.in_ok-swept.ensures.floors
+
+pub returns-clause-map : goal.returns-clause-map
+returns-clause-map g c = IfOk-weaker c.with_legend.result _ _ (λ plane of. of c.args.layer c.in_ok-ids.ensures.value c.in_ok-swept.ensures.table) c.with_legend.ensures.map
+
+pub returns-clause-swept : goal.returns-clause-swept
+returns-clause-swept g c = c.with_legend.ensures.swept
+
+pub returns-clause-floors : goal.returns-clause-floors
+returns-clause-floors g c = c.with_legend.ensures.floors
