@@ -1,60 +1,10 @@
-//! Each call once, and the freeing of many nodes over an allocator that counts what is given back.
-ghost use Rattle.std.specs.Prelude.{IsTrue, IfOk};
-ghost use Rattle.loc_pool.specs.Maps.{has};
+//! What no clause says: a long chain of nodes is let go, and an allocator that counts gets each block back.
 
 use crate::heap::Loose;
 use crate::node::Slab;
-use crate::{Colour, Extra, Link, Pool, Turn};
-use std::alloc::{AllocError, Allocator, Global};
+use crate::{Colour, Pool};
+use std::alloc::{AllocError, Allocator};
 use std::cell::Cell;
-
-fn two_nodes(alloc: Global) -> Result<(Pool, Link, Link), AllocError>
-    ensures { IfOk result (λ r. IsTrue (has r.0.rows r.1) × IsTrue (has r.0.rows r.2)) }
-{
-    let mut pool = Pool::new(alloc);
-    pool.reserve()?;
-    let low = pool.make(7, None, None, Colour::Red);
-    let top = pool.make(9, Some(low), None, Colour::Red);
-    pool.stamp(top, Turn::Left, 3, None);
-    pool.set_colour(top, Colour::Black);
-    pool.set_plain(top, Turn::Right, Some(low));
-    Ok((pool, low, top))
-}
-
-#[test]
-fn answers(rt: HostRuntime) -> Result<(), AllocError> {
-    let (pool, low, top) = two_nodes(rt.alloc())?;
-    assert_eq!(rt; pool.len(), 2);
-    assert_eq!(rt; (pool.number(low), pool.number(top)), (1, 2));
-    assert_eq!(rt; (pool.item(low), pool.item(top)), (7, 9));
-    assert!(rt;
-        matches!(
-            (pool.colour(low), pool.colour(top)),
-            (Colour::Red, Colour::Black)
-        )
-    );
-    let plain = (pool.plain(top, Turn::Left), pool.plain(top, Turn::Right));
-    assert!(rt; matches!(plain, (Some(_), Some(_))));
-    let extra = pool.extra(top);
-    assert!(rt;
-        matches!(
-            extra,
-            Some(Extra {
-                turn: Turn::Left,
-                version: 3,
-                to: None
-            })
-        )
-    );
-    let left = (
-        pool.child(top, Turn::Left, 2),
-        pool.child(top, Turn::Left, 3),
-    );
-    assert!(rt; matches!(left, (Some(_), None)));
-    let second = pool.link(2);
-    assert_eq!(rt; pool.item(second), 9);
-    Ok(())
-}
 
 #[test]
 fn drops_many(rt: HostRuntime) -> Result<(), AllocError> {

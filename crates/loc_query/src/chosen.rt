@@ -14,7 +14,8 @@ ghost use Rattle.loc_maps.specs.MapCourses.{accepted_course, pieces_course};
 ghost use Rattle.loc_maps.specs.Maps.{IsMapOf, IsTableOf};
 ghost use Rattle.loc_orders.specs.OrderCourses.{IsGivenOrder};
 ghost use Rattle.loc_trapdag.specs.Graphs.{IsIndexOf};
-ghost use Rattle.loc_query.specs.Chosen.{HasFewNodes, IsIndexFor, index_of, nodes_of};
+ghost use Rattle.loc_query.specs.Chosen.{HasFewNodes, HasIndex, IsIndexFor, index_of, nodes_of};
+ghost use Rattle.loc_spec_asked.specs.declared.Index.TheVariants as by;
 ghost use Rattle.loc_query.specs.QueryCourses.{steps_by};
 ghost use Rattle.loc_query.specs.declared.chosen.Chosen.TheVariants.{Tree};
 
@@ -137,6 +138,25 @@ fn traps_of(alloc: Global, table: &EdgeTable, order: GivenOrder) -> Result<TrapI
     TrapIndex::build(alloc, &table.ranks(), &order)
 }
 
+// The plane of a table that was swept with a tree, with the trapezoids of its edges as its index.
+fn with_traps(
+    alloc: Global,
+    plane: Plane<TreeIndex>,
+    order: GivenOrder,
+) -> Result<Plane<Chosen>, AllocError>
+    requires apart { NoConflict plane.table }
+    requires ends { AllEnds plane.table }
+    requires permutation { IsGivenOrder (length plane.table.ends) order }
+    ensures table { IfOk result (λ chosen. chosen.table ≡ plane.table) }
+    ensures asked { IfOk result (λ chosen. index_of chosen.status ≡ by.Trap) }
+    ensures kept { IfOk result (λ chosen. HasIndex plane.table chosen.status) }
+    ensures floors { IfOk result (λ chosen. chosen.floors ≡ plane.floors) }
+    ensures legend { IfOk result (λ chosen. chosen.legend ≡ plane.legend) }
+{
+    let traps = traps_of(alloc, &plane.table, order)?;
+    Ok(with_index(plane, Chosen::Trap(traps)))
+}
+
 /// The plane of a layer that is accepted, where its table may be made already, with an index in place of the status that swept it. The plain
 /// look is swept with a sorted list, and trapezoids with the tree, and their edges are added in the order that was given.
 pub fn choose(
@@ -169,8 +189,7 @@ pub fn choose(
         }
         Index::Trap => {
             let plane: Plane<TreeIndex> = judge_over(alloc, layer, table, scale)?;
-            let traps = traps_of(alloc, &plane.table, order)?;
-            Ok(with_index(plane, Chosen::Trap(traps)))
+            Ok(with_traps(alloc, plane, order)?)
         }
     }
 }

@@ -84,11 +84,8 @@ fn count_lines(text: &[u8], word: &[u8]) -> usize {
         .count()
 }
 
-/// `brief WORDS`: what they leave, of out no more than how many answers of each kind there are, and how many bytes.
-pub(crate) fn brief(page: &mut String, stage: &mut Stage, line: &str) -> Result<(), Stop> {
-    let words = words_of(stage.alloc, line)?;
-    let left = stage.outcome(&words)?;
-    let out = left.out.bytes();
+// Prints how many answers of each kind a text has, and how many bytes.
+fn show_counts(page: &mut String, out: &[u8]) -> Result<(), AllocError> {
     let corners = count_lines(out, b"corner");
     let borders = count_lines(out, b"border");
     let faces = count_lines(out, b"face");
@@ -96,7 +93,14 @@ pub(crate) fn brief(page: &mut String, stage: &mut Stage, line: &str) -> Result<
     writeln!(
         page,
         "| {corners} corners, {borders} borders, {faces} faces, {length} bytes"
-    )?;
+    )
+}
+
+/// `brief WORDS`: what they leave, of out no more than how many answers of each kind there are, and how many bytes.
+pub(crate) fn brief(page: &mut String, stage: &mut Stage, line: &str) -> Result<(), Stop> {
+    let words = words_of(stage.alloc, line)?;
+    let left = stage.outcome(&words)?;
+    show_counts(page, left.out.bytes())?;
     show(page, stage.alloc, "!", left.notes.bytes())?;
     let status = left.status;
     writeln!(page, "status {status}")?;

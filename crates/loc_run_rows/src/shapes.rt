@@ -103,21 +103,30 @@ fn put_grid(text: &mut String) -> Result<(), AllocError> {
     Ok(())
 }
 
-/// Makes a file by a step: `nested NAME COUNT`, `within NAME COUNT`, `squares NAME COUNT` and `turns NAME COUNT` a layer, `points NAME COUNT SHIFT` and `grid NAME`
-/// points.
+// The text that a step makes of a count and what stands behind it.
+fn put_shape(text: &mut String, verb: &str, count: u64, shift: &str) -> Result<(), Stop>
+    requires { count < 2 ^ 32 }
+{
+    match verb {
+        "nested" => put_nested(text, count)?,
+        "within" => put_within(text, count)?,
+        "squares" => put_squares(text, count)?,
+        "turns" => put_cut(text, count)?,
+        "points" => put_points(text, count, number(shift)?)?,
+        "grid" => put_grid(text)?,
+        _ => return Err(Stop::NoStep),
+    }
+    Ok(())
+}
+
+/// Makes a file by a step: `nested NAME COUNT`, `within NAME COUNT`, `squares NAME COUNT` and `turns NAME COUNT` a layer, `points NAME COUNT SHIFT` and
+/// `grid NAME` points.
 pub(crate) fn shape(stage: &mut Stage, verb: &str, rest: &str) -> Result<(), Stop> {
     let (name, rest) = cut(rest);
     let (count, shift) = cut(rest);
+    let count = if verb == "grid" { 0 } else { number(count)? };
     let mut text = String::new(stage.alloc);
-    match verb {
-        "nested" => put_nested(&mut text, number(count)?)?,
-        "within" => put_within(&mut text, number(count)?)?,
-        "squares" => put_squares(&mut text, number(count)?)?,
-        "turns" => put_cut(&mut text, number(count)?)?,
-        "points" => put_points(&mut text, number(count)?, number(shift)?)?,
-        "grid" => put_grid(&mut text)?,
-        _ => return Err(Stop::NoStep),
-    }
+    put_shape(&mut text, verb, count, shift)?;
     stage.put(name, text.as_bytes())?;
     Ok(())
 }

@@ -81,11 +81,32 @@ fn order_text(alloc: Global, edges: u32, number: u32) -> Result<String, AllocErr
     Ok(text)
 }
 
+// Whether these words leave the same as the last shown ones.
+fn agree(stage: &mut Stage, words: &[String]) -> Result<bool, Stop> {
+    let left = stage.outcome(words)?;
+    Ok(left.is_same(stage.left()?))
+}
+
 // The words of a query by trapezoids in an order.
 const BY_ORDER: &str = "query layer points --scale 0 --index trap --order order";
 
+// Whether the order of so many edges with a number gives the same answers as the last run.
+fn order_agrees(stage: &mut Stage, edges: u32, number: u32) -> Result<bool, Stop> {
+    let order = order_text(stage.alloc, edges, number)?;
+    stage.put("order", order.as_bytes())?;
+    let words = words_of(stage.alloc, BY_ORDER)?;
+    agree(stage, &words)
+}
+
 // The words of a query by trapezoids in an order that is shuffled.
 const BY_SHUFFLE: &str = "query layer points --scale 0 --index trap --shuffle";
+
+// Whether the shuffle with a number gives the same answers as the last run.
+fn shuffle_agrees(stage: &mut Stage, number: u64) -> Result<bool, Stop> {
+    let line = format!(in stage.alloc; "{BY_SHUFFLE} {number}")?;
+    let words = words_of(stage.alloc, line.as_str())?;
+    agree(stage, &words)
+}
 
 /// `orders EDGES COUNT`: how many of the orders of so many edges give the same answers as the last run.
 pub(crate) fn orders(
@@ -95,15 +116,9 @@ pub(crate) fn orders(
     count: &str,
 ) -> Result<(), Stop> {
     let edges = number(edges)? as u32;
-    let words = words_of(stage.alloc, BY_ORDER)?;
     let mut same = 0u64;
     for n in 0..number(count)? {
-        let order = order_text(stage.alloc, edges, n as u32)?;
-        stage.put("order", order.as_bytes())?;
-        let left = stage.outcome(&words)?;
-        if left.is_same(stage.left()?) {
-            same = same.saturating_add(1);
-        }
+        same = same.saturating_add(u64::from(order_agrees(stage, edges, n as u32)?));
     }
     writeln!(page, "{same} of {count} orders: the same")?;
     Ok(())
@@ -113,12 +128,7 @@ pub(crate) fn orders(
 pub(crate) fn shuffles(page: &mut String, stage: &mut Stage, count: &str) -> Result<(), Stop> {
     let mut same = 0u64;
     for n in 0..number(count)? {
-        let line = format!(in stage.alloc; "{BY_SHUFFLE} {n}")?;
-        let words = words_of(stage.alloc, line.as_str())?;
-        let left = stage.outcome(&words)?;
-        if left.is_same(stage.left()?) {
-            same = same.saturating_add(1);
-        }
+        same = same.saturating_add(u64::from(shuffle_agrees(stage, n)?));
     }
     writeln!(page, "{same} of {count} shuffles: the same")?;
     Ok(())

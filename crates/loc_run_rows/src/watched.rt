@@ -5,7 +5,7 @@ ghost use Rattle.std.specs.Prelude.{◌≡◌, ◌<◌, true, length};
 use loc_io::{Failed, MemShelf, MemSink, Shelf, Sink};
 
 /// How many calls were made, and the status of a run that stops at the first of them that failed: 0 where none did.
-#[derive(Clone, Copy, Debug, PartialEq, Eq)]
+#[derive(Clone, Copy)]
 pub(crate) struct Watch {
     pub(crate) calls: u64,
     pub(crate) status: u8,

@@ -1,5 +1,5 @@
 -- The row that a name has, and the command of its name that words are.
-use Rattle.std.proofs.Common.{◌≡◌, ◌∙◌, Bool, true, false, List, [], ◌∷◌, map, find, if◌then◌else◌, Option, Some, None, option_and_then, ap, refl, sym}
+use Rattle.std.proofs.Common.{◌≡◌, ◌∙◌, Bool, true, false, List, [], ◌∷◌, map, find, if◌then◌else◌, Option, Some, None, option_and_then, ap, refl, subst, sym}
 use Rattle.std.specs.List.{list_all}
 use Rattle.std.specs.Str.{bytes_eq}
 use Rattle.std.proofs.lemmas.Bool.{and_parts}
@@ -42,3 +42,7 @@ found_holds p test (first ∷ rows) row each is = let parts = and_parts (p first
 -- the row of a name can be read
 pub is_read : (name : Text) (row : CommandRow) → row_in commands name ≡ Some row → is_row row ≡ true
 is_read name row is = found_holds is_row (λ row. bytes_eq name row.name) (map (λ by. by.0) commands) row refl is
+
+-- what a command makes is found by each name that is equal to its own
+pub made_by_name : (name same : Text) (given : List Entry) (answer : Option Asked) → name ≡ same → answer ≡ made_in commands same given → answer ≡ made_in commands name given
+made_by_name name same given answer is made = subst (λ n. answer ≡ made_in commands n given) (sym is) made

@@ -1,6 +1,7 @@
 use Rattle.std.proofs.Common.{◌≡◌, ◌+◌, ◌-◌, ◌<◌, [], ◌∷◌, ◌++◌, List, ℕ, length, take, map, replicate, sym, ◌∙◌, ap, arith}
-use Rattle.std.proofs.lemmas.List.{length-map, length-take-le, map_push, take_more}
+use Rattle.std.proofs.lemmas.List.{length-append, length-map, length-replicate, length-take-le, map_push, take_more}
 use Rattle.std.proofs.lemmas.Option.{get_or_from_slice_get}
+use Rattle.loc_spec_plane.specs.declared.Mark.{Mark}
 use Rattle.loc_edges.specs.Tagged.{marks_of}
 use Rattle.loc_edges.proofs.RowLists.{rows_put}
 use Rattle.loc_edges.proofs.marks.mark_rows.Goals as goal
@@ -17,3 +18,9 @@ loop-n-preserved c =
     ∙ (ap (λ ms. c.loop-n.rows ++ ms ∷ []) (c.deref.ensures.value ∙ c.in_ok-count_edge.ensures)
     ∙ (ap (λ rows. rows ++ marks_of row ∷ []) c.loop-n.invariant
     ∙ (sym (map_push marks_of (take n features) row) ∙ ap (map marks_of) (sym more))))
+
+pub extend-requires : goal.extend-requires
+extend-requires c =
+    let rows = c.loop-n.rows in
+    let some : ℕ = (c.loop-n.n + 1) - length rows in
+    omega (arith, ap length c.in_ok-start.ensures, length-append rows (replicate some []), length-replicate {A = List Mark} some [])

@@ -3,5 +3,5 @@ use Rattle.loc_query.proofs.answering.answer_numbered.Goals as goal
 pub returns-then-faces : goal.returns-then-faces
 returns-then-faces g c = rw c.if-faces.true c.answer_with_faces.ensures
 
-pub returns : goal.returns
-returns g c = rw c.if-faces.false c.answer_points.ensures
+pub returns-else-faces : goal.returns-else-faces
+returns-else-faces g c = rw c.if-faces.false c.answer_unnumbered.ensures

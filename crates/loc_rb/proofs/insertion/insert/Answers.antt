@@ -1,4 +1,5 @@
 -- The new red node hangs at the gap; then the violation is mended.
+use Rattle.std.proofs.Common.{arith}
 use Rattle.loc_rb.proofs.InsertionSteps.{can-insert, inserted}
 use Rattle.loc_rb.proofs.insertion.insert.Goals as goal
 
@@ -10,3 +11,6 @@ fix_insertion-requires-clause-place g c = let p = c.requires.place.2 in (_, inse
 
 pub returns-clause-tree : goal.returns-clause-tree
 returns-clause-tree g c L H p = c.fix_insertion.ensures.tree _ (inserted _ _ _ _ _ _ _ _ p (c.transplant.ensures.tree _ _ _ (can-insert _ _ _ _ _ _ _ c.make-new.ensures p)))
+
+pub returns-clause-changed : goal.returns-clause-changed
+returns-clause-changed g c = omega (arith, c.make-new.ensures.changed, c.transplant.ensures.within.changed, c.fix_insertion.ensures.within.changed)

@@ -1,5 +1,5 @@
 -- A bare node takes the left tree, then the right one, and is hung in the place.
-use Rattle.std.proofs.Common.{refl}
+use Rattle.std.proofs.Common.{refl, arith}
 use Rattle.loc_pool.specs.declared.Turn.TheVariants.{Left, Right}
 use Rattle.loc_rb.specs.Trees.{leaf}
 use Rattle.loc_rb.proofs.ReadCalls.{node-has-row}
@@ -29,6 +29,9 @@ change-new-requires-clause-place g c =
 
 pub transplant-requires-clause-place : goal.transplant-requires-clause-place
 transplant-requires-clause-place g c = (_, _, _, new-placed _ _ _ _ _ _ _ _ _ _ c.requires.place _ _ _ _ _ _ _ c.make-bare.ensures c.colour-colour.ensures c.new-none.ensures c.child-left.ensures c.change-half.ensures c.new-none-2.ensures c.child-right.ensures c.change-new.ensures)
+
+pub transplant-requires-clause-room : goal.transplant-requires-clause-room
+transplant-requires-clause-room g c = omega (arith, c.requires.room, c.make-bare.ensures.spare, c.change-half.ensures.spare, c.change-new.ensures.spare)
 
 pub returns-clause-tree : goal.returns-clause-tree
 returns-clause-tree g c p =

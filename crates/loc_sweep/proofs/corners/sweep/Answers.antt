@@ -1,4 +1,5 @@
-use Rattle.std.proofs.Common.{◌≡◌, ◌<◌, ℕ, List, Option, length, arith, sym, subst, ap₂}
+use Rattle.std.proofs.Common.{◌≡◌, ◌<◌, ◌≤◌, ℕ, List, Option, length, arith, sym, subst, ap₂}
+use Rattle.loc_sweep.specs.Line.{IsBegun}
 use Rattle.loc_edges.specs.Floors.{FloorLists}
 use Rattle.loc_edges.specs.Floors.{AreFloors}
 use Rattle.loc_sweep.proofs.UnderWay.{all_apart, all_floors, all_swept, goes_on, under_way}
@@ -9,6 +10,15 @@ loop-corner-init g c = rw (c.in_ok-of_corner.ensures.items) (under_way c.args.ta
 
 pub come_all-requires-clause-as_many : goal.come_all-requires-clause-as_many
 come_all-requires-clause-as_many g c = c.loop-corner.invariant.noted.as_many_edges
+
+pub come_all-requires-clause-begun : goal.come_all-requires-clause-begun
+come_all-requires-clause-begun g c = subst (λ n. IsBegun c.args.table.now c.loop-corner.corner n) (sym c.in_ok-left.ensures.left.inserted) c.loop-corner.invariant.before.begun
+
+pub come_all-requires-clause-greatest : goal.come_all-requires-clause-greatest
+come_all-requires-clause-greatest g c = subst (λ n. n ≤ length c.args.table.now.ends) (sym c.in_ok-left.ensures.left.past_greatest) c.loop-corner.invariant.before.in_range
+
+pub seal-requires : goal.seal-requires
+seal-requires g c = omega (arith, c.in_ok-left.ensures.left.kept.sealed, c.in_ok-between.ensures.here.kept.sealed)
 
 pub loop-corner-preserved : goal.loop-corner-preserved
 loop-corner-preserved g c = goes_on c.args.table.now c.law.ensures.in_order c.loop-corner.corner (subst (λ n. c.loop-corner.corner < n) c.corner_count-corner-end.ensures.value c.loop-corner-test.true)
@@ -27,3 +37,6 @@ returns-clause-floors g c =
     let build : List (Option ℕ) → List (Option ℕ) → FloorLists = λ xs ys. record { of_corner = xs; of_edge = ys } in
     let same : c.of.result ≡ build c.loop-corner.of_corner.items c.loop-corner.of_edge.items = ap₂ build c.of.ensures.corners c.of.ensures.edges in
     subst (λ f. AreFloors c.args.table.now f) (sym same) (all_floors c.args.table.now c.law.ensures.in_order c.loop-corner.corner (g.S.Status.meaning c.loop-corner.status) c.loop-corner.of_corner.items c.loop-corner.of_edge.items (let end : c.loop-corner.corner ≡ length c.args.table.now.corners = omega (arith, c.loop-corner-test.false, c.loop-corner.auto.corner-end, c.corner_count-corner-end.ensures.value) in end) c.loop-corner.invariant)
+
+pub leave_all-requires-clause-before : goal.leave_all-requires-clause-before
+leave_all-requires-clause-before g c = c.loop-corner.invariant.before

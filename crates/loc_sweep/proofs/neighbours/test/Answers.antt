@@ -23,3 +23,6 @@ returns-in_default c =
       shown = rw (c.min-a.ensures, c.max-b.ensures) (in_conflict t c.args.first c.args.second c.conflict.result c.requires.first_in_range c.requires.second_in_range
           (meeting_conflicts (edge t (min c.args.first c.args.second)) (edge t (max c.args.first c.args.second)) c.conflict.result meets c.in_default.not-Apart) meets);
     }
+
+pub returns-in-Apart-clause-shown : goal.returns-in-Apart-clause-shown
+returns-in-Apart-clause-shown c = tt

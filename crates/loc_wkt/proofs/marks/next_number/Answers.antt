@@ -1,4 +1,7 @@
-use Rattle.std.proofs.Common.{sym, ap, ◌∙◌, ◌∷◌, rules}
+use Rattle.std.proofs.Common.{sym, ap, ◌∙◌, ◌∷◌, length, rules, arith}
+use Rattle.std.proofs.lemmas.List.{length-drop}
+use Rattle.std.specs.List.{prefix_len}
+use Rattle.loc_spec_text.specs.Bytes.{is_white}
 use Rattle.loc_spec_text.specs.Geometry.{symbol_of, symbols}
 use Rattle.loc_wkt.proofs.FrontLemmas.{at_none, no_number_first, nothing_first, number_first}
 use Rattle.loc_wkt.specs.Fronts.{number_at}
@@ -20,3 +23,9 @@ pub returns-clause-found : goal.returns-clause-found
 returns-clause-found c = let e = skipped c.args.text.now c.skip_white-text.result.now c.skip_white-text.ensures in
     number_first (symbols c.args.text.now) (symbols c.in_ok-symbol.rest.now) c.in_ok-number.number.text.now
     (e ∙ c.in_ok-symbol.ensures.found ∙ ap (λ run. symbol_of run ∷ symbols c.in_ok-symbol.rest.now) (sym c.in_ok-number.ensures.same)) c.in_ok-number.number.number
+
+pub returns-in-Some-clause-shorter : goal.returns-in-Some-clause-shorter
+returns-in-Some-clause-shorter c = omega (arith, c.in-Some.ensures.shorter, ap length c.skip_white-text.ensures, length-drop (prefix_len is_white c.args.text.now) c.args.text.now)
+
+pub returns-in-Some-clause-within : goal.returns-in-Some-clause-within
+returns-in-Some-clause-within c = omega (arith, c.in-Some.ensures.within, ap length c.skip_white-text.ensures, length-drop (prefix_len is_white c.args.text.now) c.args.text.now)

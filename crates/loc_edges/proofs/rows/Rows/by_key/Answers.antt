@@ -1,5 +1,5 @@
-use Rattle.std.proofs.Common.{◌≡◌, ℕ, ◌++◌, ◌∷◌, [], List, get_or, take, map, sym, ◌∙◌, ap, subst, arith}
-use Rattle.std.proofs.lemmas.List.{take_more, take_all, get_or_default}
+use Rattle.std.proofs.Common.{◌≡◌, ℕ, ◌+◌, ◌-◌, ◌++◌, ◌∷◌, [], List, length, get_or, take, replicate, map, refl, sym, ◌∙◌, ap, subst, arith}
+use Rattle.std.proofs.lemmas.List.{length-append, length-replicate, take_more, take_all, get_or_default}
 use Rattle.loc_spec_plane.specs.Lists.{numbers}
 use Rattle.loc_edges.specs.Ending.{row_of}
 use Rattle.loc_edges.proofs.EndingRows.{IsGrown, grown_more, rows_behind}
@@ -26,3 +26,19 @@ returns g c =
     c.in_ok-start-2.ensures
     ∙ (rows_behind (take k pairs) c.loop-pair.rows c.args.count c.loop-pair.invariant.grown c.loop-pair.invariant.within
     ∙ ap (λ keyed. map (row_of keyed) (numbers c.args.count)) (take_all k pairs c.loop-pair-test.false))
+
+pub extend-requires : goal.extend-requires
+extend-requires g c =
+    let rows = c.loop-pair.rows in
+    let some : ℕ = (c.pair-item.result.0 + 1) - length rows in
+    omega (arith, ap length c.in_ok-start.ensures, length-append rows (replicate some []), length-replicate {A = List g.row.T.Denot} some [])
+
+pub loop-pair-init : goal.loop-pair-init
+loop-pair-init g c =
+    let none : List (ℕ × g.row.T.Denot) = [] in
+    let no_rows : length c.new-rows.result ≡ 0 = ap length c.new-rows.ensures in
+    record {
+      grown = subst (IsGrown none) (sym c.new-rows.ensures) (record { rows_are = refl; none_behind = λ _ _. refl });
+      next = λ j d le lt. omega (arith, no_rows);
+      within = omega (arith, no_rows);
+    }

@@ -32,3 +32,24 @@ splits-requires-clause-room c =
     let small = c.reserve.new.self.small in
     let held = c.deref.ensures.len in
     omega arith
+
+pub fresh_pieces-requires-clause-over : goal.fresh_pieces-requires-clause-over
+fresh_pieces-requires-clause-over c = c.requires.walk.some_over
+
+pub fresh_pieces-requires-clause-under : goal.fresh_pieces-requires-clause-under
+fresh_pieces-requires-clause-under c = c.requires.walk.some_under
+
+pub splits-requires-clause-over : goal.splits-requires-clause-over
+splits-requires-clause-over c = c.requires.walk.some_over
+
+pub splits-requires-clause-under : goal.splits-requires-clause-under
+splits-requires-clause-under c = c.requires.walk.some_under
+
+pub splits-requires-clause-real : goal.splits-requires-clause-real
+splits-requires-clause-real c = λ j within. omega (arith, (c.requires.walk.live j within).0, ap length (c.deref.ensures.value ∙ (c.reserve.ensures.items ∙ ap (λ (v : MapMeaning). v.rows) c.self.view_is)))
+
+pub splits-requires-clause-over_places : goal.splits-requires-clause-over_places
+splits-requires-clause-over_places c = λ j within. omega (arith, (c.requires.walk.over j within).0)
+
+pub splits-requires-clause-under_places : goal.splits-requires-clause-under_places
+splits-requires-clause-under_places c = λ j within. omega (arith, (c.requires.walk.under j within).0)

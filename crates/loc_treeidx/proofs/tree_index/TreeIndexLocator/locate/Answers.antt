@@ -1,11 +1,33 @@
 use Rattle.std.proofs.Common.{length, ap, arith}
-use Rattle.std.specs.Prelude.{Ok}
+use Rattle.std.specs.Prelude.{Ok, Some, None}
+use Rattle.std.proofs.lemmas.Bool.{and_parts, ltb-true}
 use Rattle.loc_place.proofs.FoundPlace.{place_is_found}
-use Rattle.loc_spec_plane.specs.declared.Place.TheVariants.{Corner}
+use Rattle.loc_spec_plane.specs.Points.{Point}
+use Rattle.loc_spec_plane.specs.Tables.{Table}
+use Rattle.loc_spec_plane.specs.Places.{IsPlace}
+use Rattle.loc_spec_plane.specs.declared.Place.{Place}
+use Rattle.loc_spec_plane.specs.declared.Place.TheVariants.{Corner, Border, Area}
+use Rattle.loc_place.specs.Answers.{IsInRange}
 use Rattle.loc_place.specs.Steps.{alive_count}
 use Rattle.loc_place.proofs.SearchBounds.{both_within, within_most}
 use Rattle.loc_place.proofs.ListCounts.{alive_few}
 use Rattle.loc_treeidx.proofs.tree_index.TreeIndexLocator.locate.Goals as goal
+
+-- a place is of a corner or an edge of the table
+in_range : (t : Table) (p : Point) (place : Place) → IsPlace t p place → IsInRange t place
+in_range t p (Corner n) h = ltb-true _ _ (and_parts _ _ h).0
+in_range t p (Border e) h = ltb-true _ _ (and_parts _ _ h.1).0
+in_range t p (Area None) h = tt
+in_range t p (Area (Some e)) h = ltb-true _ _ (and_parts _ _ (and_parts _ _ h.2.0).0).0
+
+pub search_behind-requires-clause-behind : goal.search_behind-requires-clause-behind
+search_behind-requires-clause-behind g c = c.in-Behind.ensures.standing
+
+pub returns-in-OnCorner-clause-place : goal.returns-in-OnCorner-clause-place
+returns-in-OnCorner-clause-place g c _ = c.in-OnCorner.ensures.standing
+
+pub returns-in-Behind-clause-in_range : goal.returns-in-Behind-clause-in_range
+returns-in-Behind-clause-in_range g c = in_range c.args.views.now c.args.p c.search_behind.result c.search_behind.ensures.place
 
 pub returns-in-OnCorner-clause-found : goal.returns-in-OnCorner-clause-found
 returns-in-OnCorner-clause-found g c = ap (λ place. Ok place) (place_is_found c.args.views.now c.requires.planar c.args.p (Corner c.in-OnCorner.corner) c.in-OnCorner.ensures.standing)
