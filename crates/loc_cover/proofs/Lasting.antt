@@ -51,15 +51,14 @@ module _ (t : Table) (s : StoreRows) (known : List (Option ℕ)) (stands : IsSto
   few_are = (let same = stands.counted ∙ ap (sum_by length) lists_are in omega (arith, same, stands.few))
 
   -- the place of the list of the number of an edge is that of the list above it
-  pub above_at : (places above : List ℕ) (e : ℕ) → e < length t.ends → ((n : ℕ) → n < length s.rows → IsAt (lists_of s) (get_or s.rows n []) (get_or places n 0)) → ((e n : ℕ) → get_or known e None ≡ Some n → get_or above e 0 ≡ get_or places n 0) → IsAt (cover_lists t) (cover_above t e) (get_or above e 0)
-  above_at places above e le each goes =
+  pub above_at : (above : List ℕ) (e : ℕ) → e < length t.ends → ((e n : ℕ) → get_or known e None ≡ Some n → IsAt (lists_of s) (get_or s.rows n []) (get_or above e 0)) → IsAt (cover_lists t) (cover_above t e) (get_or above e 0)
+  above_at above e le each =
       let number = is_some (get_or known e None) (all e le) in
       let row = numbered.known e number.0 le number.1 in
-      let at = each number.0 row.0 in
-      let same = goes e number.0 number.1 in
+      let at = each e number.0 number.1 in
       record {
-        fits = subst (λ lists. get_or above e 0 < length lists) lists_are (subst (λ k. k < length (lists_of s)) (sym same) at.fits);
-        at = sym (ap (λ lists. get_or lists (get_or above e 0) []) lists_are) ∙ (ap (λ k. get_or (lists_of s) k []) same ∙ (at.at ∙ row.1));
+        fits = subst (λ lists. get_or above e 0 < length lists) lists_are at.fits;
+        at = sym (ap (λ lists. get_or lists (get_or above e 0) []) lists_are) ∙ (at.at ∙ row.1);
       }
 
 -- numbers that are known are those of rows

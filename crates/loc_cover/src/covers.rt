@@ -5,7 +5,7 @@ ghost use Rattle.loc_spec_plane.specs.Places.{IsJustBelow};
 ghost use Rattle.loc_spec_plane.specs.Covers.{cover_above, cover_lists, cover_of_floor};
 ghost use Rattle.loc_cover.specs.Legends.{IsFew, IsRefused};
 ghost use Rattle.loc_cover.specs.Numbered.{AreBelow, IsEven, IsKnownUnder, IsNumbered, IsPath, KeepsKnown};
-ghost use Rattle.loc_cover.specs.Stores.{IsAt, IsStore};
+ghost use Rattle.loc_cover.specs.Stores.{IsAt, IsStore, lists_of};
 
 use crate::LegendFault;
 use crate::exchange::exchange_marked;
@@ -184,18 +184,24 @@ fn number_all<'a>(
     ensures refused { IfErr result (IsRefused table.now) }
 {
     table.law();
-    let mut store = Store::new(alloc, arena);
     let mut numbers = Vec::new(alloc);
     numbers.resize(table.edge_count() as usize, None)?;
+    let mut store = Store::new(alloc, arena);
     let mut room = Room {
         path: Vec::new(alloc),
         list: Vec::new(alloc),
     };
     for edge in 0..table.edge_count() {
         if numbers[edge as usize].is_none() {
-            number_down(&mut room, table, &mut store, &mut numbers, below, edge)?;
+            let made = number_down(&mut room, table, &mut store, &mut numbers, below, edge);
+            if let Err(fault) = made {
+                drop(room);
+                drop(store);
+                return Err(fault);
+            }
         }
     }
+    drop(room);
     Ok((store, numbers))
 }
 
@@ -215,6 +221,24 @@ fn above_of(alloc: Global, numbers: &[Option<u32>], places: &[u32]) -> Result<Ve
     Ok(above)
 }
 
+// The lists of a store in their order, and for each edge the place of the list of its number.
+fn distinct_rows(
+    alloc: Global,
+    store: &Store<'_>,
+    numbers: &[Option<u32>],
+) -> Result<(Rows<u32>, Vec<u32>), AllocError>
+    requires stands { IsStore store.now }
+    requires in_range { (e n : ℕ) → get_or numbers.now e None ≡ Some n → n < length store.now.rows }
+    ensures lists { IfOk result (λ made. made.0 ≡ lists_of store.now) }
+    ensures as_many { IfOk result (λ made. length made.1.items ≡ length numbers.now) }
+    ensures above { IfOk result (λ made. (e n : ℕ) → get_or numbers.now e None ≡ Some n → IsAt (lists_of store.now) (get_or store.now.rows n []) (get_or made.1.items e 0)) }
+{
+    let lists = store.lists(alloc)?;
+    let places = store.places(alloc)?;
+    let above = above_of(alloc, numbers, &places)?;
+    Ok((lists, above))
+}
+
 // The distinct lists in lexicographic order, and for each edge the place of the list above it.
 pub(crate) fn cover_rows(
     alloc: Global,
@@ -231,8 +255,10 @@ pub(crate) fn cover_rows(
 {
     let arena = Bump::new(alloc);
     let (store, numbers) = number_all(alloc, &arena, table, below)?;
-    let lists = store.lists(alloc)?;
-    let places = store.places(alloc)?;
-    let above = above_of(alloc, &numbers, &places)?;
-    Ok((lists, above))
+    let made = distinct_rows(alloc, &store, &numbers);
+    drop(store);
+    match made {
+        Ok(rows) => Ok(rows),
+        Err(_) => Err(LegendFault::NoMemory),
+    }
 }

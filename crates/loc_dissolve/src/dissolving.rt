@@ -1,18 +1,19 @@
 // The groups of a layer, dissolved.
 
-ghost use Rattle.std.specs.Prelude.{◌≡◌, ◌*◌, ◌<◌, ◌≤◌, ◌==◌, ◌&&◌, ℕ, All, false, get_or, length, IfOk};
+ghost use Rattle.std.specs.Prelude.{◌≡◌, ◌*◌, ◌<◌, ◌≤◌, ◌==◌, ◌&&◌, [], ℕ, All, false, get_or, length, map, IfOk};
 ghost use Rattle.std.specs.List.{list_any};
-ghost use Rattle.loc_spec_text.specs.Limits.{most_pieces};
+ghost use Rattle.loc_spec_text.specs.Limits.{most_features, most_pieces};
 ghost use Rattle.loc_spec_plane.specs.Lists.{numbers};
 ghost use Rattle.loc_spec_plane.specs.Tables.{AllEnds, AllEven, NoConflict, noded_table_of};
 ghost use Rattle.loc_spec_plane.specs.Covers.{feature_count};
 ghost use Rattle.loc_edges.specs.Layers.{layer_rings};
 ghost use Rattle.loc_cover.specs.Legends.{FitsTable, IsTrueLegend};
-ghost use Rattle.loc_faces.specs.FaceLists.{face_in};
+ghost use Rattle.loc_half.specs.HalfEdgeLists.{AreHalfEdges, next_in};
+ghost use Rattle.loc_faces.specs.FaceLists.{AreFaces, face_in};
 ghost use Rattle.loc_faces.specs.Subdivision.{face_at, next_at};
-ghost use Rattle.loc_spec_groups.specs.Groups.{covers_upper, dissolved, group_polygons as group_polygons_of, group_table as group_table_of, kept_edges};
+ghost use Rattle.loc_spec_groups.specs.Groups.{covers_upper, dissolved, dissolved_group, group_polygons as group_polygons_of, group_table as group_table_of, kept_edges};
 ghost use Rattle.loc_dissolve.specs.Dissolving.{CoversAsMembers, HasKeptOnce};
-ghost use Rattle.loc_dissolve.specs.Grouping.{AreMembers, ids_of, in_group};
+ghost use Rattle.loc_dissolve.specs.Grouping.{AreGroups, AreMembers, ids_of, in_group};
 
 use crate::chosen::group_table;
 use crate::groups::{Dissolved, Group, Polygon};
@@ -20,7 +21,7 @@ use crate::ids::group_ids;
 use crate::kept::kept_rows;
 use crate::polygons::polygons_of;
 use crate::rows::{member_rows, occurrences};
-use crate::subdivided::subdivide;
+use crate::subdivided::{Subdivided, subdivide};
 use loc_cover::Legend;
 use loc_edges::{EdgeTable, Rows};
 use loc_faces::Faces;
@@ -80,6 +81,37 @@ fn covered_faces(
     Ok(covered)
 }
 
+// The polygons of a group, from the edges that it keeps and its own table of them.
+fn own_polygons(
+    alloc: Global,
+    own: &Subdivided,
+    table: &EdgeTable,
+    legend: &Legend,
+    groups: &[u32],
+    members: &Rows<u32>,
+    kept: &[u32],
+    group: u32,
+) -> Result<Vec<Polygon>, AllocError>
+    requires own { own.now.table ≡ group_table_of table.now (in_group groups.now group) }
+    requires half { AreHalfEdges own.now.table own.now.half }
+    requires faces { AreFaces own.now.table (next_in own.now.half) own.now.faces }
+    requires all_ends { AllEnds table.now }
+    requires all_even { AllEven table.now }
+    requires apart { NoConflict table.now }
+    requires features { feature_count table.now ≤ length groups.now }
+    requires is_true { IsTrueLegend table.now legend.now }
+    requires fits { FitsTable table.now legend.now }
+    requires members { AreMembers groups.now legend.now.lists members.now }
+    requires kept { kept.now ≡ kept_edges table.now (in_group groups.now group) }
+    ensures polygons { IfOk result (λ polygons. polygons.items ≡ group_polygons_of table.now (in_group groups.now group) (next_at (group_table_of table.now (in_group groups.now group))) (face_at (group_table_of table.now (in_group groups.now group)))) }
+{
+    table.law();
+    let covered = covered_faces(
+        alloc, table, legend, groups, members, kept, group, &own.faces,
+    )?;
+    polygons_of(alloc, &own.table, &own.half, &own.faces, &covered)
+}
+
 // The polygons of a group, from the edges that it keeps.
 fn group_polygons(
     alloc: Global,
@@ -102,10 +134,49 @@ fn group_polygons(
 {
     table.law();
     let own = subdivide(alloc, group_table(alloc, table, kept, groups, group)?)?;
-    let covered = covered_faces(
-        alloc, table, legend, groups, members, kept, group, &own.faces,
-    )?;
-    polygons_of(alloc, &own.table, &own.half, &own.faces, &covered)
+    let polygons = own_polygons(alloc, &own, table, legend, groups, members, kept, group);
+    drop(own);
+    polygons
+}
+
+// The groups, each with the id of its first feature.
+fn made_groups(
+    alloc: Global,
+    layer: &Layer,
+    table: &EdgeTable,
+    legend: &Legend,
+    firsts: &[u32],
+    groups: &[u32],
+    members: &Rows<u32>,
+    kept: &Rows<u32>,
+) -> Result<Vec<Group>, AllocError>
+    requires all_ends { AllEnds table.now }
+    requires even { AllEven table.now }
+    requires apart { NoConflict table.now }
+    requires is_true { IsTrueLegend table.now legend.now }
+    requires fits { FitsTable table.now legend.now }
+    requires few { length firsts.now ≤ most_features }
+    requires are { AreGroups (ids_of layer.now) firsts.now groups.now }
+    requires features { feature_count table.now ≤ length groups.now }
+    requires members { AreMembers groups.now legend.now.lists members.now }
+    requires kept { kept.now ≡ map (λ g. kept_edges table.now (in_group groups.now g)) (numbers (length firsts.now)) }
+    ensures made { IfOk result (λ made. made.items ≡ map (λ f. dissolved_group next_at face_at table.now (ids_of layer.now) (get_or (ids_of layer.now) f [])) firsts.now) }
+{
+    let mut made = Vec::with_capacity(alloc, firsts.len())?;
+    for (n, first) in firsts.iter().enumerate() {
+        let id = Vec::from_slice(alloc, layer.feature(*first as usize).id())?;
+        let polygons = group_polygons(
+            alloc,
+            table,
+            legend,
+            groups,
+            members,
+            kept.row(n),
+            n as u32,
+        )?;
+        made.push(Group::of(id, polygons))?;
+    }
+    Ok(made)
 }
 
 /// The groups of a layer.
@@ -130,19 +201,10 @@ pub fn dissolve(
     let (firsts, groups) = group_ids(alloc, layer.features())?;
     let members = member_rows(alloc, legend, &groups)?;
     let kept = kept_rows(alloc, table, legend, &groups, &members, firsts.len() as u32)?;
-    let mut made = Vec::with_capacity(alloc, firsts.len())?;
-    for (n, first) in firsts.iter().enumerate() {
-        let id = Vec::from_slice(alloc, layer.feature(*first as usize).id())?;
-        let polygons = group_polygons(
-            alloc,
-            table,
-            legend,
-            &groups,
-            &members,
-            kept.row(n),
-            n as u32,
-        )?;
-        made.push(Group::of(id, polygons))?;
-    }
-    Ok(Dissolved::of(made))
+    let made = made_groups(
+        alloc, layer, table, legend, &firsts, &groups, &members, &kept,
+    );
+    drop(kept);
+    drop(members);
+    Ok(Dissolved::of(made?))
 }

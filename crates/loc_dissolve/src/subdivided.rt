@@ -33,6 +33,18 @@ fn floors_of(alloc: Global, table: &EdgeTable) -> Result<Floors, AllocError>
     }
 }
 
+// The half-edges of a table, and its faces.
+fn halves_and_faces(alloc: Global, table: &EdgeTable) -> Result<(HalfEdges, Faces), AllocError>
+    requires apart { NoConflict table.now }
+    ensures half { IfOk result (λ made. AreHalfEdges table.now made.0) }
+    ensures faces { IfOk result (λ made. AreFaces table.now (next_in made.0) made.1) }
+{
+    let floors = floors_of(alloc, table)?;
+    let half = HalfEdges::make(alloc, table)?;
+    let faces = Faces::make(alloc, table, &half, &floors)?;
+    Ok((half, faces))
+}
+
 /// The half-edges and the faces of a table.
 pub(crate) fn subdivide(alloc: Global, table: EdgeTable) -> Result<Subdivided, AllocError>
     requires { NoConflict table }
@@ -40,8 +52,11 @@ pub(crate) fn subdivide(alloc: Global, table: EdgeTable) -> Result<Subdivided, A
     ensures half { IfOk result (λ made. AreHalfEdges made.table made.half) }
     ensures faces { IfOk result (λ made. AreFaces made.table (next_in made.half) made.faces) }
 {
-    let floors = floors_of(alloc, &table)?;
-    let half = HalfEdges::make(alloc, &table)?;
-    let faces = Faces::make(alloc, &table, &half, &floors)?;
-    Ok(Subdivided { table, half, faces })
+    match halves_and_faces(alloc, &table) {
+        Ok((half, faces)) => Ok(Subdivided { table, half, faces }),
+        Err(fault) => {
+            drop(table);
+            Err(fault)
+        }
+    }
 }

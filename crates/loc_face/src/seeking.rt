@@ -46,9 +46,18 @@ fn write_above<O: Sink>(
     let table = &plane.table;
     table.law();
     let half = HalfEdges::make(alloc, table)?;
-    let faces = Faces::make(alloc, table, &half, &plane.floors)?;
+    let faces = match Faces::make(alloc, table, &half, &plane.floors) {
+        Ok(faces) => faces,
+        Err(_) => {
+            drop(half);
+            return Err(Stop::NoMemory);
+        }
+    };
     let number = faces.above(floor);
-    match write_face(&faces, number, table, &half, scale.decimals(), out) {
+    let written = write_face(&faces, number, table, &half, scale.decimals(), out);
+    drop(faces);
+    drop(half);
+    match written {
         Ok(()) => Ok(()),
         Err(_) => Err(Stop::WriteFault),
     }
@@ -113,5 +122,7 @@ pub fn face<F: Shelf, O: Sink, L: Ledger>(
     let layer = read_layer_file(alloc, shelf, layer_name, form, scale)?;
     let plane: Plane<TreeIndex> = judge(alloc, layer, scale)?;
     swept_stands(&plane.table, &plane.status);
-    write_for(alloc, &plane, point.as_bytes(), scale, out, steps)
+    let outcome = write_for(alloc, &plane, point.as_bytes(), scale, out, steps);
+    drop(plane);
+    outcome
 }

@@ -29,7 +29,9 @@ fn groups_of(alloc: Global, layer: &Layer, scale: Scale) -> Result<Dissolved, St
     ensures groups { IfOk result (λ groups. groups ≡ dissolved next_at face_at (table_in layer.now) (ids_of layer.now)) }
 {
     let plane: Plane<TreeIndex> = judge_layer(alloc, layer, None, scale)?;
-    Ok(loc_dissolve::dissolve(alloc, layer, &plane.table, &plane.legend)?)
+    let groups = loc_dissolve::dissolve(alloc, layer, &plane.table, &plane.legend);
+    drop(plane);
+    Ok(groups?)
 }
 
 // Writes groups.

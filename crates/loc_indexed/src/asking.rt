@@ -54,5 +54,7 @@ pub fn ask<F: Shelf, O: Sink, L: Ledger>(
     ensures { Follows (ask_course index_name.now points_name.now) (moment (F.meaning shelf.old) (O.meaning out.old) steps.old) (moment (F.meaning shelf.new) (O.meaning out.new) steps.new) (end_of result) }
 {
     let held = read_index_file(alloc, shelf, index_name)?;
-    answer_points(alloc, &held, points_name, shelf, out, steps)
+    let outcome = answer_points(alloc, &held, points_name, shelf, out, steps);
+    drop(held);
+    outcome
 }

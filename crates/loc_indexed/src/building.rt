@@ -85,7 +85,9 @@ fn make_index<F: Shelf>(
     let layer = read_layer_file(alloc, shelf, name, form, scale)?;
     ids_are_short(&layer);
     let plane: Plane<TreeIndex> = judge(alloc, layer, scale)?;
-    write_plane(shelf, index, scale, &plane)
+    let outcome = write_plane(shelf, index, scale, &plane);
+    drop(plane);
+    outcome
 }
 
 /// Reads the layer whole and makes its index file. All memory is taken before the file is created, and nothing is written on an output. What

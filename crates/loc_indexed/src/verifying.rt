@@ -87,5 +87,7 @@ pub fn verify<F: Shelf, O: Sink>(
     ensures judged { Judged ((F.meaning shelf.old).told index_name.now) (status_of (end_of result)) }
 {
     let held = read_index_file(alloc, shelf, index_name)?;
-    tell(alloc, &held, out)
+    let outcome = tell(alloc, &held, out);
+    drop(held);
+    outcome
 }

@@ -73,9 +73,13 @@ pub fn sweep_table<S: Status>(
                 b: table.edge(b),
                 meeting,
             };
+            drop(table);
             Err(Stop::Refused(conflict_line(scale, pair)))
         }
-        Err(SweepFault::NoMemory) => Err(Stop::NoMemory),
+        Err(SweepFault::NoMemory) => {
+            drop(table);
+            Err(Stop::NoMemory)
+        }
     }
 }
 
@@ -97,8 +101,14 @@ fn sweep_plain<S: FreshStatus>(alloc: Global, layer: &Layer) -> Result<Option<Sw
                 floors,
             }))
         }
-        Err(SweepFault::Conflict { .. }) => Ok(None),
-        Err(SweepFault::NoMemory) => Err(Stop::NoMemory),
+        Err(SweepFault::Conflict { .. }) => {
+            drop(table);
+            Ok(None)
+        }
+        Err(SweepFault::NoMemory) => {
+            drop(table);
+            Err(Stop::NoMemory)
+        }
     }
 }
 

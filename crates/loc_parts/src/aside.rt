@@ -317,10 +317,16 @@ pub(crate) fn aside(
 {
     let count = layer.features().len();
     if let Some(table) = noded {
-        return fates_by(alloc, &table, count);
+        let fates = fates_by(alloc, &table, count);
+        drop(table);
+        return fates;
     }
     match node(alloc, layer) {
-        Ok(table) => fates_by(alloc, &table, count),
+        Ok(table) => {
+            let fates = fates_by(alloc, &table, count);
+            drop(table);
+            fates
+        }
         Err(NodeFault::ManyPieces) => vec![in alloc; Fate::Crossed; count],
         Err(NodeFault::NoMemory) => Err(AllocError),
     }

@@ -28,16 +28,31 @@ pub fn judged(alloc: Global, layer: &Layer, table: EdgeTable) -> Result<PartPlan
     let (tree, floors) = match sweep(alloc, &table, TreeIndex::new(alloc)) {
         Ok(done) => done,
         Err(SweepFault::Conflict { .. }) => return Err(PlaneFault::Conflict(table)),
-        Err(SweepFault::NoMemory) => return Err(PlaneFault::NoMemory),
+        Err(SweepFault::NoMemory) => {
+            drop(table);
+            return Err(PlaneFault::NoMemory);
+        }
     };
     match Legend::make(alloc, layer, &table, &floors) {
-        Ok(legend) => Ok(PartPlane {
-            table,
-            tree,
-            legend,
-        }),
-        Err(LegendFault::ManyCovers) => Err(PlaneFault::Covers(table)),
-        Err(LegendFault::NoMemory) => Err(PlaneFault::NoMemory),
+        Ok(legend) => {
+            drop(floors);
+            Ok(PartPlane {
+                table,
+                tree,
+                legend,
+            })
+        }
+        Err(LegendFault::ManyCovers) => {
+            drop(floors);
+            drop(tree);
+            Err(PlaneFault::Covers(table))
+        }
+        Err(LegendFault::NoMemory) => {
+            drop(floors);
+            drop(tree);
+            drop(table);
+            Err(PlaneFault::NoMemory)
+        }
     }
 }
 

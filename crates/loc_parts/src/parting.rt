@@ -44,7 +44,13 @@ fn one_part(alloc: Global, layer: &Layer, plane: PartPlane) -> Result<Parted, Al
     requires swept { IsSwept plane.table (meaning_of plane.tree) }
     ensures { IfOk result (IsParted layer.now) }
 {
-    let numbers = numbers_below(alloc, layer.features().len())?;
+    let numbers = match numbers_below(alloc, layer.features().len()) {
+        Ok(numbers) => numbers,
+        Err(fault) => {
+            drop(plane);
+            return Err(fault);
+        }
+    };
     let mut parts = Vec::new(alloc);
     parts.push(Part { numbers, plane })?;
     Ok(Parted {
@@ -90,13 +96,13 @@ fn pass(
     Ok((later, count))
 }
 
-// A layer in parts by at most sixteen passes over a copy of it. Its noded table may be made already: the first pass takes that.
-fn in_parts(
+// A layer in parts by at most sixteen passes over a copy of it. The first pass takes the noded table out, where it is there.
+fn in_passes(
     alloc: Global,
     layer: &Layer,
-    mut noded: Option<EdgeTable>,
+    noded: &mut Option<EdgeTable>,
 ) -> Result<Parted, AllocError>
-    ensures { IfOk result (IsParted layer.now) }
+    ensures parted { IfOk result (IsParted layer.now) }
 {
     let mut parts = Vec::new(alloc);
     let mut left = Vec::new(alloc);
@@ -113,6 +119,19 @@ fn in_parts(
     }
     leave(alloc, &mut left, rest)?;
     Ok(Parted { parts, left })
+}
+
+// A layer in parts. Its noded table may be made already.
+fn in_parts(
+    alloc: Global,
+    layer: &Layer,
+    mut noded: Option<EdgeTable>,
+) -> Result<Parted, AllocError>
+    ensures { IfOk result (IsParted layer.now) }
+{
+    let parted = in_passes(alloc, layer, &mut noded);
+    drop(noded);
+    parted
 }
 
 impl Parted {

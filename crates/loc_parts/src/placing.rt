@@ -47,7 +47,14 @@ pub(crate) fn settle(
             })?;
             Ok(())
         }
-        Err(PlaneFault::NoMemory) => Err(AllocError),
-        Err(_) => leave(alloc, left, rest),
+        Err(fault) => {
+            let was_memory = matches!(&fault, PlaneFault::NoMemory);
+            drop(fault);
+            if was_memory {
+                Err(AllocError)
+            } else {
+                leave(alloc, left, rest)
+            }
+        }
     }
 }

@@ -153,8 +153,13 @@ fn with_traps(
     ensures floors { IfOk result (λ chosen. chosen.floors ≡ plane.floors) }
     ensures legend { IfOk result (λ chosen. chosen.legend ≡ plane.legend) }
 {
-    let traps = traps_of(alloc, &plane.table, order)?;
-    Ok(with_index(plane, Chosen::Trap(traps)))
+    match traps_of(alloc, &plane.table, order) {
+        Ok(traps) => Ok(with_index(plane, Chosen::Trap(traps))),
+        Err(fault) => {
+            drop(plane);
+            Err(fault)
+        }
+    }
 }
 
 /// The plane of a layer that is accepted, where its table may be made already, with an index in place of the status that swept it. The plain

@@ -7,7 +7,7 @@ use Rattle.loc_spec_text.specs.Bytes.{Text}
 use Rattle.loc_course.specs.Courses.{Stopped, unwritten}
 use Rattle.loc_course.specs.Following.{Follows, Moment, moment, searches_by}
 use Rattle.loc_course.proofs.Taken.{cut, done}
-use Rattle.loc_reach.specs.SpanCourses.{answered_course, met_output, text_steps}
+use Rattle.loc_reach.specs.SpanCourses.{answered_course, met_output, spans_course, text_steps}
 
 module _ (scale : ℕ) (t : Table) (text : Text) (shelf : Meaning) (o m : Stream) (k l : ℕ) (up : k ≤ l) (within : l ≤ k + text_steps scale t text) where
   -- all was written
@@ -23,3 +23,7 @@ pub same_course : (scale : ℕ) {u t : Table} {x text : Text} {m n : Moment} {en
 same_course scale {u = u} {text = text} {m = m} {n = n} {end = end} same_table same_text follows =
     subst (λ (y : Table). Follows (answered_course scale y text) m n end) same_table
     (subst (λ (z : Text). Follows (answered_course scale u z) m n end) same_text follows)
+
+-- the same course of spans by the table that views show
+pub same_spans : (scale : ℕ) (spans : Text) {u t : Table} {m n : Moment} {end : Option Stopped} → u ≡ t → Follows (spans_course scale u spans) m n end → Follows (spans_course scale t spans) m n end
+same_spans scale spans {m = m} {n = n} {end = end} same_table follows = subst (λ (y : Table). Follows (spans_course scale y spans) m n end) same_table follows

@@ -5,7 +5,7 @@ ghost use Rattle.loc_treeidx.specs.Standing.{AreVersionsOf};
 ghost use Rattle.loc_course.specs.Following.{Follows, moment};
 ghost use Rattle.loc_course.specs.Stops.{end_of};
 ghost use Rattle.loc_maps.specs.MapCourses.{layer_file};
-ghost use Rattle.loc_reach.specs.SpanCourses.{answered_course, stab_course};
+ghost use Rattle.loc_reach.specs.SpanCourses.{answered_course, spans_course, stab_course};
 
 use crate::answering::write_answers;
 use loc_course::{Stop, read_source};
@@ -36,6 +36,23 @@ fn write_spans<O: Sink, L: Ledger>(
     }
 }
 
+// Reads a file of spans whole, and writes the answers to its lines.
+fn answer_spans<F: Shelf, O: Sink, L: Ledger>(
+    alloc: Global,
+    plane: &SweptTable<TreeIndex>,
+    spans_name: &str,
+    scale: Scale,
+    shelf: &mut F,
+    out: &mut O,
+    steps: &mut Steps<L>,
+) -> Result<(), Stop>
+    requires stands { AreVersionsOf plane.now.table plane.now.status }
+    ensures follows { Follows (spans_course scale plane.now.table spans_name.now) (moment (F.meaning shelf.old) (O.meaning out.old) steps.old) (moment (F.meaning shelf.new) (O.meaning out.new) steps.new) (end_of result) }
+{
+    let text = read_source(alloc, shelf, spans_name, MOST_TEXT, b"spans: too long")?;
+    write_spans(plane, &text, scale, out, steps)
+}
+
 /// Reads the layer and then the spans, whole, and writes for each line the edges that its span meets, from the bottom up: all memory is taken
 /// before the first byte on `out`.
 pub fn stab<F: Shelf, O: Sink, L: Ledger>(
@@ -53,6 +70,8 @@ pub fn stab<F: Shelf, O: Sink, L: Ledger>(
     let layer = read_layer_file(alloc, shelf, layer_name, form, scale)?;
     let plane: SweptTable<TreeIndex> = sweep_layer(alloc, &layer, scale)?;
     swept_stands(&plane.table, &plane.status);
-    let text = read_source(alloc, shelf, spans_name, MOST_TEXT, b"spans: too long")?;
-    write_spans(&plane, &text, scale, out, steps)
+    let outcome = answer_spans(alloc, &plane, spans_name, scale, shelf, out, steps);
+    drop(plane);
+    drop(layer);
+    outcome
 }

@@ -67,15 +67,20 @@ pub(crate) fn unescaped(alloc: Global, text: &str) -> Result<Vec<u8>, Stop> {
     }
 }
 
+// Puts a byte behind a text as a row writes it.
+fn put_escaped(text: &mut String, byte: u8) -> Result<(), AllocError> {
+    match byte {
+        b'\\' => text.push_str("\\\\"),
+        b' '..=b'~' => text.push(char::from(byte)),
+        other => write!(text, "\\x{other:02X}"),
+    }
+}
+
 /// The text by which a row writes these bytes.
 pub(crate) fn escaped(alloc: Global, bytes: &[u8]) -> Result<String, AllocError> {
     let mut text = String::new(alloc);
     for byte in bytes {
-        match *byte {
-            b'\\' => text.push_str("\\\\")?,
-            b' '..=b'~' => text.push(char::from(*byte))?,
-            other => write!(text, "\\x{other:02X}")?,
-        }
+        put_escaped(&mut text, *byte)?;
     }
     Ok(text)
 }

@@ -6,6 +6,7 @@ use crate::runs::{Faults, Left, words_of};
 use crate::stage::Stage;
 use crate::stop::Stop;
 use loc_io::MemShelf;
+use std::alloc::Global;
 
 // What a run leaves, and its files.
 type Outcome = (Left, MemShelf);
@@ -40,6 +41,30 @@ fn front_of_made(whole: Option<&[u8]>, made: Option<&[u8]>) -> &'static str {
     }
 }
 
+// What a fault left beside what a run without one left.
+fn show_outcome(
+    page: &mut String,
+    alloc: Global,
+    words: &[String],
+    whole: &Outcome,
+    outcome: &Outcome,
+    faults: Faults,
+) -> Result<(), Stop> {
+    let left = &outcome.0;
+    let Faults { shelf, out, notes } = faults;
+    let status = left.status;
+    let calls = left.shelf.calls;
+    let writes = left.out.watch.calls;
+    let written = front_of(whole.0.out.bytes(), left.out.bytes());
+    let made = front_of_made(made(words, whole), made(words, outcome));
+    let line = escaped(alloc, left.notes.bytes())?;
+    writeln!(
+        page,
+        "fail {shelf} {out} {notes}: status {status}, {calls} calls of the shelf, {writes} of out; out has {written}, made is {made}, notes {line}"
+    )?;
+    Ok(())
+}
+
 // Runs the words where calls fail, and prints what is left, beside the whole run.
 fn show_fault(
     page: &mut String,
@@ -49,19 +74,9 @@ fn show_fault(
     faults: Faults,
 ) -> Result<(), Stop> {
     let outcome = stage.failing(words, faults)?;
-    let left = &outcome.0;
-    let Faults { shelf, out, notes } = faults;
-    let status = left.status;
-    let calls = left.shelf.calls;
-    let writes = left.out.watch.calls;
-    let written = front_of(whole.0.out.bytes(), left.out.bytes());
-    let made = front_of_made(made(words, whole), made(words, &outcome));
-    let line = escaped(stage.alloc, left.notes.bytes())?;
-    writeln!(
-        page,
-        "fail {shelf} {out} {notes}: status {status}, {calls} calls of the shelf, {writes} of out; out has {written}, made is {made}, notes {line}"
-    )?;
-    Ok(())
+    let shown = show_outcome(page, stage.alloc, words, whole, &outcome, faults);
+    drop(outcome);
+    shown
 }
 
 // Which call fails.
@@ -116,14 +131,16 @@ fn show_each(
     Ok(())
 }
 
-/// `failing WORDS`: what is left where each call of the shelf, of out and of notes fails in turn, and where the first of notes fails beside
-/// another.
-pub(crate) fn failing(page: &mut String, stage: &Stage, line: &str) -> Result<(), Stop> {
-    let words = words_of(stage.alloc, line)?;
-    let whole = stage.failing(&words, Faults::NONE)?;
-    show_fault(page, stage, &words, &whole, Faults::NONE)?;
+// What each fault leaves beside a run without one.
+fn show_all(
+    page: &mut String,
+    stage: &Stage,
+    words: &[String],
+    whole: &Outcome,
+) -> Result<(), Stop> {
+    show_fault(page, stage, words, whole, Faults::NONE)?;
     for outside in [Outside::Shelf, Outside::Out, Outside::Notes] {
-        show_each(page, stage, &words, &whole, outside)?;
+        show_each(page, stage, words, whole, outside)?;
     }
     for (shelf, out) in [(1, 0), (0, 1)] {
         let faults = Faults {
@@ -131,7 +148,17 @@ pub(crate) fn failing(page: &mut String, stage: &Stage, line: &str) -> Result<()
             out,
             notes: 1,
         };
-        show_fault(page, stage, &words, &whole, faults)?;
+        show_fault(page, stage, words, whole, faults)?;
     }
     Ok(())
+}
+
+/// `failing WORDS`: what is left where each call of the shelf, of out and of notes fails in turn, and where the first of notes fails beside
+/// another.
+pub(crate) fn failing(page: &mut String, stage: &Stage, line: &str) -> Result<(), Stop> {
+    let words = words_of(stage.alloc, line)?;
+    let whole = stage.failing(&words, Faults::NONE)?;
+    let shown = show_all(page, stage, &words, &whole);
+    drop(whole);
+    shown
 }

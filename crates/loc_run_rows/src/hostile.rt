@@ -13,6 +13,14 @@ pub(crate) fn number_at(index: &[u8], at: usize) -> Result<u32, Stop> {
     }
 }
 
+// Puts a node of edge 1 behind an index, which leads to others on the left and on the right.
+fn put_node(index: &mut Vec<u8>, left: u32, right: u32) -> Result<(), AllocError> {
+    index.extend_from_slice(&1u32.to_be_bytes())?;
+    index.extend_from_slice(&left.to_be_bytes())?;
+    index.extend_from_slice(&right.to_be_bytes())?;
+    index.extend_from_slice(&[0; 9])
+}
+
 // Puts nodes behind those of an index: each has edge 1, and leads to the next one, on the right or on both sides.
 fn put_nodes(
     index: &mut Vec<u8>,
@@ -27,10 +35,7 @@ fn put_nodes(
             0
         };
         let left = if doubled { next } else { 0 };
-        index.extend_from_slice(&1u32.to_be_bytes())?;
-        index.extend_from_slice(&left.to_be_bytes())?;
-        index.extend_from_slice(&next.to_be_bytes())?;
-        index.extend_from_slice(&[0; 9])?;
+        put_node(index, left, next)?;
     }
     Ok(())
 }
@@ -55,17 +60,23 @@ fn put_roots(index: &mut [u8], nodes: u32, version: usize) -> Result<(), Stop> {
     Ok(())
 }
 
-/// `hostile COUNT single|double VERSION`: the file `index` is the file `built` with so many hostile nodes more, to which the roots lead from
-/// a version on.
-pub(crate) fn hostile(stage: &mut Stage, rest: &str) -> Result<(), Stop> {
+// Puts nodes and roots into an index, as the rest of the step says.
+fn put_more(index: &mut Vec<u8>, rest: &str) -> Result<(), Stop> {
     let (count, rest) = cut(rest);
     let (links, version) = cut(rest);
     let count = number(count)? as u32;
+    let nodes = number_at(index, 36)?;
+    put_roots(index, nodes, number(version)? as usize)?;
+    put_number(index, 36, nodes.saturating_add(count))?;
+    put_nodes(index, nodes, count, links == "double")?;
+    Ok(())
+}
+
+/// `hostile COUNT single|double VERSION`: the file `index` is the file `built` with so many hostile nodes more, to which the roots lead from
+/// a version on.
+pub(crate) fn hostile(stage: &mut Stage, rest: &str) -> Result<(), Stop> {
     let mut index = Vec::from_slice(stage.alloc, stage.bytes("built")?)?;
-    let nodes = number_at(&index, 36)?;
-    put_roots(&mut index, nodes, number(version)? as usize)?;
-    put_number(&mut index, 36, nodes.saturating_add(count))?;
-    put_nodes(&mut index, nodes, count, links == "double")?;
+    put_more(&mut index, rest)?;
     stage.put("index", &index)?;
     Ok(())
 }

@@ -25,7 +25,7 @@ use crate::stage::Stage;
 use crate::stop::Stop;
 use crate::trips::{orders, refused, shuffles, trip};
 use std::alloc::Global;
-use std::{fs, io};
+use std::{fs, io, mem};
 
 // The files of rows, in the order in which they are played.
 const FILES: [&str; 14] = [
@@ -67,18 +67,26 @@ fn play(page: &mut String, stage: &mut Stage, verb: &str, rest: &str) -> Result<
     }
 }
 
-// Plays the steps of a file, each behind its own line.
-fn play_all(page: &mut String, alloc: Global, text: &str) -> Result<(), Stop> {
-    let mut stage = Stage::new(alloc);
+// Plays the steps of a file on a stage, each behind its own line.
+fn play_lines(page: &mut String, stage: &mut Stage, text: &str) -> Result<(), Stop> {
     for line in text.lines() {
         writeln!(page, "{line}")?;
         let (verb, rest) = cut(line);
         if verb == "row" {
-            stage = Stage::new(alloc);
+            let empty = Stage::new(stage.alloc);
+            drop(mem::replace(stage, empty));
         }
-        play(page, &mut stage, verb, rest)?;
+        play(page, stage, verb, rest)?;
     }
     Ok(())
+}
+
+// Plays the steps of a file.
+fn play_all(page: &mut String, alloc: Global, text: &str) -> Result<(), Stop> {
+    let mut stage = Stage::new(alloc);
+    let played = play_lines(page, &mut stage, text);
+    drop(stage);
+    played
 }
 
 fn main(rt: HostRuntime) -> io::Result<()> {

@@ -74,20 +74,32 @@ fn save(stage: &mut Stage, name: &str) -> Result<(), Stop> {
     Ok(())
 }
 
+// Bytes with those of a text in place of as many as are cut out at a place.
+fn spliced(
+    alloc: Global,
+    old: &[u8],
+    at: usize,
+    count: usize,
+    text: &str,
+) -> Result<Vec<u8>, Stop> {
+    let behind = at.saturating_add(count);
+    if behind < at || old.len() < behind {
+        return Err(Stop::NoStep);
+    }
+    let mut bytes = Vec::from_slice(alloc, &old[..at])?;
+    bytes.extend_from_slice(&unescaped(alloc, text)?)?;
+    bytes.extend_from_slice(&old[behind..])?;
+    Ok(bytes)
+}
+
 // `splice NAME AT CUT BYTES`: in a file, these bytes in place of as many as are cut out there.
 fn splice(stage: &mut Stage, rest: &str) -> Result<(), Stop> {
     let (name, rest) = cut(rest);
     let (at, rest) = cut(rest);
     let (count, text) = cut(rest);
     let at = number(at)? as usize;
-    let behind = at.saturating_add(number(count)? as usize);
-    let old = stage.bytes(name)?;
-    if behind < at || old.len() < behind {
-        return Err(Stop::NoStep);
-    }
-    let mut bytes = Vec::from_slice(stage.alloc, &old[..at])?;
-    bytes.extend_from_slice(&unescaped(stage.alloc, text)?)?;
-    bytes.extend_from_slice(&old[behind..])?;
+    let count = number(count)? as usize;
+    let bytes = spliced(stage.alloc, stage.bytes(name)?, at, count, text)?;
     stage.put(name, &bytes)?;
     Ok(())
 }

@@ -45,18 +45,28 @@ impl Left {
     }
 }
 
+// The word that a word of a line stands for.
+fn word_of(alloc: Global, word: &str) -> Result<String, Stop> {
+    let text = if word == "\\e" { "" } else { word };
+    match String::from_utf8(unescaped(alloc, text)?) {
+        Ok(word) => Ok(word),
+        Err(_) => Err(Stop::NoStep),
+    }
+}
+
+// Puts the words of a line behind others.
+fn put_words(words: &mut Vec<String>, alloc: Global, line: &str) -> Result<(), Stop> {
+    for word in line.split(' ') {
+        words.push(word_of(alloc, word)?)?;
+    }
+    Ok(())
+}
+
 /// The words of a line, with one space between each two; `\e` is the empty word, and an empty line has none.
 pub(crate) fn words_of(alloc: Global, line: &str) -> Result<Vec<String>, Stop> {
     let mut words = Vec::new(alloc);
-    if line.is_empty() {
-        return Ok(words);
-    }
-    for word in line.split(' ') {
-        let text = if word == "\\e" { "" } else { word };
-        let Ok(word) = String::from_utf8(unescaped(alloc, text)?) else {
-            return Err(Stop::NoStep);
-        };
-        words.push(word)?;
+    if !line.is_empty() {
+        put_words(&mut words, alloc, line)?;
     }
     Ok(words)
 }
@@ -83,6 +93,18 @@ fn sink(alloc: Global, call: u64) -> Result<WatchedSink, AllocError> {
     Ok(WatchedSink::new(MemSink::new(alloc, vec![in alloc; call]?)))
 }
 
+// The sinks of out and of notes, of which one write fails.
+fn sinks(alloc: Global, faults: Faults) -> Result<(WatchedSink, WatchedSink), AllocError> {
+    let out = sink(alloc, faults.out)?;
+    match sink(alloc, faults.notes) {
+        Ok(notes) => Ok((out, notes)),
+        Err(fault) => {
+            drop(out);
+            Err(fault)
+        }
+    }
+}
+
 /// What the words leave, run over a shelf, and the shelf.
 pub(crate) fn run_words(
     alloc: Global,
@@ -90,9 +112,14 @@ pub(crate) fn run_words(
     shelf: MemShelf,
     faults: Faults,
 ) -> Result<(Left, MemShelf), AllocError> {
+    let (mut out, mut notes) = match sinks(alloc, faults) {
+        Ok(sinks) => sinks,
+        Err(fault) => {
+            drop(shelf);
+            return Err(fault);
+        }
+    };
     let mut shelf = WatchedShelf::new(shelf);
-    let mut out = sink(alloc, faults.out)?;
-    let mut notes = sink(alloc, faults.notes)?;
     let blank = Blank::new(1);
     let status = status::<Brand>(alloc, words, &mut shelf, &mut out, &mut notes, blank);
     let left = Left {

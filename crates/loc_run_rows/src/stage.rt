@@ -71,6 +71,14 @@ impl Stage {
         self.left = Some(left);
     }
 
+    // Puts a copy of each file on a shelf.
+    fn copy_to(&self, shelf: &mut MemShelf) -> Result<(), Stop> {
+        for name in &self.names {
+            shelf.put(name.as_str(), self.bytes(name.as_str())?)?;
+        }
+        Ok(())
+    }
+
     /// What these words leave over a copy of the files, where calls fail, and the copy.
     pub(crate) fn failing(
         &self,
@@ -78,8 +86,9 @@ impl Stage {
         faults: Faults,
     ) -> Result<(Left, MemShelf), Stop> {
         let mut shelf = empty_shelf(self.alloc, faults.shelf)?;
-        for name in &self.names {
-            shelf.put(name.as_str(), self.bytes(name.as_str())?)?;
+        if let Err(stop) = self.copy_to(&mut shelf) {
+            drop(shelf);
+            return Err(stop);
         }
         Ok(run_words(self.alloc, words, shelf, faults)?)
     }

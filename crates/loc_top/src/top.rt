@@ -16,21 +16,11 @@ ghost use Rattle.loc_upgrade.specs.TellsEdges.{Listed, TellsEdges};
 ghost use Rattle.loc_upgrade.specs.Upgrades.{Upgraded, Upgrades};
 ghost use Rattle.loc_top.specs.Run.{FilesOf, Ran, RefusesWords, RunSentences, course_of, file_of};
 
-use loc_breaches::valid;
+use crate::commands::run_command;
 use loc_course::{Stop, report, write_text};
-use loc_face::face;
-use loc_features::features;
 use loc_geom::Steps;
-use loc_groups::dissolve;
-use loc_indexed::{ask, build, verify};
 use loc_io::{Shelf, Sink};
-use loc_maps::check;
-use loc_query::query;
-use loc_reach::stab;
-use loc_spec_text::Scale;
-use loc_trial::{generate, trial};
-use loc_upgrade::{edges, upgrade};
-use loc_words::{Command, WordsFault, command_of, usage_text};
+use loc_words::{WordsFault, command_of, usage_text};
 use std::alloc::Global;
 use std::sync::ledger::Ledger;
 
@@ -53,92 +43,8 @@ fn run_course<F: Shelf, O: Sink, N: Sink, L: Ledger>(
     ensures notes_in_time { InTime (N.meaning notes.old) (N.meaning notes.new) }
 {
     match command_of(alloc, words) {
-        Ok(Command::Query(asked)) => {
-            let layer = asked.layer;
-            let outcome = query(
-                alloc,
-                layer.name,
-                asked.points,
-                layer.form,
-                Scale::new(layer.scale),
-                asked.index,
-                asked.order,
-                asked.faces,
-                shelf,
-                out,
-                steps,
-            );
-            report(outcome, notes)
-        }
-        Ok(Command::Features(asked)) => {
-            let (name, form) = (asked.layer.name, asked.layer.form);
-            let scale = Scale::new(asked.layer.scale);
-            let outcome = features(alloc, name, asked.points, form, scale, shelf, out, steps);
-            report(outcome, notes)
-        }
-        Ok(Command::Check(layer)) => {
-            let scale = Scale::new(layer.scale);
-            let outcome = check(alloc, layer.name, layer.form, scale, shelf, out);
-            report(outcome, notes)
-        }
-        Ok(Command::Build(asked)) => {
-            let layer = asked.layer;
-            let scale = Scale::new(layer.scale);
-            let outcome = build(alloc, layer.name, asked.index, layer.form, scale, shelf);
-            report(outcome, notes)
-        }
-        Ok(Command::Ask(asked)) => {
-            let outcome = ask(alloc, asked.index, asked.points, shelf, out, steps);
-            report(outcome, notes)
-        }
-        Ok(Command::Verify(asked)) => {
-            let outcome = verify(alloc, asked.index, shelf, out);
-            report(outcome, notes)
-        }
-        Ok(Command::Face(asked)) => {
-            let (name, form) = (asked.layer.name, asked.layer.form);
-            let scale = Scale::new(asked.layer.scale);
-            let outcome = face(alloc, name, asked.point, form, scale, shelf, out, steps);
-            report(outcome, notes)
-        }
-        Ok(Command::Gen(asked)) => {
-            let outcome = generate(asked.kind, asked.n, asked.shift, out);
-            report(outcome, notes)
-        }
-        Ok(Command::Trial(asked)) => {
-            let outcome = trial(
-                alloc,
-                asked.kind,
-                asked.n,
-                asked.shift,
-                asked.index,
-                out,
-                steps,
-            );
-            report(outcome, notes)
-        }
-        Ok(Command::Edges(asked)) => {
-            let outcome = edges(alloc, asked.index, shelf, out);
-            report(outcome, notes)
-        }
-        Ok(Command::Upgrade(asked)) => {
-            let outcome = upgrade(alloc, asked.old, asked.new, shelf);
-            report(outcome, notes)
-        }
-        Ok(Command::Stab(asked)) => {
-            let (name, form) = (asked.layer.name, asked.layer.form);
-            let scale = Scale::new(asked.layer.scale);
-            let outcome = stab(alloc, name, asked.spans, form, scale, shelf, out, steps);
-            report(outcome, notes)
-        }
-        Ok(Command::Valid(layer)) => {
-            let scale = Scale::new(layer.scale);
-            let outcome = valid(alloc, layer.name, layer.form, scale, shelf, out);
-            report(outcome, notes)
-        }
-        Ok(Command::Dissolve(layer)) => {
-            let scale = Scale::new(layer.scale);
-            let outcome = dissolve(alloc, layer.name, layer.form, scale, shelf, out);
+        Ok(command) => {
+            let outcome = run_command(alloc, command, shelf, out, steps);
             report(outcome, notes)
         }
         Err(WordsFault::Refused) => {

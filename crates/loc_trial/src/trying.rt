@@ -116,7 +116,7 @@ fn try_layer<O: Sink, L: Ledger>(
     let plane = choose(alloc, index, order, layer, None, Scale::new(0))?;
     plane.legend.law();
     let nodes = plane.status.nodes();
-    try_points(
+    let written = try_points(
         alloc,
         &plane.status,
         &plane.table,
@@ -127,7 +127,9 @@ fn try_layer<O: Sink, L: Ledger>(
         nodes,
         out,
         steps,
-    )
+    );
+    drop(plane);
+    written
 }
 
 /// Makes a generated layer, reads it back, and asks an index for its points. The counts of the answers are written: all memory is taken

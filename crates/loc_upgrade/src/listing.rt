@@ -41,5 +41,7 @@ pub fn edges<F: Shelf, O: Sink>(
     ensures listed { Listed ((F.meaning shelf.old).told index_name.now) (status_of (end_of result)) }
 {
     let held = read_index_file(alloc, shelf, index_name)?;
-    write_held_edges(&held, out)
+    let outcome = write_held_edges(&held, out);
+    drop(held);
+    outcome
 }

@@ -37,5 +37,7 @@ pub fn upgrade<F: Shelf>(
     ensures upgraded { Upgraded old_name.now new_name.now (F.meaning shelf.old) (F.meaning shelf.new) (status_of (end_of result)) }
 {
     let held = read_index_file(alloc, shelf, old_name)?;
-    make_upgrade(shelf, new_name, &held)
+    let outcome = make_upgrade(shelf, new_name, &held);
+    drop(held);
+    outcome
 }

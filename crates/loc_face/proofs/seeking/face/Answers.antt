@@ -8,5 +8,5 @@ returns-in_err-plane g c =
 
 pub returns : goal.returns
 returns g c =
-    let written = c.write_for.ensures (g.F.Shelf.meaning c.read_layer_file.new.shelf) in
+    let written = c.write_for-outcome.ensures (g.F.Shelf.meaning c.read_layer_file.new.shelf) in
     c.in_ok-layer.ensures _ _ _ _ _ (c.in_ok-plane.ensures.goes_on _ _ _ _ (rw (c.in_ok-plane.ensures.map.table, c.as_bytes.ensures.value) at written))

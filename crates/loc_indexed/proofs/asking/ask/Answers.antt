@@ -8,4 +8,4 @@ returns-in_err-held g c =
     rw (p.1, p.2) (c.in_err-held.ensures.goes_on (asked_course c.args.points_name.now) _ _)
 
 pub returns : goal.returns
-returns g c = c.in_ok-held.ensures.goes_on (asked_course c.args.points_name.now) _ _ _ _ c.answer_points.ensures
+returns g c = c.in_ok-held.ensures.goes_on (asked_course c.args.points_name.now) _ _ _ _ c.answer_points-outcome.ensures

@@ -25,7 +25,7 @@ pub returns : goal.returns
 returns g c =
     let file = layer_file c.args.name.now c.args.form c.args.scale in
     let layer = c.in_ok-layer.layer in
-    let made = c.write_plane.ensures layer (record { ids = c.ids_are_short.ensures; map = c.in_ok-plane.ensures.map }) in
+    let made = c.write_plane-outcome.ensures layer (record { ids = c.ids_are_short.ensures; map = c.in_ok-plane.ensures.map }) in
     let passes = one_passes c.args.scale made.text in
     record {
       passes = passes;

@@ -13,7 +13,7 @@ pub returns-in_err-held-clause-judged : goal.returns-in_err-held-clause-judged
 returns-in_err-held-clause-judged g c = none_judged _ _ c.from_residual.result c.from_residual.ensures.1
 
 pub returns-clause-follows : goal.returns-clause-follows
-returns-clause-follows g c k = c.in_ok-held.ensures.goes_on (λ k. judged_course k (first_flaw k)) _ _ _ _ (c.tell.ensures.follows _ k)
+returns-clause-follows g c k = c.in_ok-held.ensures.goes_on (λ k. judged_course k (first_flaw k)) _ _ _ _ (c.tell-outcome.ensures.follows _ k)
 
 pub returns-clause-judged : goal.returns-clause-judged
-returns-clause-judged g c = judged_by _ _ c.tell.result c.in_ok-held.ensures.told c.tell.ensures.is_true
+returns-clause-judged g c = judged_by _ _ c.tell-outcome.result c.in_ok-held.ensures.told c.tell-outcome.ensures.is_true

@@ -1,46 +1,41 @@
-use Rattle.std.proofs.Common.{refl}
-use Rattle.std.proofs.lemmas.Result.{IfOk-weaker, err_from_is_err_and}
-use Rattle.loc_course.proofs.Going.{lacks_on}
+use Rattle.std.proofs.lemmas.Result.{IfOk-weaker}
+use Rattle.loc_course.specs.Following.{lacks}
 use Rattle.loc_maps.specs.Located.{table_in}
 use Rattle.loc_maps.specs.MapCourses.{covers_course}
 use Rattle.loc_maps.proofs.Judged.{behind_swept}
 use Rattle.loc_maps.proofs.plane.judge_over.Goals as goal
 
-pub returns-in_err-swept-clause-goes_on : goal.returns-in_err-swept-clause-goes_on
-returns-in_err-swept-clause-goes_on g c next m =
-    let p = err_from_is_err_and c.from_residual.result c.from_residual.ensures.1 in
-    rw (p.1, p.2) (c.in_err-swept.ensures.goes_on (covers_course (table_in c.args.layer) next) m)
+pub returns-in-Err-clause-goes_on : goal.returns-in-Err-clause-goes_on
+returns-in-Err-clause-goes_on g c next m = c.in-Err.ensures.goes_on (covers_course (table_in c.args.layer) next) m
 
-pub returns-in_err-ids-clause-goes_on : goal.returns-in_err-ids-clause-goes_on
-returns-in_err-ids-clause-goes_on g c next m =
-    behind_swept c.args.layer c.args.scale next m c.in_ok-swept.swept (table_in c.args.layer) c.from_residual-in_err-ids.result refl (c.in_ok-swept.ensures.goes_on (covers_course (table_in c.args.layer) next) m)
-    (lacks_on (covers_course (table_in c.args.layer) next) m (λ _. next) c.from_residual-in_err-ids.result c.from_residual-in_err-ids.ensures.1)
+pub returns-in-Err-into_ids-clause-goes_on : goal.returns-in-Err-into_ids-clause-goes_on
+returns-in-Err-into_ids-clause-goes_on g c next m = c.in-Ok.ensures.goes_on (covers_course (table_in c.args.layer) next) m _ _ lacks
 
-pub returns-clause-goes_on : goal.returns-clause-goes_on
-returns-clause-goes_on g c next m =
-    behind_swept c.args.layer c.args.scale next m c.in_ok-swept.swept c.in_ok-swept.swept.table c.with_legend.result c.in_ok-swept.ensures.table.table (c.in_ok-swept.ensures.goes_on (covers_course (table_in c.args.layer) next) m)
+pub returns-in-Ok-into_ids-clause-goes_on : goal.returns-in-Ok-into_ids-clause-goes_on
+returns-in-Ok-into_ids-clause-goes_on g c next m =
+    behind_swept c.args.layer c.args.scale next m c.in-Ok.swept c.in-Ok.swept.table c.with_legend.result c.in-Ok.ensures.table.table (c.in-Ok.ensures.goes_on (covers_course (table_in c.args.layer) next) m)
     (c.with_legend.ensures.goes_on next m)
 
 pub with_legend-requires-clause-few_features : goal.with_legend-requires-clause-few_features
-with_legend-requires-clause-few_features g c = c.in_ok-ids.ensures.few
+with_legend-requires-clause-few_features g c = c.in-Ok-into_ids.ensures.few
 
 pub with_legend-requires-clause-table : goal.with_legend-requires-clause-table
-with_legend-requires-clause-table g c = (c.args.layer, (c.in_ok-ids.ensures.value, c.in_ok-swept.ensures.table))
+with_legend-requires-clause-table g c = (c.args.layer, (c.in-Ok-into_ids.ensures.value, c.in-Ok.ensures.table))
 
 pub with_legend-requires-clause-apart : goal.with_legend-requires-clause-apart
-with_legend-requires-clause-apart g c = c.in_ok-swept.ensures.apart
+with_legend-requires-clause-apart g c = c.in-Ok.ensures.apart
 
 pub with_legend-requires-clause-swept : goal.with_legend-requires-clause-swept
-with_legend-requires-clause-swept g c = c.in_ok-swept.ensures.swept
+with_legend-requires-clause-swept g c = c.in-Ok.ensures.swept
 
 pub with_legend-requires-clause-floors : goal.with_legend-requires-clause-floors
-with_legend-requires-clause-floors g c = c.in_ok-swept.ensures.floors
+with_legend-requires-clause-floors g c = c.in-Ok.ensures.floors
 
-pub returns-clause-map : goal.returns-clause-map
-returns-clause-map g c = IfOk-weaker c.with_legend.result _ _ (λ plane of. of c.args.layer c.in_ok-ids.ensures.value c.in_ok-swept.ensures.table) c.with_legend.ensures.map
+pub returns-in-Ok-into_ids-clause-map : goal.returns-in-Ok-into_ids-clause-map
+returns-in-Ok-into_ids-clause-map g c = IfOk-weaker c.with_legend.result _ _ (λ plane of. of c.args.layer c.in-Ok-into_ids.ensures.value c.in-Ok.ensures.table) c.with_legend.ensures.map
 
-pub returns-clause-swept : goal.returns-clause-swept
-returns-clause-swept g c = c.with_legend.ensures.swept
+pub returns-in-Ok-into_ids-clause-swept : goal.returns-in-Ok-into_ids-clause-swept
+returns-in-Ok-into_ids-clause-swept g c = c.with_legend.ensures.swept
 
-pub returns-clause-floors : goal.returns-clause-floors
-returns-clause-floors g c = c.with_legend.ensures.floors
+pub returns-in-Ok-into_ids-clause-floors : goal.returns-in-Ok-into_ids-clause-floors
+returns-in-Ok-into_ids-clause-floors g c = c.with_legend.ensures.floors

@@ -17,5 +17,5 @@ returns-in-Err-Conflict-clause-goes_on g c next m =
     rw (c.conflict_line.ensures, c.edge.ensures, c.edge-in-Err-Conflict.ensures)
     (on_conflict c.args.scale (table_edges c.args.table) next _ _ c.in-Err-Conflict.meeting m (shown c.args.table c.in-Err-Conflict.a c.in-Err-Conflict.b c.in-Err-Conflict.meeting c.law.ensures.in_order here))
 
-pub returns-clause-goes_on : goal.returns-clause-goes_on
-returns-clause-goes_on g c next m = lacks
+pub returns-in-Err-NoMemory-clause-goes_on : goal.returns-in-Err-NoMemory-clause-goes_on
+returns-in-Err-NoMemory-clause-goes_on g c next m = lacks

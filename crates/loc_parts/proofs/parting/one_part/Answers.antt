@@ -9,8 +9,8 @@ use Rattle.loc_parts.proofs.parting.one_part.Goals as goal
 pub returns : goal.returns
 returns c =
     let layer = c.args.layer.now in
-    let part : Part = record { numbers = c.in_ok-numbers.numbers; plane = c.args.plane } in
-    let own : part.numbers.items ≡ numbers (length layer) = c.in_ok-numbers.ensures ∙ ap (λ fs. numbers (length fs)) c.features.ensures.value in
+    let part : Part = record { numbers = c.in-Ok.numbers; plane = c.args.plane } in
+    let own : part.numbers.items ≡ numbers (length layer) = c.in-Ok.ensures ∙ ap (λ fs. numbers (length fs)) c.features.ensures.value in
     let one : c.push.new.self.items ≡ [] ++ part ∷ [] = c.in_ok-push.ensures.items ∙ ap (λ (ps : List Part). ps ++ part ∷ []) c.new-parts.ensures.items in
     let is = as_part layer (numbers (length layer)) layer part (rest_of_all layer) own c.requires.map c.requires.swept in
     let but = more_parts layer [] [] [] part (subst (λ ns. IsPartedBut layer (ns ∷ []) [] []) (sym own) (at_first layer)) is in

@@ -4,8 +4,8 @@ use Rattle.loc_rings.specs.Values.{Feature}
 use Rattle.loc_course.specs.Following.{moment}
 use Rattle.loc_maps.specs.Located.{edges_of, table_in}
 use Rattle.loc_maps.specs.MapCourses.{apart_course}
-use Rattle.loc_reach.specs.SpanCourses.{answered_course, spans_course}
-use Rattle.loc_reach.proofs.Written.{same_course}
+use Rattle.loc_reach.specs.SpanCourses.{spans_course}
+use Rattle.loc_reach.proofs.Written.{same_spans}
 use Rattle.loc_reach.proofs.stabbing.stab.Goals as goal
 
 pub returns-in_err-plane : goal.returns-in_err-plane
@@ -17,16 +17,6 @@ returns-in_err-plane g c =
     rw (p.1, p.2) (c.in_ok-layer.ensures (λ (l : List Feature). apart_course c.args.scale (edges_of l) (spans_course c.args.scale (table_in l) c.args.spans_name.now)) o k _ _
     (c.in_err-plane.ensures.goes_on (spans_course c.args.scale (table_in layer) c.args.spans_name.now) (moment (g.F.Shelf.meaning c.read_layer_file.new.shelf) o k)))
 
-pub returns-in_err-text : goal.returns-in_err-text
-returns-in_err-text g c =
-    let o = g.O.Sink.meaning c.args.out.now in
-    let k = c.args.steps.now in
-    let layer = c.in_ok-layer.layer in
-    let p = err_from_is_err_and c.from_residual-in_err-text.result c.from_residual-in_err-text.ensures.1 in
-    rw (p.1, p.2) (c.in_ok-layer.ensures (λ (l : List Feature). apart_course c.args.scale (edges_of l) (spans_course c.args.scale (table_in l) c.args.spans_name.now)) o k _ _
-    (c.in_ok-plane.ensures.goes_on (spans_course c.args.scale (table_in layer) c.args.spans_name.now) (moment (g.F.Shelf.meaning c.read_layer_file.new.shelf) o k) _ _
-    (c.in_err-text.ensures.goes_on (answered_course c.args.scale (table_in layer)) o k)))
-
 pub returns : goal.returns
 returns g c =
     let o = g.O.Sink.meaning c.args.out.now in
@@ -34,5 +24,4 @@ returns g c =
     let layer = c.in_ok-layer.layer in
     c.in_ok-layer.ensures (λ (l : List Feature). apart_course c.args.scale (edges_of l) (spans_course c.args.scale (table_in l) c.args.spans_name.now)) o k _ _
     (c.in_ok-plane.ensures.goes_on (spans_course c.args.scale (table_in layer) c.args.spans_name.now) (moment (g.F.Shelf.meaning c.read_layer_file.new.shelf) o k) _ _
-    (c.in_ok-text.ensures.goes_on (answered_course c.args.scale (table_in layer)) o k _ _
-    (same_course c.args.scale c.in_ok-plane.ensures.table.table c.deref.ensures.value (c.write_spans.ensures (g.F.Shelf.meaning c.read_source.new.shelf)))))
+    (same_spans c.args.scale c.args.spans_name.now c.in_ok-plane.ensures.table.table c.answer_spans-outcome.ensures.follows))

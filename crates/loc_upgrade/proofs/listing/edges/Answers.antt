@@ -10,7 +10,7 @@ pub returns-in_err-held-clause-listed : goal.returns-in_err-held-clause-listed
 returns-in_err-held-clause-listed g c = let p = err_from_is_err_and c.from_residual.result c.from_residual.ensures.1 in rw p.1 (not_listed _ _)
 
 pub returns-clause-follows : goal.returns-clause-follows
-returns-clause-follows g c k = c.in_ok-held.ensures.goes_on listing _ k _ _ (c.write_held_edges.ensures _ k)
+returns-clause-follows g c k = c.in_ok-held.ensures.goes_on listing _ k _ _ (c.write_held_edges-outcome.ensures _ k)
 
 pub returns-clause-listed : goal.returns-clause-listed
 returns-clause-listed g c = λ zero. (c.in_ok-held.held.content, c.in_ok-held.ensures.told)

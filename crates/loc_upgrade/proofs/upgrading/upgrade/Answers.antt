@@ -23,7 +23,7 @@ returns-in_err-held-clause-upgraded g c =
 pub returns-clause-follows : goal.returns-clause-follows
 returns-clause-follows g c o k =
     let text = bytes_of 2 c.in_ok-held.held.content in
-    c.in_ok-held.ensures.goes_on (remaking c.args.new_name.now) o k _ _ (makes_by text _ (exactly_it text text refl) c.make_upgrade.ensures)
+    c.in_ok-held.ensures.goes_on (remaking c.args.new_name.now) o k _ _ (makes_by text _ (exactly_it text text refl) c.make_upgrade-outcome.ensures)
 
 pub returns-clause-upgraded : goal.returns-clause-upgraded
 returns-clause-upgraded g c =
@@ -31,4 +31,4 @@ returns-clause-upgraded g c =
     let old = g.F.Shelf.meaning c.args.shelf.now in
     let mid = g.F.Shelf.meaning c.read_index_file.new.shelf in
     let keeps = read_keeps c.args.old_name.now (at old) (at mid) c.in_ok-held.held.content (λ next last end follows. c.in_ok-held.ensures.goes_on next (stream None 0 0) 0 last end follows) in
-    upgraded_by c.args.old_name.now c.args.new_name.now old _ c.in_ok-held.held.content mid c.in_ok-held.ensures.told keeps _ c.make_upgrade.ensures
+    upgraded_by c.args.old_name.now c.args.new_name.now old _ c.in_ok-held.held.content mid c.in_ok-held.ensures.told keeps _ c.make_upgrade-outcome.ensures

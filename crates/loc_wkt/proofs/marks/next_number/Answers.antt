@@ -29,3 +29,21 @@ returns-in-Some-clause-shorter c = omega (arith, c.in-Some.ensures.shorter, ap l
 
 pub returns-in-Some-clause-within : goal.returns-in-Some-clause-within
 returns-in-Some-clause-within c = omega (arith, c.in-Some.ensures.within, ap length c.skip_white-text.ensures, length-drop (prefix_len is_white c.args.text.now) c.args.text.now)
+
+pub returns-in_err-symbol-clause-shorter : goal.returns-in_err-symbol-clause-shorter
+returns-in_err-symbol-clause-shorter c = rw c.from_residual.ensures tt
+
+pub returns-in_err-symbol-clause-within : goal.returns-in_err-symbol-clause-within
+returns-in_err-symbol-clause-within c = rw c.from_residual.ensures tt
+
+pub returns-in_err-number-clause-shorter : goal.returns-in_err-number-clause-shorter
+returns-in_err-number-clause-shorter c = rw c.from_residual-in_err-number.ensures tt
+
+pub returns-in_err-number-clause-within : goal.returns-in_err-number-clause-within
+returns-in_err-number-clause-within c = rw c.from_residual-in_err-number.ensures tt
+
+pub returns-clause-shorter : goal.returns-clause-shorter
+returns-clause-shorter c = omega (arith, c.in_ok-symbol.ensures.shorter, ap length c.skip_white-text.ensures, length-drop (prefix_len is_white c.args.text.now) c.args.text.now)
+
+pub returns-clause-within : goal.returns-clause-within
+returns-clause-within c = omega (arith, ap length c.in_ok-number.ensures.same, c.in_ok-symbol.ensures.within, ap length c.skip_white-text.ensures, length-drop (prefix_len is_white c.args.text.now) c.args.text.now)

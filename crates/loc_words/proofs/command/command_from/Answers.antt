@@ -4,30 +4,6 @@ use Rattle.loc_words.specs.Apps.{given_by}
 use Rattle.loc_words.proofs.NamedRows.{made_by_name}
 use Rattle.loc_words.proofs.command.command_from.Goals as goal
 
-pub returns-in-query-clause-value : goal.returns-in-query-clause-value
-returns-in-query-clause-value c = made_by_name c.args.name.now (codes "query") (given_by c.args.given.now) _ (search rules) c.query_from.ensures.value
-
-pub returns-in-features-clause-value : goal.returns-in-features-clause-value
-returns-in-features-clause-value c = made_by_name c.args.name.now (codes "features") (given_by c.args.given.now) _ (search rules) c.features_from.ensures.value
-
-pub returns-in-check-clause-value : goal.returns-in-check-clause-value
-returns-in-check-clause-value c = made_by_name c.args.name.now (codes "check") (given_by c.args.given.now) _ (search rules) c.check_from.ensures.value
-
-pub returns-in-build-clause-value : goal.returns-in-build-clause-value
-returns-in-build-clause-value c = made_by_name c.args.name.now (codes "build") (given_by c.args.given.now) _ (search rules) c.build_from.ensures.value
-
-pub returns-in-ask-clause-value : goal.returns-in-ask-clause-value
-returns-in-ask-clause-value c = made_by_name c.args.name.now (codes "ask") (given_by c.args.given.now) _ (search rules) c.ask_from.ensures.value
-
-pub returns-in-verify-clause-value : goal.returns-in-verify-clause-value
-returns-in-verify-clause-value c = made_by_name c.args.name.now (codes "verify") (given_by c.args.given.now) _ (search rules) c.verify_from.ensures.value
-
-pub returns-in-face-clause-value : goal.returns-in-face-clause-value
-returns-in-face-clause-value c = made_by_name c.args.name.now (codes "face") (given_by c.args.given.now) _ (search rules) c.face_from.ensures.value
-
-pub returns-in-gen-clause-value : goal.returns-in-gen-clause-value
-returns-in-gen-clause-value c = made_by_name c.args.name.now (codes "gen") (given_by c.args.given.now) _ (search rules) c.gen_from.ensures.value
-
 pub returns-in-trial-clause-value : goal.returns-in-trial-clause-value
 returns-in-trial-clause-value c = made_by_name c.args.name.now (codes "trial") (given_by c.args.given.now) _ (search rules) c.trial_from.ensures.value
 

@@ -5,8 +5,8 @@ use Rattle.loc_parts.specs.Parts.{IsPartedBut, IsRestOf}
 use Rattle.loc_parts.specs.declared.parts.Left.{Left}
 use Rattle.loc_parts.specs.declared.parts.Part.{Part}
 use Rattle.loc_parts.proofs.Settled.{at_first, at_last, once_last, rest_numbered, rest_of_all}
-use Rattle.loc_parts.proofs.parting.in_parts.Goals as goal
-use Rattle.loc_parts.proofs.parting.in_parts.Goals.{else-loop-turn-test, then-loop-turn-test+in_ok-later+then-kept-len}
+use Rattle.loc_parts.proofs.parting.in_passes.Goals as goal
+use Rattle.loc_parts.proofs.parting.in_passes.Goals.{else-loop-turn-test, then-loop-turn-test+in_ok-later+then-kept-len}
 
 -- what holds between two passes
 record Stands (layer : List Feature) (ns : List ℕ) (features : List Feature) (parts : List Part) (left : List Left) : Type 0 where
@@ -53,10 +53,12 @@ returns c =
     ] in
     let all = c.in_ok-leave.ensures layer [] c.loop-turn-test.parts.items stands.rest stands.parted in
     record {
-      few_features = omega (arith, ap length c.features.ensures.value, c.features.ensures.within.few_features);
-      few = stands.few;
-      parts = all.parts_are;
-      left = all.left_are;
-      all = at_last layer c.loop-turn-test.parts.items c.leave.new.left.items all;
-      once = once_last layer c.loop-turn-test.parts.items c.leave.new.left.items all;
+      parted = record {
+        few_features = omega (arith, ap length c.features.ensures.value, c.features.ensures.within.few_features);
+        few = stands.few;
+        parts = all.parts_are;
+        left = all.left_are;
+        all = at_last layer c.loop-turn-test.parts.items c.leave.new.left.items all;
+        once = once_last layer c.loop-turn-test.parts.items c.leave.new.left.items all;
+      };
     }

@@ -1,6 +1,6 @@
 use Rattle.std.proofs.Common.{◌≤◌, [], ◌∷◌, length}
 use Rattle.loc_parts.specs.Parts.{IsPartedBut, IsRestOf}
-use Rattle.loc_parts.proofs.parting.in_parts.Given as goal
+use Rattle.loc_parts.proofs.parting.in_passes.Given as goal
 
 -- one part at most for each pass so far, and what is in no part yet
 abbrev pub invariant-loop-turn : goal.invariant-loop-turn

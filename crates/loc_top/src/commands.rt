@@ -1,0 +1,123 @@
+// What each command does.
+
+ghost use Rattle.std.specs.Prelude.{◌≡◌, ◌≤◌};
+ghost use Rattle.loc_words.specs.Words.{AskedBuild, AskedEdges, AskedUpgrade, AskedVerify, HasScale, asked_by, build, edges, upgrade, verify};
+ghost use Rattle.loc_words.specs.declared.command.Command.TheVariants as by;
+ghost use Rattle.loc_course.specs.Following.{Follows};
+ghost use Rattle.loc_course.specs.Moments.{moment};
+ghost use Rattle.loc_course.specs.Sentences.{status_of};
+ghost use Rattle.loc_course.specs.Stops.{end_of};
+ghost use Rattle.loc_indexed.specs.Builds.{Built};
+ghost use Rattle.loc_indexed.specs.Verifies.{Judged};
+ghost use Rattle.loc_upgrade.specs.TellsEdges.{Listed};
+ghost use Rattle.loc_upgrade.specs.Upgrades.{Upgraded};
+ghost use Rattle.loc_top.specs.Run.{course_by, file_of};
+
+use loc_breaches::valid;
+use loc_course::Stop;
+use loc_face::face;
+use loc_features::features;
+use loc_geom::Steps;
+use loc_groups::dissolve;
+use loc_indexed::{ask, build, verify};
+use loc_io::{Shelf, Sink};
+use loc_maps::check;
+use loc_query::query;
+use loc_reach::stab;
+use loc_spec_text::Scale;
+use loc_trial::{generate, trial};
+use loc_upgrade::{edges, upgrade};
+use loc_words::{Command, LayerFile, Query};
+use std::alloc::Global;
+use std::sync::ledger::Ledger;
+
+// Answers a query.
+fn run_query<F: Shelf, O: Sink, L: Ledger>(
+    alloc: Global,
+    asked: Query<'_>,
+    shelf: &mut F,
+    out: &mut O,
+    steps: &mut Steps<L>,
+) -> Result<(), Stop>
+    requires scale { asked.layer.scale ≤ 15 }
+    ensures { Follows (course_by (asked_by (by.Query asked.entry)))
+        (moment (F.meaning shelf.old) (O.meaning out.old) steps.old)
+        (moment (F.meaning shelf.new) (O.meaning out.new) steps.new) (end_of result) }
+{
+    let layer = asked.layer;
+    query(
+        alloc,
+        layer.name,
+        asked.points,
+        layer.form,
+        Scale::new(layer.scale),
+        asked.index,
+        asked.order,
+        asked.faces,
+        shelf,
+        out,
+        steps,
+    )
+}
+
+/// Does what a command says.
+pub(crate) fn run_command<F: Shelf, O: Sink, L: Ledger>(
+    alloc: Global,
+    command: Command<'_>,
+    shelf: &mut F,
+    out: &mut O,
+    steps: &mut Steps<L>,
+) -> Result<(), Stop>
+    requires scale { HasScale command }
+    ensures follows { Follows (course_by (asked_by command.entry))
+        (moment (F.meaning shelf.old) (O.meaning out.old) steps.old)
+        (moment (F.meaning shelf.new) (O.meaning out.new) steps.new) (end_of result) }
+    ensures built { (asked : AskedBuild) → asked_by command.entry ≡ build asked → Built (file_of asked.layer) asked.index (F.meaning shelf.old) (F.meaning shelf.new) (status_of (end_of result)) }
+    ensures judged { (asked : AskedVerify) → asked_by command.entry ≡ verify asked → Judged ((F.meaning shelf.old).told asked.index) (status_of (end_of result)) }
+    ensures upgraded { (asked : AskedUpgrade) → asked_by command.entry ≡ upgrade asked → Upgraded asked.old asked.new (F.meaning shelf.old) (F.meaning shelf.new) (status_of (end_of result)) }
+    ensures listed { (asked : AskedEdges) → asked_by command.entry ≡ edges asked → Listed ((F.meaning shelf.old).told asked.index) (status_of (end_of result)) }
+{
+    match command {
+        Command::Query(asked) => run_query(alloc, asked, shelf, out, steps),
+        Command::Features(asked) => {
+            let LayerFile { name, scale, form } = asked.layer;
+            let scale = Scale::new(scale);
+            features(alloc, name, asked.points, form, scale, shelf, out, steps)
+        }
+        Command::Check(layer) => {
+            let LayerFile { name, scale, form } = layer;
+            check(alloc, name, form, Scale::new(scale), shelf, out)
+        }
+        Command::Build(asked) => {
+            let LayerFile { name, scale, form } = asked.layer;
+            build(alloc, name, asked.index, form, Scale::new(scale), shelf)
+        }
+        Command::Ask(asked) => ask(alloc, asked.index, asked.points, shelf, out, steps),
+        Command::Verify(asked) => verify(alloc, asked.index, shelf, out),
+        Command::Face(asked) => {
+            let LayerFile { name, scale, form } = asked.layer;
+            let scale = Scale::new(scale);
+            face(alloc, name, asked.point, form, scale, shelf, out, steps)
+        }
+        Command::Gen(asked) => generate(asked.kind, asked.n, asked.shift, out),
+        Command::Trial(asked) => {
+            let (kind, n, shift) = (asked.kind, asked.n, asked.shift);
+            trial(alloc, kind, n, shift, asked.index, out, steps)
+        }
+        Command::Edges(asked) => edges(alloc, asked.index, shelf, out),
+        Command::Upgrade(asked) => upgrade(alloc, asked.old, asked.new, shelf),
+        Command::Stab(asked) => {
+            let LayerFile { name, scale, form } = asked.layer;
+            let scale = Scale::new(scale);
+            stab(alloc, name, asked.spans, form, scale, shelf, out, steps)
+        }
+        Command::Valid(layer) => {
+            let LayerFile { name, scale, form } = layer;
+            valid(alloc, name, form, Scale::new(scale), shelf, out)
+        }
+        Command::Dissolve(layer) => {
+            let LayerFile { name, scale, form } = layer;
+            dissolve(alloc, name, form, Scale::new(scale), shelf, out)
+        }
+    }
+}
