@@ -1,6 +1,17 @@
-//! What no clause says of batches: that answers come where there is memory, however the points are cut, and that a batch that has stopped
-//! stays so. Nothing stands on it.
+//! What no clause says and no command shows: that answers come from the lists that a sweep keeps, the rows of nodes by hand, that a counter of
+//! steps takes no room, what tokens and printed values look like, and that real files and sinks do as is told. Tests of the crates below, and
+//! nothing else; nothing stands on it.
 #![tactic(auto)]
 
 #[cfg(test)]
-mod batches;
+mod counters;
+#[cfg(test)]
+mod outside;
+#[cfg(test)]
+mod places;
+#[cfg(test)]
+mod samples;
+#[cfg(test)]
+mod texts;
+#[cfg(test)]
+mod versions;

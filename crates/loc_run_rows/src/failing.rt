@@ -1,8 +1,8 @@
 //! Each call of the outside failing in turn: the status and the line are those of the cause, what was written is a front of what the whole
-//! run writes, and behind the failure no further call is made.
+//! run writes, and behind the failure no further call is made. And calls that take few bytes, where all is left that the whole run leaves.
 
 use crate::escapes::escaped;
-use crate::runs::{Faults, Left, words_of};
+use crate::runs::{Faults, Left};
 use crate::stage::Stage;
 use crate::stop::Stop;
 use loc_io::MemShelf;
@@ -44,20 +44,24 @@ fn front_of_made(whole: Option<&[u8]>, made: Option<&[u8]>) -> &'static str {
 // What a fault left beside what a run without one left.
 fn show_outcome(
     page: &mut String,
-    alloc: Global,
-    words: &[String],
+    stage: &Stage,
     whole: &Outcome,
     outcome: &Outcome,
     faults: Faults,
 ) -> Result<(), Stop> {
     let left = &outcome.0;
-    let Faults { shelf, out, notes } = faults;
+    let Faults {
+        shelf,
+        out,
+        notes,
+        ..
+    } = faults;
     let status = left.status;
     let calls = left.shelf.calls;
     let writes = left.out.watch.calls;
     let written = front_of(whole.0.out.bytes(), left.out.bytes());
-    let made = front_of_made(made(words, whole), made(words, outcome));
-    let line = escaped(alloc, left.notes.bytes())?;
+    let made = front_of_made(made(stage.words(), whole), made(stage.words(), outcome));
+    let line = escaped(stage.alloc, left.notes.bytes())?;
     writeln!(
         page,
         "fail {shelf} {out} {notes}: status {status}, {calls} calls of the shelf, {writes} of out; out has {written}, made is {made}, notes {line}"
@@ -69,12 +73,11 @@ fn show_outcome(
 fn show_fault(
     page: &mut String,
     stage: &Stage,
-    words: &[String],
     whole: &Outcome,
     faults: Faults,
 ) -> Result<(), Stop> {
-    let outcome = stage.failing(words, faults)?;
-    let shown = show_outcome(page, stage.alloc, words, whole, &outcome, faults);
+    let outcome = stage.failing(faults)?;
+    let shown = show_outcome(page, stage, whole, &outcome, faults);
     drop(outcome);
     shown
 }
@@ -120,45 +123,83 @@ impl Outside {
 fn show_each(
     page: &mut String,
     stage: &Stage,
-    words: &[String],
     whole: &Outcome,
     outside: Outside,
 ) -> Result<(), Stop> {
     for passed in 0..=outside.calls(&whole.0) {
         let fault = outside.fault(passed.saturating_add(1));
-        show_fault(page, stage, words, whole, fault)?;
+        show_fault(page, stage, whole, fault)?;
     }
     Ok(())
 }
 
 // What each fault leaves beside a run without one.
-fn show_all(
-    page: &mut String,
-    stage: &Stage,
-    words: &[String],
-    whole: &Outcome,
-) -> Result<(), Stop> {
-    show_fault(page, stage, words, whole, Faults::NONE)?;
+fn show_all(page: &mut String, stage: &Stage, whole: &Outcome) -> Result<(), Stop> {
+    show_fault(page, stage, whole, Faults::NONE)?;
     for outside in [Outside::Shelf, Outside::Out, Outside::Notes] {
-        show_each(page, stage, words, whole, outside)?;
+        show_each(page, stage, whole, outside)?;
     }
     for (shelf, out) in [(1, 0), (0, 1)] {
         let faults = Faults {
             shelf,
             out,
             notes: 1,
+            most: 0,
         };
-        show_fault(page, stage, words, whole, faults)?;
+        show_fault(page, stage, whole, faults)?;
     }
     Ok(())
 }
 
 /// `failing WORDS`: what is left where each call of the shelf, of out and of notes fails in turn, and where the first of notes fails beside
 /// another.
-pub(crate) fn failing(page: &mut String, stage: &Stage, line: &str) -> Result<(), Stop> {
-    let words = words_of(stage.alloc, line)?;
-    let whole = stage.failing(&words, Faults::NONE)?;
-    let shown = show_all(page, stage, &words, &whole);
+pub(crate) fn failing(page: &mut String, stage: &mut Stage, line: &str) -> Result<(), Stop> {
+    stage.take_words(line)?;
+    let whole = stage.failing(Faults::NONE)?;
+    let shown = show_all(page, stage, &whole);
+    drop(whole);
+    shown
+}
+
+// Whether a run leaves the same as the whole one, and makes the same file.
+fn is_whole(words: &[String], whole: &Outcome, outcome: &Outcome) -> bool {
+    outcome.0.is_same(&whole.0) && made(words, outcome) == made(words, whole)
+}
+
+// Runs the words where a call takes so many bytes at most, and prints whether all is left that the whole run leaves.
+fn show_pieces(page: &mut String, stage: &Stage, whole: &Outcome, most: usize) -> Result<(), Stop> {
+    let faults = Faults {
+        most,
+        ..Faults::NONE
+    };
+    let outcome = stage.failing(faults)?;
+    let calls = outcome.0.shelf.calls;
+    let writes = outcome.0.out.watch.calls;
+    let is_same = is_whole(stage.words(), whole, &outcome);
+    drop(outcome);
+    writeln!(
+        page,
+        "at most {most} bytes: {calls} calls of the shelf, {writes} of out; the same: {is_same}"
+    )?;
+    Ok(())
+}
+
+// How many bytes a call takes at most.
+static PIECES: [usize; 7] = [0, 1, 2, 3, 5, 7, 100];
+
+// What is left by calls that take few bytes, beside the whole run.
+fn show_all_pieces(page: &mut String, stage: &Stage, whole: &Outcome) -> Result<(), Stop> {
+    for most in &PIECES {
+        show_pieces(page, stage, whole, *most)?;
+    }
+    Ok(())
+}
+
+/// `pieces WORDS`: whether the same is left where a call takes few bytes.
+pub(crate) fn pieces(page: &mut String, stage: &mut Stage, line: &str) -> Result<(), Stop> {
+    stage.take_words(line)?;
+    let whole = stage.failing(Faults::NONE)?;
+    let shown = show_all_pieces(page, stage, &whole);
     drop(whole);
     shown
 }

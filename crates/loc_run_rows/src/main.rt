@@ -17,7 +17,7 @@ mod stop;
 mod trips;
 mod watched;
 
-use crate::failing::failing;
+use crate::failing::{failing, pieces};
 use crate::hostile::hostile;
 use crate::making::{cut, make};
 use crate::playing::{brief, copies, equal, run, same};
@@ -28,7 +28,7 @@ use std::alloc::Global;
 use std::{fs, io, mem};
 
 // The files of rows, in the order in which they are played.
-const FILES: [&str; 14] = [
+const FILES: [&str; 15] = [
     "layers.rows",
     "words.rows",
     "faces.rows",
@@ -41,6 +41,7 @@ const FILES: [&str; 14] = [
     "orders.rows",
     "indexes.rows",
     "failing.rows",
+    "pieces.rows",
     "limits.rows",
     "generated.rows",
 ];
@@ -62,6 +63,7 @@ fn play(page: &mut String, stage: &mut Stage, verb: &str, rest: &str) -> Result<
         }
         "shuffles" => shuffles(page, stage, rest),
         "failing" => failing(page, stage, rest),
+        "pieces" => pieces(page, stage, rest),
         "hostile" => hostile(stage, rest),
         _ => make(stage, verb, rest),
     }

@@ -3,7 +3,7 @@
 use crate::escapes::escaped;
 use crate::hostile::number_at;
 use crate::making::cut;
-use crate::runs::{Left, words_of};
+use crate::runs::Left;
 use crate::stage::Stage;
 use crate::stop::Stop;
 use std::alloc::{AllocError, Global};
@@ -21,50 +21,60 @@ fn show(page: &mut String, alloc: Global, mark: &str, bytes: &[u8]) -> Result<()
     Ok(())
 }
 
-// Prints what a run left.
-fn show_left(page: &mut String, alloc: Global, left: &Left) -> Result<(), AllocError> {
-    show(page, alloc, "|", left.out.bytes())?;
+// Prints what the last run left on notes, and its status.
+fn show_end(page: &mut String, alloc: Global, left: &Left) -> Result<(), AllocError> {
     show(page, alloc, "!", left.notes.bytes())?;
     let status = left.status;
-    writeln!(page, "status {status}")?;
+    writeln!(page, "status {status}")
+}
+
+// Prints what the last run left.
+fn show_left(page: &mut String, stage: &Stage) -> Result<(), Stop> {
+    let left = stage.left()?;
+    show(page, stage.alloc, "|", left.out.bytes())?;
+    show_end(page, stage.alloc, left)?;
     Ok(())
 }
 
-// Prints the name of a file that a run of these words has made, and what an index says that it has.
-fn show_made(page: &mut String, stage: &mut Stage, words: &[String]) -> Result<(), Stop> {
-    if let Some(name) = stage.note_made(words)? {
-        let index = stage.bytes(name)?;
-        let features = number_at(index, 16)?;
-        let corners = number_at(index, 20)?;
-        let edges = number_at(index, 24)?;
-        let nodes = number_at(index, 36)?;
-        writeln!(
-            page,
-            "made {name}: {features} features, {corners} corners, {edges} edges, {nodes} nodes"
-        )?;
+// Prints the name of a file, and what an index says that it has.
+fn show_index(page: &mut String, name: &str, index: &[u8]) -> Result<(), Stop> {
+    let features = number_at(index, 16)?;
+    let corners = number_at(index, 20)?;
+    let edges = number_at(index, 24)?;
+    let nodes = number_at(index, 36)?;
+    writeln!(
+        page,
+        "made {name}: {features} features, {corners} corners, {edges} edges, {nodes} nodes"
+    )?;
+    Ok(())
+}
+
+// Prints the file that the last run has made, if there is one.
+fn show_made(page: &mut String, stage: &mut Stage) -> Result<(), Stop> {
+    if stage.note_made()? {
+        let name = stage.last_name()?;
+        show_index(page, name, stage.bytes(name)?)?;
     }
     Ok(())
 }
 
 /// `run WORDS`: what they leave.
 pub(crate) fn run(page: &mut String, stage: &mut Stage, line: &str) -> Result<(), Stop> {
-    let words = words_of(stage.alloc, line)?;
-    let left = stage.outcome(&words)?;
-    show_left(page, stage.alloc, &left)?;
-    stage.keep(left);
-    show_made(page, stage, &words)
+    stage.take_words(line)?;
+    stage.play()?;
+    show_left(page, stage)?;
+    show_made(page, stage)
 }
 
 /// `same WORDS`: whether they leave the same as the last `run`, and else what they leave.
 pub(crate) fn same(page: &mut String, stage: &mut Stage, line: &str) -> Result<(), Stop> {
-    let words = words_of(stage.alloc, line)?;
-    let left = stage.outcome(&words)?;
-    if left.is_same(stage.left()?) {
+    stage.take_words(line)?;
+    if stage.agrees()? {
         writeln!(page, "same")?;
     } else {
-        show_left(page, stage.alloc, &left)?;
+        show_left(page, stage)?;
     }
-    show_made(page, stage, &words)
+    show_made(page, stage)
 }
 
 /// `equal NAME OTHER`: whether two files have the same bytes, and how many the first has.
@@ -98,14 +108,12 @@ fn show_counts(page: &mut String, out: &[u8]) -> Result<(), AllocError> {
 
 /// `brief WORDS`: what they leave, of out no more than how many answers of each kind there are, and how many bytes.
 pub(crate) fn brief(page: &mut String, stage: &mut Stage, line: &str) -> Result<(), Stop> {
-    let words = words_of(stage.alloc, line)?;
-    let left = stage.outcome(&words)?;
+    stage.take_words(line)?;
+    stage.play()?;
+    let left = stage.left()?;
     show_counts(page, left.out.bytes())?;
-    show(page, stage.alloc, "!", left.notes.bytes())?;
-    let status = left.status;
-    writeln!(page, "status {status}")?;
-    stage.keep(left);
-    show_made(page, stage, &words)
+    show_end(page, stage.alloc, left)?;
+    show_made(page, stage)
 }
 
 /// `copies NAME COUNT`: whether out of the last run is so many times the bytes of a file.

@@ -11,12 +11,13 @@ use std::alloc::{AllocError, Global};
 use std::marker::Brand;
 use std::sync::ledger::{Blank, Ledger};
 
-/// Which call of the shelf, of out and of notes fails, by its number; 0 is none.
+/// Which call of the shelf, of out and of notes fails, by its number, 0 for none; and how many bytes a call takes at most, 0 for no bound.
 #[derive(Clone, Copy)]
 pub(crate) struct Faults {
     pub(crate) shelf: u64,
     pub(crate) out: u64,
     pub(crate) notes: u64,
+    pub(crate) most: usize,
 }
 
 impl Faults {
@@ -24,6 +25,7 @@ impl Faults {
         shelf: 0,
         out: 0,
         notes: 0,
+        most: 0,
     };
 }
 
@@ -88,15 +90,15 @@ fn status<L: Ledger>(
     run(alloc, words, shelf, out, notes, &mut steps)
 }
 
-// A sink of which one write fails.
-fn sink(alloc: Global, call: u64) -> Result<WatchedSink, AllocError> {
-    Ok(WatchedSink::new(MemSink::new(alloc, vec![in alloc; call]?)))
+// A sink of which one write fails, and of which each takes so many bytes at most.
+fn sink(alloc: Global, call: u64, most: usize) -> Result<WatchedSink, AllocError> {
+    Ok(WatchedSink::new(MemSink::new(alloc, vec![in alloc; call]?), most))
 }
 
-// The sinks of out and of notes, of which one write fails.
+// The sinks of out and of notes, with their faults.
 fn sinks(alloc: Global, faults: Faults) -> Result<(WatchedSink, WatchedSink), AllocError> {
-    let out = sink(alloc, faults.out)?;
-    match sink(alloc, faults.notes) {
+    let out = sink(alloc, faults.out, faults.most)?;
+    match sink(alloc, faults.notes, faults.most) {
         Ok(notes) => Ok((out, notes)),
         Err(fault) => {
             drop(out);
@@ -119,7 +121,7 @@ pub(crate) fn run_words(
             return Err(fault);
         }
     };
-    let mut shelf = WatchedShelf::new(shelf);
+    let mut shelf = WatchedShelf::new(shelf, faults.most);
     let blank = Blank::new(1);
     let status = status::<Brand>(alloc, words, &mut shelf, &mut out, &mut notes, blank);
     let left = Left {

@@ -2,7 +2,6 @@
 
 use crate::making::number;
 use crate::playing::{run, same};
-use crate::runs::words_of;
 use crate::stage::Stage;
 use crate::stop::Stop;
 use std::alloc::{AllocError, Global};
@@ -81,12 +80,6 @@ fn order_text(alloc: Global, edges: u32, number: u32) -> Result<String, AllocErr
     Ok(text)
 }
 
-// Whether these words leave the same as the last shown ones.
-fn agree(stage: &mut Stage, words: &[String]) -> Result<bool, Stop> {
-    let left = stage.outcome(words)?;
-    Ok(left.is_same(stage.left()?))
-}
-
 // The words of a query by trapezoids in an order.
 const BY_ORDER: &str = "query layer points --scale 0 --index trap --order order";
 
@@ -94,8 +87,8 @@ const BY_ORDER: &str = "query layer points --scale 0 --index trap --order order"
 fn order_agrees(stage: &mut Stage, edges: u32, number: u32) -> Result<bool, Stop> {
     let order = order_text(stage.alloc, edges, number)?;
     stage.put("order", order.as_bytes())?;
-    let words = words_of(stage.alloc, BY_ORDER)?;
-    agree(stage, &words)
+    stage.take_words(BY_ORDER)?;
+    stage.agrees()
 }
 
 // The words of a query by trapezoids in an order that is shuffled.
@@ -104,8 +97,8 @@ const BY_SHUFFLE: &str = "query layer points --scale 0 --index trap --shuffle";
 // Whether the shuffle with a number gives the same answers as the last run.
 fn shuffle_agrees(stage: &mut Stage, number: u64) -> Result<bool, Stop> {
     let line = format!(in stage.alloc; "{BY_SHUFFLE} {number}")?;
-    let words = words_of(stage.alloc, line.as_str())?;
-    agree(stage, &words)
+    stage.take_words(line.as_str())?;
+    stage.agrees()
 }
 
 /// `orders EDGES COUNT`: how many of the orders of so many edges give the same answers as the last run.

@@ -1,6 +1,6 @@
-//! A shelf and a sink in memory that count their calls, and keep the status that their first failure asks for.
+//! A shelf and a sink in memory that count their calls, keep the status that their first failure asks for, and can take few bytes at a call.
 
-ghost use Rattle.std.specs.Prelude.{◌≡◌, ◌<◌, true, length};
+ghost use Rattle.std.specs.Prelude.{◌≡◌, ◌<◌, ◌≤◌, true, length};
 
 use loc_io::{Failed, MemShelf, MemSink, Shelf, Sink};
 
@@ -28,18 +28,33 @@ impl Watch {
     }
 }
 
-/// A shelf in memory that is watched.
+// How many of some bytes a call takes that takes so many at most; 0 is no bound.
+fn front(most: usize, length: usize) -> usize
+    requires { 0 < length }
+    ensures some { 0 < result }
+    ensures within { result ≤ length }
+{
+    if most == 0 || length < most {
+        length
+    } else {
+        most
+    }
+}
+
+/// A shelf in memory that is watched, of which a call takes so many bytes at most; 0 is no bound.
 #[derive(Drop)]
 pub(crate) struct WatchedShelf {
     pub(crate) files: MemShelf,
     pub(crate) watch: Watch,
+    most: usize,
 }
 
 impl WatchedShelf {
-    pub(crate) fn new(files: MemShelf) -> WatchedShelf {
+    pub(crate) fn new(files: MemShelf, most: usize) -> WatchedShelf {
         WatchedShelf {
             files,
             watch: Watch::new(),
+            most,
         }
     }
 
@@ -61,7 +76,8 @@ impl Shelf for WatchedShelf {
     }
 
     fn read(&mut self, into: &mut [u8]) -> Result<usize, Failed> {
-        let result = self.files.read(into);
+        let front = front(self.most, into.len());
+        let result = self.files.read(&mut into[..front]);
         self.watch.note(result.is_err(), 3);
         result
     }
@@ -73,7 +89,8 @@ impl Shelf for WatchedShelf {
     }
 
     fn write(&mut self, piece: &[u8]) -> Result<usize, Failed> {
-        let result = self.files.write(piece);
+        let front = front(self.most, piece.len());
+        let result = self.files.write(&piece[..front]);
         self.watch.note(result.is_err(), 4);
         result
     }
@@ -85,18 +102,20 @@ impl Shelf for WatchedShelf {
     }
 }
 
-/// A sink in memory that is watched.
+/// A sink in memory that is watched, of which a write takes so many bytes at most; 0 is no bound.
 #[derive(Drop)]
 pub(crate) struct WatchedSink {
     pub(crate) sink: MemSink,
     pub(crate) watch: Watch,
+    most: usize,
 }
 
 impl WatchedSink {
-    pub(crate) fn new(sink: MemSink) -> WatchedSink {
+    pub(crate) fn new(sink: MemSink, most: usize) -> WatchedSink {
         WatchedSink {
             sink,
             watch: Watch::new(),
+            most,
         }
     }
 
@@ -112,7 +131,8 @@ impl Sink for WatchedSink {
     ghost meaning = { λ s. mem_stream s.sink };
 
     fn write(&mut self, piece: &[u8]) -> Result<usize, Failed> {
-        let result = self.sink.write(piece);
+        let front = front(self.most, piece.len());
+        let result = self.sink.write(&piece[..front]);
         self.watch.note(result.is_err(), 4);
         result
     }

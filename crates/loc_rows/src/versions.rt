@@ -1,0 +1,103 @@
+//! The rows of the nodes of two versions, by hand.
+
+ghost use Rattle.std.specs.Prelude.{◌≡◌, ◌<◌, ◌+◌, ◌^◌, [], ◌∷◌, ◌++◌, length, OnOk};
+ghost use Rattle.loc_rb.specs.Places.{Found};
+ghost use Rattle.loc_persist.specs.Meaning.{present_nodes};
+ghost use Rattle.loc_rows.specs.Small.{IsSmall};
+
+use loc_persist::Versions;
+use loc_pool::{Link, Turn};
+use loc_rb::Path;
+use loc_spec_index::NodeRow;
+use std::alloc::{AllocError, Global};
+
+/// Makes the path one entry longer.
+fn push(path: &mut Path, at: Link, turn: Turn)
+    requires { length path.old.items < 44 }
+    ensures { path.new.items ≡ path.old.items ++ (at, turn) ∷ [] }
+{
+    path.push((at, turn));
+}
+
+/// The way down to an item in the present tree: its node, or the missing child where it belongs.
+fn search(versions: &Versions, item: u32) -> (Path, Option<Link>)
+    ensures { Found (present_nodes versions.now) result.0.items result.1 versions.now.list }
+{
+    // tells that the present tree is red-black
+    let _sealed = versions.sealed();
+    let mut path = Path::new();
+    let mut next = versions.newest_root();
+    'down: while let Some(at) = next {
+        let here = versions.item(at);
+        if item == here {
+            return (path, Some(at));
+        }
+        let turn = side(item, here);
+        next = versions.newest_child(at, turn);
+        push(&mut path, at, turn);
+    }
+    (path, None)
+}
+
+/// The side on which an item stands.
+fn side(item: u32, here: u32) -> Turn {
+    if item < here { Turn::Left } else { Turn::Right }
+}
+
+/// Puts the item in where it is missing, and takes it out where it is there.
+fn toggle(versions: &mut Versions, item: u32, steps: u32) -> Result<(), AllocError>
+    requires few { steps < 2 ^ 20 }
+    requires small { IsSmall versions.old steps }
+    ensures { OnOk result (IsSmall versions.new (steps + 1) × (versions.new.roots ≡ versions.old.roots)) }
+{
+    let (path, found) = search(versions, item);
+    match found {
+        None => {
+            versions.insert_at(path, item)?;
+            Ok(())
+        }
+        Some(at) => {
+            versions.remove_at(path, at)?;
+            Ok(())
+        }
+    }
+}
+
+/// Whether two items, with a seal between, lie in two nodes, of which the first has the second as its extra child.
+fn two_nodes(alloc: Global) -> Result<bool, AllocError> {
+    let mut versions = Versions::new(alloc);
+    toggle(&mut versions, 5, 0)?;
+    versions.seal()?;
+    toggle(&mut versions, 7, 1)?;
+    versions.seal()?;
+    if versions.nodes() != 2 {
+        return Ok(false);
+    }
+    let upper = NodeRow {
+        item: 5,
+        left: 0,
+        right: 0,
+        side: 2,
+        stamp: 1,
+        extra: 2,
+    };
+    let lower = NodeRow {
+        item: 7,
+        left: 0,
+        right: 0,
+        side: 0,
+        stamp: 0,
+        extra: 0,
+    };
+    Ok(
+        versions.row(1) == upper
+            && versions.row(2) == lower
+            && versions.root_number(0) == 1
+            && versions.root_number(1) == 1,
+    )
+}
+
+#[test]
+fn rows_by_number(rt: HostRuntime) {
+    assert!(rt; two_nodes(rt.alloc()) == Ok(true));
+}
