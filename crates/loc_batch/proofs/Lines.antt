@@ -1,8 +1,9 @@
 -- Lines that are answered one after the other.
-use Rattle.std.proofs.Common.{◌≡◌, ℕ, ◌+◌, ◌-◌, ◌<◌, ◌≤◌, List, [], ◌∷◌, ◌++◌, length, drop, get_or, map, Option, Some, None, Result, Ok, Err, refl, sym, ◌∙◌, ap, subst, arith, append_assoc, append-nil, inl, inr}
-use Rattle.std.specs.Prelude.{option_map}
+use Rattle.std.proofs.Common.{◌≡◌, ℕ, ◌+◌, ◌<◌, ◌≤◌, List, [], ◌∷◌, ◌++◌, length, drop, get_or, map, Option, Some, None, Result, Ok, Err, refl, sym, ◌∙◌, ap, subst, arith, append_assoc, append-nil, inl, inr, true, false}
+use Rattle.std.specs.Prelude.{option_map, ◌==◌, OnOk}
 use Rattle.std.specs.Io.KnownBytes.{Appends}
 use Rattle.std.proofs.lemmas.List.{at_drop_more, drop_all}
+use Rattle.std.proofs.lemmas.Bool.{eqb-true}
 use Rattle.std.proofs.lemmas.Grind.{flat_map-append}
 use Rattle.loc_spec_plane.specs.Points.{Point}
 use Rattle.loc_io.specs.Causes.{Rose}
@@ -138,6 +139,15 @@ pub last_one : (line : List ℕ) → 0 < length line → last_line line ≡ line
 last_one [] some = absurd (omega arith)
 last_one (b ∷ line) some = refl
 
+-- a text with bytes is a last line, and one without is none
+pub last_some : (line : List ℕ) → (length line == 0) ≡ false → last_line line ≡ line ∷ []
+last_some [] some = absurd (cc some)
+last_some (b ∷ line) some = refl
+
+pub last_none : (line : List ℕ) → (length line == 0) ≡ true → last_line line ≡ []
+last_none [] none = refl
+last_none (b ∷ line) none = absurd (omega (arith, eqb-true (length (b ∷ line)) 0 none))
+
 -- a page that was passed by and sent
 sent_whole : (text : List ℕ) (o m n : Stream) (h i : List ℕ) → h ≡ [] → Passes text o m h i → Appends m.written n.written i → Appends o.written n.written text
 sent_whole text o m n h i none p sent =
@@ -162,6 +172,16 @@ sent_lines lines answer t t1 o m n h i (Err f.PointsLong) result none q s = absu
 sent_lines lines answer t t1 o m n h i (Err f.WriteFault) result none q s = subst (λ r. WritesLines lines answer t t1 o n r) (sym s.0)
     (subst (λ (p : Stream). AnswersCut lines answer o p) (sym s.1)
     (record { wrote = subst (λ l. WroteFront o.written m.written (l ++ told_text (answered answer lines).answers)) none q.0; rose = q.1.rose }))
+
+-- what holds where all was answered holds where that was sent
+pub sent_ok : (h : List ℕ) (o o' : Stream) (given result : Result (Unit {0}) FeedFault) (P : Type 0) → SendsPage h o o' given result → OnOk given P → OnOk result P
+sent_ok h o o' (Ok y) result P (inl s) p = subst (λ (r : Result (Unit {0}) FeedFault). OnOk r P) (sym s.0) p
+sent_ok h o o' (Ok y) result P (inr s) p = subst (λ (r : Result (Unit {0}) FeedFault). OnOk r P) (sym s.0) tt
+sent_ok h o o' (Err (f.Deep version)) result P (inl s) p = subst (λ (r : Result (Unit {0}) FeedFault). OnOk r P) (sym s.0) tt
+sent_ok h o o' (Err (f.Deep version)) result P (inr s) p = subst (λ (r : Result (Unit {0}) FeedFault). OnOk r P) (sym s.0) tt
+sent_ok h o o' (Err f.PointsLong) result P (inl s) p = subst (λ (r : Result (Unit {0}) FeedFault). OnOk r P) (sym s.0) tt
+sent_ok h o o' (Err f.PointsLong) result P (inr s) p = subst (λ (r : Result (Unit {0}) FeedFault). OnOk r P) (sym s.0) tt
+sent_ok h o o' (Err f.WriteFault) result P s p = subst (λ (r : Result (Unit {0}) FeedFault). OnOk r P) (sym s.0) tt
 
 -- no write of them came late
 pub sent_in_time : (a : Answered Told Deep) (t t1 : Tally) (o m n : Stream) (h i : List ℕ) (given result : Result (Unit {0}) FeedFault) → PutsAll a t t1 o m h i given → SendsPage i m n given result → InTime m n → InTime o n

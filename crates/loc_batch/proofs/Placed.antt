@@ -1,6 +1,6 @@
 -- What is found for the queries of a block, in any order, is what is found for each of its points.
 use Rattle.std.proofs.Common.{◌≡◌, ◌≢◌, ℕ, zero, suc, ◌<◌, ◌≤◌, ◌⊎◌, inl, inr, List, [], ◌∷◌, ◌++◌, length, get_or, map, Option, Some, None, refl, sym, ◌∙◌, ap, subst, arith}
-use Rattle.std.specs.Prelude.{set, option_map, slice_index_or, ◌==◌}
+use Rattle.std.specs.Prelude.{set, option_map, slice_index_or, ◌==◌, if◌then◌else◌, is_ok, IsOk, Result, Ok, Err}
 use Rattle.std.proofs.Common.{take, true, false, ap₂, append_assoc, cond, count_by, length-append}
 use Rattle.std.specs.Option.{is_some}
 use Rattle.std.proofs.lemmas.List.Sums.{sum_by_push}
@@ -91,6 +91,16 @@ placed_is finds points b h = placed_target finds (map (option_map finds) points)
 pub written_back : {X : Type 0} (n : ℕ) (xs ys : List X) → n ≡ length xs → take n (xs ++ ys) ≡ xs
 written_back n xs ys is = take-append-le n xs ys (omega (arith, is)) ∙ take_all n xs (omega (arith, is))
 
+-- what was pushed stands behind
+pub pushed : {X E : Type 0} (r : Result (Unit {0}) E) (old new : List X) (x : X) → new ≡ (if is_ok r then old ++ x ∷ [] else old) → IsOk r → new ≡ old ++ x ∷ []
+pushed (Ok u) old new x is ok = is
+pushed (Err e) old new x is ok = absurd (cc ok)
+
+-- a line that reads as a point was noted
+pub line_noted : {F : Type 0} (b now : BlockState F) (queries : List Query) (found : List (Option F)) (p : Point) (point : Option Point) (line : ℕ) → b ≡ now → point ≡ Some p → line ≡ length b.found
+    → found ≡ b.found ++ None ∷ [] → queries ≡ b.queries ++ record { point = p; line = line } ∷ [] → record { queries = queries; found = found } ≡ with_line now point
+line_noted b now queries found p point line is some last noted asked = rw (sym is, some, noted, asked, last) refl
+
 -- a block without lines holds none
 pub holds_none : {F : Type 0} → Holds {F = F} [] no_lines
 holds_none = record { as_many = refl; empty = λ k d less. absurd (omega arith); right = λ k d less. absurd (omega arith); asked = λ i p is. absurd (cc is); few = omega arith }
@@ -166,3 +176,14 @@ reads_more scale line text line' rest front more b r cuts whole less =
 -- at the start none is read
 pub reads_none : {F : Type 0} (scale : ℕ) (line text : List ℕ) (b : BlockState F) → b ≡ no_lines → IsUnbroken line → ReadsLines scale line text line text b
 reads_none scale line text b is whole = record { lines = []; holds = subst (λ c. Holds [] c) (sym is) holds_none; split = refl; unbroken = whole; shorter = omega arith; none = λ e. (refl, refl) }
+
+-- no line ended in the text
+pub none_read : {F : Type 0} (scale : ℕ) (line text line' rest : List ℕ) (b : BlockState F) → ReadsLines scale line text line' rest b → length b.found ≡ 0 → IsUnbroken rest ⊎ (0 < length b.found) → IsUnbroken text × (line' ≡ line)
+none_read scale line text line' rest b r none ended =
+    let few : length r.lines ≡ 0 = omega (arith, none, r.holds.as_many, length-map r.lines (point_of scale)) in
+    let same = r.none (empty r.lines few) in
+    (elim ended [ inl u ↦ subst IsUnbroken same.1 u | inr less ↦ absurd (omega (arith, less, none)) ], same.0)
+  where
+    empty : (ls : List (List ℕ)) → length ls ≡ 0 → ls ≡ []
+    empty [] is = refl
+    empty (l ∷ ls) is = absurd (omega (arith, is))

@@ -252,7 +252,7 @@ impl<F: Copy + Drop> Desk<F> {
         ensures line { self.new.line ≡ self.old.line }
         ensures tally { self.new.tally ≡ self.old.tally }
     {
-        if answered == Err(FeedFault::WriteFault) {
+        if matches!(answered, Err(FeedFault::WriteFault)) {
             return answered;
         }
         self.page.flush(sink)?;

@@ -1,13 +1,15 @@
 -- What is left when the lists above all edges are known.
-use Rattle.std.proofs.Common.{◌≡◌, ◌≢◌, ℕ, ◌<◌, Bool, true, List, [], ◌∷◌, length, get_or, take, map, refl, sym, ◌∙◌, ap, subst, inl, inr, arith, Option, Some, None}
+use Rattle.std.proofs.Common.{◌≡◌, ◌≢◌, ℕ, ◌+◌, ◌<◌, ◌≤◌, ◌==◌, Bool, true, false, List, [], ◌∷◌, length, get_or, set, take, map, refl, sym, ◌∙◌, ap, subst, inl, inr, arith, get_or-set_same, get_or-set_other, length-set, Option, Some, None}
 use Rattle.std.specs.Prelude.{nat_lt, sum_by}
 use Rattle.std.specs.List.{list_all, list_any}
-use Rattle.std.proofs.lemmas.Bool.{and_parts, or_cases, cases_lt, true≢false, ltb-true}
-use Rattle.std.proofs.lemmas.List.{get_or_past}
+use Rattle.std.proofs.lemmas.Bool.{and_parts, or_cases, cases_eq, cases_lt, true≢false, eq-eqb, eqb-true, ltb-true}
+use Rattle.std.proofs.lemmas.List.{get_or-map, get_or_past, length-map, take_all, take_more}
+use Rattle.std.proofs.lemmas.List.Folds.{list_any-append, list_any_at}
 use Rattle.loc_spec_plane.specs.Lists.{is_in}
 use Rattle.loc_spec_plane.specs.Tables.{Table, edge_numbers}
 use Rattle.loc_spec_plane.specs.Covers.{cover_above, cover_lists}
 use Rattle.loc_laws_order.proofs.TableOrder.{numbers_within}
+use Rattle.loc_laws_order.proofs.Unique.{all-at}
 use Rattle.loc_laws_rays.proofs.Covering.{any-found}
 use Rattle.loc_laws_order.proofs.Booleans.{same-from_both}
 use Rattle.loc_edges.proofs.SortedSet.{same-sorted_set}
@@ -73,3 +75,42 @@ known_fits t rows known numbered e n is = elim (cases_lt e (length t.ends)) [
 pub record ArePlaced (s : StoreRows) (i : ℕ) (places : List ℕ) : Type 0 where
   pub as_many : length places ≡ length s.rows
   pub each : (n : ℕ) → is_in n (take i s.order) ≡ true → IsAt (lists_of s) (get_or s.rows n []) (get_or places n 0)
+
+-- the order names rows
+pub order_fits : (s : StoreRows) (i : ℕ) → IsStore s → i < length s.order → get_or s.order i 0 < length s.rows
+order_fits s i stands lt = ltb-true (get_or s.order i 0) _ (all-at (λ m. nat_lt m (length s.rows)) s.order (get_or s.order i 0) stands.within (list_any_at (λ m. m == get_or s.order i 0) s.order i 0 lt (eq-eqb _ _ refl)))
+
+-- none has it at first
+pub placed_start : (s : StoreRows) (places : List ℕ) → length places ≡ length s.rows → ArePlaced s 0 places
+placed_start s places size = record { as_many = size; each = λ n h. absurd (true≢false (sym h)) }
+
+-- and place i gives the next its own
+pub placed_more : (s : StoreRows) (i : ℕ) (places : List ℕ) → IsStore s → ArePlaced s i places → i < length s.order → ArePlaced s (i + 1) (set places (get_or s.order i 0) i)
+placed_more s i places stands are lt =
+    let k = get_or s.order i 0 in
+    let within : k < length s.rows = order_fits s i stands lt in
+    record {
+      as_many = length-set places k i ∙ are.as_many;
+      each = λ n h. elim (cases_eq k n) [
+        | inl same ↦ subst (λ v. IsAt (lists_of s) (get_or s.rows n []) v) (sym (ap (λ m. get_or (set places k i) m 0) (sym same) ∙ get_or-set_same places k i 0 (omega (arith, within, are.as_many)))) (record {
+          fits = omega (arith, lt, length-map s.order (λ m. get_or s.rows m []));
+          at = get_or-map (λ m. get_or s.rows m []) s.order i 0 [] lt ∙ ap (λ m. get_or s.rows m []) same;
+        })
+        | inr other ↦ subst (λ v. IsAt (lists_of s) (get_or s.rows n []) v) (sym (get_or-set_other places k n i 0 (λ e. other (sym e)))) (are.each n (elim (or_cases (is_in n (take i s.order)) (is_in n (k ∷ [])) (sym (list_any-append (λ m. m == n) (take i s.order) (k ∷ [])) ∙ (ap (is_in n) (sym (take_more s.order i 0 lt)) ∙ h))) [
+          | inl before ↦ before
+          | inr last ↦ absurd (other (eqb-true k n (elim (or_cases (k == n) false last) [ inl e ↦ e | inr none ↦ absurd (true≢false (sym none)) ])))
+        ]))
+      ];
+    }
+
+-- so at the end each row has its place
+pub placed_all : (s : StoreRows) (i : ℕ) (places : List ℕ) → IsStore s → ArePlaced s i places → length s.order ≤ i → (n : ℕ) → n < length s.rows → IsAt (lists_of s) (get_or s.rows n []) (get_or places n 0)
+placed_all s i places stands are all n lt = are.each n (ap (is_in n) (take_all i s.order all) ∙ stands.placed n lt)
+
+-- ---- the places of the numbers of edges
+-- an edge with a number is one of the edges
+pub some_fits : (known : List (Option ℕ)) (e n count : ℕ) → length known ≤ count → get_or known e None ≡ Some n → e < count
+some_fits known e n count all is = elim (cases_lt e (length known)) [
+  | inl lt ↦ omega (arith, lt, all)
+  | inr le ↦ absurd (let none : get_or known e None ≡ None = get_or_past known e None le in cc (none, is))
+]

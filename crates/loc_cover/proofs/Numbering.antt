@@ -1,10 +1,11 @@
 -- The list above an edge, made from the list above the edge just below it, and its number.
-use Rattle.std.proofs.Common.{◌≡◌, ℕ, ◌<◌, Bool, true, List, [], ◌∷◌, length, get_or, refl, sym, ◌∙◌, ap, subst, inl, inr, arith, Option, Some, None}
+use Rattle.std.proofs.Common.{◌≡◌, ◌≢◌, ℕ, ◌+◌, ◌<◌, Bool, true, List, [], ◌∷◌, length, get_or, refl, sym, ◌∙◌, ap, subst, inl, inr, arith, Option, Some, None}
 use Rattle.std.specs.Prelude.{nat_lt, IfSome}
 use Rattle.std.specs.List.{list_all, list_any}
+use Rattle.std.specs.Option.{is_some}
 use Rattle.std.proofs.Math.ListN.{set}
 use Rattle.std.proofs.lemmas.Bool.{and_parts, or_cases, cases_eq, true≢false, ltb-true}
-use Rattle.std.proofs.lemmas.List.{get_or-set_other, get_or-set_same, get_or_append_left, length-append, length-set}
+use Rattle.std.proofs.lemmas.List.{get_or-set_other, get_or-set_same, get_or_append_left, get_or_read, length-append, length-set}
 use Rattle.std.proofs.lemmas.List.Folds.{list_any-append, list_any_at}
 use Rattle.loc_spec_plane.specs.Lists.{exactly_one, is_in, is_rising, numbers, sorted_set, IsRisingListOf}
 use Rattle.loc_spec_plane.specs.Tables.{Table, IsTable, AllEnds, AllEven, NoConflict, edge_numbers, has_odd}
@@ -19,7 +20,7 @@ use Rattle.loc_edges.proofs.SortedSet.{any-sorted_set, rising-sorted_set}
 use Rattle.loc_cover.specs.declared.fault.LegendFault.{LegendFault}
 use Rattle.loc_cover.specs.declared.fault.LegendFault.TheVariants.{ManyCovers, NoMemory}
 use Rattle.loc_cover.specs.Legends.{IsRefused}
-use Rattle.loc_cover.specs.Numbered.{IsNumbered, IsWithin, covers_of}
+use Rattle.loc_cover.specs.Numbered.{IsNumbered, IsWithin, KeepsKnown, covers_of}
 use Rattle.loc_cover.specs.Stores.{StoreRows, IsStore, IsPast, GainsAtMost, lists_in, lists_of}
 use Rattle.loc_cover.proofs.Gathered.{any_range}
 use Rattle.loc_cover.proofs.JustBelow.{over_just_below, over_nothing}
@@ -101,3 +102,33 @@ refused_is t s known e list ManyCovers stands numbered le is past =
 pub number_found : (t : Table) (rows : List (List ℕ)) (known : List (Option ℕ)) → IsNumbered t rows known → (below found : Option ℕ) → IfSome below (λ d. d < length t.ends) → (below ≡ None → found ≡ None) → ((d : ℕ) → below ≡ Some d → found ≡ get_or known d None) → (n : ℕ) → found ≡ Some n → (n < length rows) × (get_or rows n [] ≡ cover_of_floor t below)
 number_found t rows known numbered None found lt none some n is = cc (none refl, is)
 number_found t rows known numbered (Some d) found lt none some n is = numbered.known d n lt (sym (some d refl) ∙ is)
+
+-- no rows are there at first
+pub numbered_none : (t : Table) (known : List (Option ℕ)) → length known ≡ length t.ends → ((e : ℕ) → e < length t.ends → get_or known e None ≡ None) → IsNumbered t [] known
+numbered_none t known size none = record {
+  as_many = size;
+  known = λ e n le is. absurd (let no = none e le in cc (no, is));
+  covers = λ p h. absurd (true≢false (sym h));
+}
+
+-- what is read and is some is known
+pub known_there : (known : List (Option ℕ)) (e : ℕ) (read : Option ℕ) → e < length known → read ≡ get_or known e read → is_some read ≡ true → get_or known e None ≢ None
+known_there known e read fits at some none = true≢false (sym some ∙ ap is_some (get_or_read known e read fits at None ∙ none))
+
+-- with the edges before it an edge that is known makes one more
+pub known_next : (known : List (Option ℕ)) (i : ℕ) → ((e : ℕ) → e < i → get_or known e None ≢ None) → get_or known i None ≢ None → (e : ℕ) → e < i + 1 → get_or known e None ≢ None
+known_next known i before here e lt = elim (cases_eq e i) [
+  | inl same ↦ subst (λ k. get_or known k None ≢ None) (sym same) here
+  | inr other ↦ before e (omega (arith, lt, other))
+]
+
+-- an edge that is given a number is known
+pub known_here : (known : List (Option ℕ)) (e n : ℕ) → e < length known → get_or (set known e (Some n)) e None ≢ None
+known_here known e n fits none = absurd (let some = get_or-set_same known e (Some n) None fits in cc (some, none))
+
+-- and what is known stays so
+pub known_kept : (known : List (Option ℕ)) (e n : ℕ) → e < length known → KeepsKnown known (set known e (Some n))
+known_kept known e n fits d before none = elim (cases_eq d e) [
+  | inl same ↦ known_here known e n fits (subst (λ k. get_or (set known e (Some n)) k None ≡ None) same none)
+  | inr other ↦ before (sym (get_or-set_other known e d (Some n) None other) ∙ none)
+]

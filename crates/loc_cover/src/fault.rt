@@ -3,7 +3,7 @@
 use std::alloc::AllocError;
 
 /// Why a table has no legend: its distinct cover lists are too long together, or there was no memory.
-#[derive(Clone, Copy, PartialEq, Eq, Debug, Drop)]
+#[derive(Clone, Copy, Drop)]
 pub enum LegendFault {
     ManyCovers,
     NoMemory,

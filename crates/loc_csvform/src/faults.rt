@@ -5,28 +5,28 @@ use std::alloc::AllocError;
 use thiserror::Error;
 
 /// The fault of a layer text: that of its first faulty line or row, counted from 1. Rows are the records behind the header.
-#[derive(Clone, Copy, PartialEq, Eq, Debug, Drop, Error)]
+#[derive(Clone, Copy, Debug, Drop, Error)]
 pub enum LayerFault {
     /// A text in form csv has no header, or a header without a geometry column.
     #[error("no wkt column")]
     NoColumn,
     /// The record has another number of fields than the header.
-    #[error("row {row}: fields")]
+    #[error("a row has another number of fields than the header")]
     Ragged { row: u32 },
     /// The id is not UTF-8.
-    #[error("row {row}: id not UTF-8")]
+    #[error("an id is not UTF-8")]
     BadText { row: u32 },
     /// The id has more than 200 bytes.
-    #[error("row {row}: id too long")]
+    #[error("an id is too long")]
     LongId { row: u32 },
     /// The geometry text is at fault.
-    #[error("row {row}: {fault:?}")]
+    #[error("a geometry text is at fault")]
     Text { row: u32, fault: TextFault },
     /// This is feature number 2^18 + 1.
-    #[error("row {row}: too many features")]
+    #[error("too many features")]
     ManyFeatures { row: u32 },
     /// With this feature the written ring points pass 2^20.
-    #[error("row {row}: too many points")]
+    #[error("too many points")]
     ManyPoints { row: u32 },
     /// No memory was found for the layer. It says nothing of the text.
     #[error("out of memory")]

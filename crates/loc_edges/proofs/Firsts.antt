@@ -1,5 +1,5 @@
 -- How many edges begin before each corner, as they are counted edge after edge.
-use Rattle.std.proofs.Common.{◌≡◌, ℕ, ◌+◌, ◌-◌, ◌<◌, ◌≤◌, true, List, ◌++◌, length, get_or, take, replicate, refl, sym, ◌∙◌, ap, subst, inl, inr, arith, length-append}
+use Rattle.std.proofs.Common.{◌≡◌, ℕ, ◌+◌, ◌-◌, ◌<◌, ◌≤◌, true, List, [], ◌++◌, length, get_or, take, replicate, refl, sym, ◌∙◌, ap, subst, inl, inr, arith, length-append}
 use Rattle.std.specs.Prelude.{nat_lt}
 use Rattle.std.proofs.lemmas.Bool.{cases_lt}
 use Rattle.std.proofs.lemmas.List.{take_all, get_or_default, get_or_append_left, get_or-append_right, get_or-replicate, length-replicate}
@@ -14,6 +14,15 @@ pub record AreCounted (ends : List (ℕ × ℕ)) (corners n : ℕ) (firsts : Lis
   pub passed : (e : ℕ) → e < n → (get_or ends e (0, 0)).0 < length firsts
   pub next : (e : ℕ) → n ≤ e → e < length ends → length firsts ≤ (get_or ends e (0, 0)).0 + 1
   pub few : length firsts ≤ corners
+
+-- before the first edge
+pub none_counted : (ends : List (ℕ × ℕ)) (corners : ℕ) → AreCounted ends corners 0 []
+none_counted ends corners = record {
+  are = λ c lt. absurd (omega (arith, lt));
+  passed = λ e lt. absurd (omega (arith, lt));
+  next = λ e le lt. omega arith;
+  few = omega arith;
+}
 
 module _ (ends : List (ℕ × ℕ)) (corners n : ℕ) (firsts : List ℕ) (len : ℕ) (len_is : len ≡ length firsts) (h : AreCounted ends corners n firsts) where
   -- the corners behind, up to some count, at which no further edge has begun

@@ -1,5 +1,6 @@
 -- Rows in one list, as a row is started and as the last row grows.
-use Rattle.std.proofs.Common.{◌≡◌, ℕ, zero, suc, ◌+◌, ◌-◌, ◌<◌, ◌≤◌, Some, List, [], ◌∷◌, ◌++◌, length, get_or, set, map, drop, replicate, refl, sym, ◌∙◌, ap, inl, inr, arith, rules, length-append}
+use Rattle.std.proofs.Common.{◌≡◌, ℕ, zero, suc, ◌+◌, ◌-◌, ◌<◌, ◌≤◌, Some, List, [], ◌∷◌, ◌++◌, length, get_or, set, map, drop, replicate, refl, sym, ◌∙◌, ap, subst, inl, inr, arith, rules, length-append}
+use Rattle.std.specs.Prelude.{Result, Ok, Err, OnOk, is_ok, if◌then◌else◌}
 use Rattle.std.specs.List.{between, slice_get}
 use Rattle.std.proofs.lemmas.Bool.{cases_lt, cases_eq}
 use Rattle.std.proofs.lemmas.List.{get_or_at, set_at, get_or_default, get_or_past, get_or_append_left, get_or-append_right, get_or-replicate, length-replicate, length-set, get_or-set_same, get_or-set_other, same_lists, take-append-le, drop-append-le}
@@ -13,6 +14,19 @@ use Rattle.loc_edges.specs.RowLists.{start_of, row_at, rows_of, AreStarts}
 pub map_alike : {X Y : Type 0} (f g : X → Y) (xs : List X) → ((k : ℕ) → (d : X) → k < length xs → f (get_or xs k d) ≡ g (get_or xs k d)) → map f xs ≡ map g xs
 map_alike f g [] h = refl
 map_alike f g (x ∷ xs) h = ap (λ y. y ∷ map f xs) (h 0 x (omega arith)) ∙ ap (λ ys. g x ∷ ys) (map_alike f g xs (λ k d lt. h (suc k) d (omega arith)))
+
+-- a list that a call changes only where it succeeds
+pub on_ok : {A E P Q : Type 0} (r : Result A E) → (P → Q) → OnOk r P → OnOk r Q
+on_ok (Ok a) f h = f h
+on_ok (Err e) f h = tt
+
+pub is_changed : {A E X : Type 0} (r : Result A E) (xs changed old : List X) → xs ≡ (if is_ok r then changed else old) → OnOk r (xs ≡ changed)
+is_changed (Ok a) xs changed old is = is
+is_changed (Err e) xs changed old is = tt
+
+pub in_both : {A E X : Type 0} (P : List X → Type 0) (r : Result A E) (xs changed old : List X) → xs ≡ (if is_ok r then changed else old) → P changed → P old → P xs
+in_both P (Ok a) xs changed old is new were = subst P (sym is) new
+in_both P (Err e) xs changed old is new were = subst P (sym is) were
 
 -- a new row, and items in it
 pub rows_put : {X : Type 0} (rows started grown : List (List X)) (row : List X) → started ≡ rows ++ [] ∷ [] → grown ≡ set started (length started - 1) (get_or started (length started - 1) [] ++ row) → grown ≡ rows ++ row ∷ []

@@ -1,19 +1,21 @@
 -- The segments of a layer with their features, as one more feature comes, and sorted.
-use Rattle.std.proofs.Common.{◌≡◌, ℕ, suc, ◌+◌, ◌<◌, not, List, [], ◌∷◌, ◌++◌, length, get_or, map, refl, sym, ◌∙◌, ap, ap₂, arith, append-nil}
+use Rattle.std.proofs.Common.{◌≡◌, ℕ, suc, ◌+◌, ◌-◌, ◌<◌, ◌≤◌, not, List, [], ◌∷◌, ◌++◌, length, get_or, drop, map, refl, sym, ◌∙◌, ap, ap₂, arith, append-nil}
 use Rattle.std.specs.Prelude.{◌&&◌, All, filter}
 use Rattle.std.specs.List.{flat_map}
 use Rattle.std.specs.List.Sorted.{IsPermutation, IsSorted, IsSortedBy, IsSortedByKey, IsStableByKey}
 use Rattle.std.specs.Ordering.{is_lt}
 use Rattle.std.proofs.lemmas.Bool.{both_ways, false_from_ne_true}
-use Rattle.std.proofs.lemmas.List.{append_assoc, length-map, map-id, get_or-map}
+use Rattle.std.proofs.lemmas.List.{append_assoc, length-drop, length-map, map-append, map-id, get_or-map}
 use Rattle.std.proofs.lemmas.List.Concat.{flat_map-append, flat_map_single}
 use Rattle.std.proofs.lemmas.List.Elements.{All-append, All-cons, filter_agree}
 use Rattle.std.proofs.lemmas.List.Sorted.{IsPermutation-map, list_any-IsPermutation}
-use Rattle.loc_spec_plane.specs.Points.{Edge, same_edge, edge_before}
+use Rattle.loc_spec_plane.specs.Points.{Point, Edge, same_edge, edge_before}
 use Rattle.loc_spec_plane.specs.Lists.{sorted_set}
-use Rattle.loc_spec_plane.specs.Rings.{Rings, segments}
+use Rattle.loc_spec_plane.specs.Rings.{Ring, Rings, ring_segments, segments}
 use Rattle.loc_spec_plane.specs.Tables.{layer_segments, pieces_of, whole}
 use Rattle.loc_laws_order.proofs.Tests.{same_edge_decides}
+use Rattle.loc_laws_rays.proofs.RayRings.{no_segment}
+use Rattle.loc_rings.proofs.Passes.{from_point}
 use Rattle.loc_edges.specs.Tagged.{tagged_by, tagged_from, tagged_pieces, segments_in, features_of}
 use Rattle.loc_laws_noding.proofs.Orders.{edge_cmp, edges_by_before}
 use Rattle.loc_laws_noding.proofs.SortedSet.{is_less, less, from_less, same-sorted_set, tie_is}
@@ -25,6 +27,23 @@ tagged_more a (q ∷ qs) r =
     let same : (a + 1) + length qs ≡ a + suc (length qs) = omega arith in
     ap (λ ts. tagged_by a (segments q) ++ ts) (tagged_more (a + 1) qs r ∙ ap (λ n. tagged_from (a + 1) qs ++ tagged_by n (segments r)) same)
     ∙ sym (append_assoc (tagged_by a (segments q)) (tagged_from (a + 1) qs) (tagged_by (a + suc (length qs)) (segments r)))
+
+-- one more segment of a ring, between its points a and b
+pub ring_more : (ring : Ring) (f n : ℕ) (a b : Point) (tagged grown all : List (Edge × ℕ)) → 1 ≤ n → n < length ring → a ≡ get_or ring (n - 1) a → b ≡ get_or ring n b → grown ≡ tagged ++ tagged_by f (ring_segments (a ∷ b ∷ [])) → tagged ++ tagged_by f (ring_segments (drop (n - 1) ring)) ≡ all → grown ++ tagged_by f (ring_segments (drop (n + 1 - 1) ring)) ≡ all
+ring_more ring f n a b tagged grown all some fits is_a is_b put were =
+    let back : n - 1 + 1 ≡ n = omega (arith, some) in
+    let next : n + 1 - 1 ≡ n - 1 + 1 = omega (arith, some) in
+    let part : List Edge = ring_segments (a ∷ b ∷ []) in
+    let rest : List Edge = ring_segments (drop (n - 1 + 1) ring) in
+    ap (λ k. grown ++ tagged_by f (ring_segments (drop k ring))) next
+    ∙ (ap (λ ts. ts ++ tagged_by f rest) put
+    ∙ (append_assoc tagged (tagged_by f part) (tagged_by f rest)
+    ∙ (ap (λ ts. tagged ++ ts) (sym (map-append (λ (s : Edge). (s, f)) part rest))
+    ∙ (ap (λ ss. tagged ++ tagged_by f ss) (sym (from_point ring (n - 1) a b (omega (arith, back, fits)) is_a (is_b ∙ ap (λ k. get_or ring k b) (sym back)))) ∙ were))))
+
+-- behind the last point but one a ring has no segment
+pub ring_all : (ring : Ring) (f n : ℕ) (tagged all : List (Edge × ℕ)) → length ring ≤ n → tagged ++ tagged_by f (ring_segments (drop (n - 1) ring)) ≡ all → tagged ≡ all
+ring_all ring f n tagged all past were = sym (append-nil tagged) ∙ (ap (λ ss. tagged ++ tagged_by f ss) (sym (no_segment (drop (n - 1) ring) (omega (arith, length-drop (n - 1) ring, past)))) ∙ were)
 
 segments_in-append : (ts us : List (Edge × ℕ)) → segments_in (ts ++ us) ≡ segments_in ts ++ segments_in us
 segments_in-append [] us = refl

@@ -26,11 +26,11 @@ fn count_segment(row: &mut Vec<Mark>, feature: u32) -> Result<(), AllocError>
     Ok(())
 }
 
-// Counts the segments of an edge, given by their features in order.
+// Counts the segments of an edge, given by their features in order, in a row that is cleared first.
 fn count_edge(row: &mut Vec<Mark>, features: &[u32]) -> Result<(), AllocError>
-    requires empty { row.old.items ≡ [] }
     ensures { OnOk result (row.new.items ≡ marks_of features.now) }
 {
+    row.clear();
     for feature in features {
         count_segment(row, *feature)?;
     }
@@ -44,10 +44,8 @@ fn mark_rows(alloc: Global, features: &Rows<u32>) -> Result<Rows<Mark>, AllocErr
     let mut rows = Rows::new(alloc);
     let mut row = Vec::new(alloc);
     for n in 0..features.len() {
-        row.clear();
         count_edge(&mut row, features.row(n))?;
-        rows.start(n + 1)?;
-        rows.extend(&row)?;
+        rows.push(&row)?;
     }
     Ok(rows)
 }

@@ -14,7 +14,7 @@ use loc_geom::{Edge, Point, Side, lower, side};
 use std::marker::Model;
 
 /// How an edge stands to another that the sweep line meets where the edge begins: it goes below or above it, or hits it.
-#[derive(Clone, Copy, PartialEq, Eq, Debug, Drop)]
+#[derive(Clone, Copy, Drop)]
 pub enum Placing {
     Below,
     Above,

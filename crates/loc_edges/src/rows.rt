@@ -70,8 +70,7 @@ impl<T: Copy> Rows<T> {
         requires { length self.old ≤ count }
         ensures { OnOk result (self.new ≡ self.old ++ replicate (count - length self.old) []) }
     {
-        self.starts.resize(count, self.items.len())?;
-        Ok(())
+        self.starts.resize(count, self.items.len())
     }
 
     /// Puts items behind those of the last row.
@@ -79,8 +78,7 @@ impl<T: Copy> Rows<T> {
         requires { 0 < length self.old }
         ensures { OnOk result (self.new ≡ slice_set self.old (length self.old - 1) (slice_index_or self.old (length self.old - 1) [] ++ more.now)) }
     {
-        self.items.extend_from_slice(more)?;
-        Ok(())
+        self.items.extend_from_slice(more)
     }
 
     /// Puts a row behind the last.
@@ -89,8 +87,7 @@ impl<T: Copy> Rows<T> {
     {
         let count = self.starts.len() + 1;
         self.start(count)?;
-        self.extend(row)?;
-        Ok(())
+        self.extend(row)
     }
 
     /// The items of each key below the count, from items behind their keys in the order of the keys.

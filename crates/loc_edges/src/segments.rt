@@ -19,8 +19,8 @@ fn add_ring(
 ) -> Result<(), AllocError>
     ensures { OnOk result (tagged.new.items ≡ tagged.old.items ++ tagged_by feature (ring_segments ring.now)) }
 {
-    for pair in ring.windows(2) {
-        if let Some(edge) = Edge::new(pair[0], pair[1]) {
+    for n in 1..ring.len() {
+        if let Some(edge) = Edge::new(ring[n - 1], ring[n]) {
             tagged.push((edge, feature))?;
         }
     }

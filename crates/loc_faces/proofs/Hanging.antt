@@ -1,13 +1,14 @@
 -- Which cycles hang, as one half-edge after another is looked at.
 use Rattle.std.proofs.Common.{◌≡◌, ◌≢◌, ℕ, ◌+◌, ◌<◌, ◌≤◌, Bool, true, false, ◌&&◌, List, length, get_or, set, sym, ◌∙◌, ap, subst, inl, inr, arith, get_or-set_same, get_or-set_other, length-set}
-use Rattle.std.specs.Prelude.{◌==◌, ◌||◌}
-use Rattle.std.proofs.lemmas.Bool.{cases_eq, both_ways}
+use Rattle.std.specs.Prelude.{◌==◌, ◌||◌, not}
+use Rattle.std.proofs.lemmas.Bool.{cases_eq, both_ways, eq-eqb, ne_eqb}
 use Rattle.loc_spec_plane.specs.Tables.{Table, IsTable}
 use Rattle.loc_spec_plane.specs.Places.{lower_of}
-use Rattle.loc_spec_plane.specs.HalfEdges.{half_edge_count, cycle, edge_of, target}
-use Rattle.loc_spec_plane.specs.Faces.{hangs, least_corner}
+use Rattle.loc_spec_plane.specs.HalfEdges.{half_edge_count, cycle, edge_of, leader, target}
+use Rattle.loc_spec_plane.specs.Faces.{hangs, leads_face, least_corner}
 use Rattle.loc_laws_order.proofs.Booleans.{same-from_both}
 use Rattle.loc_half.specs.HalfEdgeLists.{HalfEdgeLists, AreHalfEdges, leader_in, next_in}
+use Rattle.loc_faces.specs.Boundaries.{leads_hanging}
 use Rattle.loc_faces.specs.Cycles.{AreHanging, AreLeast, passes_low}
 use Rattle.loc_laws_rays.proofs.Covering.{any-found}
 use Rattle.loc_laws_rays.proofs.Picked.{member_any}
@@ -74,3 +75,29 @@ module _ (t : Table) (ok : IsTable t) (half : HalfEdgeLists) (are : AreHalfEdges
           let on = same_on t ok half are found.0 h lt found.1 in
           subst (λ l. get_or hanging l false ≡ true) on.1 (so_far.noted found.0 (omega (arith, on.0, past))
           (subst (λ c. ((target t found.0 == c) && ((edge_of found.0 == edge_of (next_in half found.0)) || lower_of t (edge_of found.0) (edge_of (next_in half found.0)))) ≡ true) (sym (low_at found.0 h lt on.1)) found.2))
+
+-- whether a half-edge leads a cycle that hangs, or an outer one, as it is noted
+module _ (t : Table) (half : HalfEdgeLists) (are : AreHalfEdges t half) (hanging : List Bool) (hung : AreHanging t half hanging) (h : ℕ) (lt : h < half_edge_count t) where
+  hangs_so : leader_in half h ≡ h → get_or hanging h false ≡ hangs t (next_in half) h
+  hangs_so is = ap (λ l. get_or hanging l false) (sym is) ∙ hung.are h lt
+
+  leads_so : leader_in half h ≡ h → (leader t (next_in half) h == h) ≡ true
+  leads_so is = eq-eqb (leader t (next_in half) h) h (sym (are.leaders h lt) ∙ is)
+
+  leads_not : (leader_in half h ≢ h) → (leader t (next_in half) h == h) ≡ false
+  leads_not other = ne_eqb (leader t (next_in half) h) h (λ is. other (are.leaders h lt ∙ is))
+
+  noted_not : (leader_in half h ≢ h) → (leader_in half h == h) ≡ false
+  noted_not other = ne_eqb (leader_in half h) h other
+
+  pub hanging_leads : leader_in half h ≡ h → get_or hanging h false ≡ leads_hanging t (next_in half) h
+  hanging_leads is = hangs_so is ∙ sym (ap (λ b. b && hangs t (next_in half) h) (leads_so is))
+
+  pub hanging_other : (leader_in half h ≢ h) → (leader_in half h == h) ≡ leads_hanging t (next_in half) h
+  hanging_other other = noted_not other ∙ sym (ap (λ b. b && hangs t (next_in half) h) (leads_not other))
+
+  pub outer_leads : leader_in half h ≡ h → not (get_or hanging h false) ≡ leads_face t (next_in half) h
+  outer_leads is = ap not (hangs_so is) ∙ sym (ap (λ b. b && not (hangs t (next_in half) h)) (leads_so is))
+
+  pub outer_other : (leader_in half h ≢ h) → (leader_in half h == h) ≡ leads_face t (next_in half) h
+  outer_other other = noted_not other ∙ sym (ap (λ b. b && not (hangs t (next_in half) h)) (leads_not other))

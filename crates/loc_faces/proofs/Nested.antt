@@ -1,6 +1,6 @@
 -- Hanging cycles, in the order of their least corners: the floor of a corner begins before it, so its cycle has a lesser corner, and its face stays.
 use Rattle.std.proofs.Common.{◌≡◌, ◌≢◌, ℕ, ◌+◌, ◌*◌, ◌<◌, ◌≤◌, Bool, true, false, ◌&&◌, List, length, get_or, set, Option, Some, None, refl, sym, ◌∙◌, ap, subst, inl, inr, arith, get_or-set_same, get_or-set_other, length-set}
-use Rattle.std.specs.Prelude.{◌==◌, ◌||◌}
+use Rattle.std.specs.Prelude.{◌==◌, ◌||◌, IfSome}
 use Rattle.std.proofs.lemmas.Bool.{cases_eq, cases_lt, and_parts, and_from, both_ways, eq-eqb, eqb-true, not-true}
 use Rattle.loc_spec_plane.specs.Points.{before, same_point, up_to, is_above}
 use Rattle.loc_spec_plane.specs.Tables.{Table, IsTable, corner, edge, lo_of, hi_of}
@@ -58,6 +58,11 @@ module _ (t : Table) (ok : IsTable t) where
           ]
         ],
       )
+
+  -- and is one of the edges
+  pub floor_fits : (c : ℕ) (floor : Option ℕ) → c < length t.corners → IsFloor t (corner t c) floor → IfSome floor (λ e. e < length t.ends)
+  floor_fits c None lt is = tt
+  floor_fits c (Some f) lt is = (floor_begins c f lt is).0
 
   -- edges rise by their lower ends
   lows_rise : (e k : ℕ) → e ≤ k → k < length t.ends → lo_of t e ≤ lo_of t k

@@ -60,6 +60,11 @@ pub front-stop : {X : Type 0} (row more : X → List Field) {a : Left} {f : Inde
 front-stop row more (stop x f u w) = stop x f u (fault-front (row x) (more x) w)
 front-stop row more no_memory = no_memory
 
+-- a part of a row that was wrong, behind fields that were read
+pub stop-within : {X Y : Type 0} (row : X → List Field) (part : Y → List Field) (front : List Field) (of : Y → X) (more : Y → List Field) → ((y : Y) → row (of y) ≡ front ++ (part y ++ more y)) → {a b : Left} {f : IndexFault} → IsRead front a b → IsRowStop part b f → IsRowStop row a f
+stop-within row part front of more is {a} {b} read (stop y f u w) = stop (of y) f tt (subst (λ fs. IsFaultIn fs a f) (sym (is y)) (fault-behind front (part y ++ more y) read (fault-front (part y) (more y) w)))
+stop-within row part front of more is read no_memory = no_memory
+
 -- a field that is known by other words
 pub wrong-along : {A : Type 0} (field : A → Field) {x y : A} {a : Left} {f : IndexFault} → x ≡ y → IsWrong (field x) a f → IsWrong (field y) a f
 wrong-along field {a = a} {f = f} e w = subst (λ z. IsWrong (field z) a f) e w

@@ -7,11 +7,13 @@
 --   IsFaultIn    what is wrong at the first of some fields that is not right
 --   IsStop       why a reader stopped: IsRowStop, of a row; IsRowsStop, of the rows of a part
 --   one, alone   a row that is one field; a row that is told by itself
+--   two, three   a row that is two numbers, and one that is three
 --   AreRows      the rows of a part were read, so many
 use Rattle.std.specs.Prelude.{◌≡◌, ℕ, ◌+◌, ◌<◌, List, [], ◌∷◌, ◌++◌, length, Some, IsTrue}
+use Rattle.std.specs.Int.{w32}
 use Rattle.loc_spec_index.specs.declared.IndexFault.{IndexFault}
 use Rattle.loc_spec_index.specs.declared.IndexFault.TheVariants as fault
-use Rattle.loc_spec_index.specs.IndexFile.{Field, spelled, spelled_all, are_right, fault_at, with_bytes, rows_from}
+use Rattle.loc_spec_index.specs.IndexFile.{Field, number, spelled, spelled_all, are_right, fault_at, with_bytes, rows_from}
 
 -- the bytes that are left, and where they begin
 pub record Left : Type 0 where
@@ -66,6 +68,14 @@ IsRowsStop row count = IsStop (λ xs. length xs ≡ count) (rows_from row [])
 -- a row that is one field
 abbrev pub one : {X : Type 0} → (X → Field) → X → List Field
 one field x = field x ∷ []
+
+-- a row that is two numbers, each with its bound
+abbrev pub two : ℕ → ℕ → ℕ × ℕ → List Field
+two first second ns = number w32 first ns.0 ∷ number w32 second ns.1 ∷ []
+
+-- a row that is three
+abbrev pub three : ℕ → ℕ → ℕ → ℕ × ℕ × ℕ → List Field
+three first second third ns = number w32 first ns.0 ∷ number w32 second ns.1 ∷ number w32 third ns.2 ∷ []
 
 -- a row that is told by itself
 abbrev pub alone : {X : Type 0} → (X → List Field) → List X → X → List Field

@@ -4,7 +4,7 @@ ghost use Rattle.std.specs.Prelude.{◌≡◌, ℕ, ℤ, ◌<◌, ◌≤◌, ◌
 ghost use Rattle.std.specs.Int.{w8, w32};
 ghost use Rattle.loc_spec_plane.specs.Points.{OnGrid};
 ghost use Rattle.loc_spec_index.specs.IndexFile.{bit, number, coordinate, text, order};
-ghost use Rattle.loc_file.specs.Readings.{Left, IsTaken, IsShort, IsRead, IsWrong};
+ghost use Rattle.loc_file.specs.Readings.{Left, IsTaken, IsShort, IsRead, IsWrong, IsRowStop, two, three};
 
 use byteorder::{BigEndian, ByteOrder};
 use loc_spec_index::{IndexFault, Part};
@@ -102,6 +102,31 @@ impl<'a> Cursor<'a> {
             });
         }
         Ok(value)
+    }
+
+    // Two numbers of four bytes, each below its bound.
+    pub(crate) fn two_numbers(&mut self, first: u32, second: u32) -> Result<(u32, u32), IndexFault>
+        ensures ok { IfOk result (λ ns. IsRead (two first second ns) self.old self.new) }
+        ensures err { IfErr result (IsRowStop (two first second) self.old) }
+    {
+        let former = self.number(first)?;
+        let latter = self.number(second)?;
+        Ok((former, latter))
+    }
+
+    // Three numbers of four bytes, each below its bound.
+    pub(crate) fn three_numbers(
+        &mut self,
+        first: u32,
+        second: u32,
+        third: u32,
+    ) -> Result<(u32, u32, u32), IndexFault>
+        ensures ok { IfOk result (λ ns. IsRead (three first second third ns) self.old self.new) }
+        ensures err { IfErr result (IsRowStop (three first second third) self.old) }
+    {
+        let (former, latter) = self.two_numbers(first, second)?;
+        let last = self.number(third)?;
+        Ok((former, latter, last))
     }
 
     // A number of one byte that is below a bound.

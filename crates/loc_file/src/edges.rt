@@ -68,11 +68,10 @@ fn next_source(
     ensures err { IfErr result (IsRowStop (source_fields version corners) cursor.old) }
 {
     if version == 1 {
-        return Ok(ends);
+        Ok(ends)
+    } else {
+        cursor.two_numbers(corners, corners)
     }
-    let lower = cursor.number(corners)?;
-    let upper = cursor.number(corners)?;
-    Ok((lower, upper))
 }
 
 // An edge behind another.
@@ -87,9 +86,7 @@ fn next_edge(
     ensures ok { IfOk result (λ e. IsRead (told_row version corners covers row last e) cursor.old cursor.new) }
     ensures err { IfErr result (IsRowStop (told_row version corners covers row last) cursor.old) }
 {
-    let lower = cursor.number(corners)?;
-    let upper = cursor.number(corners)?;
-    let cover = cursor.number(covers)?;
+    let (lower, upper, cover) = cursor.three_numbers(corners, corners, covers)?;
     let source = next_source(cursor, version, corners, (lower, upper))?;
     let edge = EdgeOf {
         ends: (lower, upper),

@@ -1,7 +1,7 @@
 // The header of a file.
 
-ghost use Rattle.std.specs.Prelude.{◌≡◌, ℕ, ◌*◌, ◌≤◌, ◌<◌, [], ◌∷◌, IfOk, IfErr, OnOk, codes};
-ghost use Rattle.loc_spec_text.specs.Limits.{most_features, most_pieces};
+ghost use Rattle.std.specs.Prelude.{◌≡◌, ℕ, ◌≤◌, [], ◌∷◌, IfOk, IfErr, OnOk, codes};
+ghost use Rattle.loc_spec_text.specs.Limits.{most_pieces};
 ghost use Rattle.loc_spec_index.specs.IndexFile.{magic, most_edges, version};
 ghost use Rattle.loc_file.specs.Readings.{IsRead, IsWrong, IsRowStop};
 ghost use Rattle.loc_file.specs.Told.{header_row};
@@ -72,20 +72,17 @@ fn most_rows(version: u32) -> u32
 // The header of a file.
 pub(crate) fn read_header(cursor: &mut Cursor<'_>) -> Result<Header, IndexFault>
     ensures ok { IfOk result (λ header. IsRead (header_row header) cursor.old cursor.new) }
-    ensures scale { IfOk result (λ header. header.scale < 16) }
-    ensures features { IfOk result (λ header. header.features ≤ most_features) }
-    ensures edges { IfOk result (λ header. header.edges ≤ most_pieces) }
-    ensures nodes { IfOk result (λ header. header.nodes ≤ 24 * most_pieces) }
     ensures err { IfErr result (IsRowStop header_row cursor.old) }
 {
     read_magic(cursor)?;
     let version = read_version(cursor)?;
-    let scale = cursor.number(16)?;
-    let features = cursor.number(MOST_FEATURES as u32 + 1)?;
-    let corners = cursor.number(MOST_POINTS as u32 + 1)?;
+    let (scale, features, corners) = cursor.three_numbers(
+        16,
+        MOST_FEATURES as u32 + 1,
+        MOST_POINTS as u32 + 1,
+    )?;
     let most = most_rows(version);
-    let edges = cursor.number(most + 1)?;
-    let marks = cursor.number(most + 1)?;
+    let (edges, marks) = cursor.two_numbers(most + 1, most + 1)?;
     let covers = cursor.number(edges + 1)?;
     let nodes = cursor.number(24 * edges + 1)?;
     Ok(Header {

@@ -32,8 +32,7 @@ fn next_mark(
     ensures ok { IfOk result (λ m. IsRead (mark_row edges features row last m) cursor.old cursor.new) }
     ensures err { IfErr result (IsRowStop (mark_row edges features row last) cursor.old) }
 {
-    let edge = cursor.number(edges)?;
-    let feature = cursor.number(features)?;
+    let (edge, feature) = cursor.two_numbers(edges, features)?;
     let odd = cursor.flag()?;
     let mark = (edge, Mark { feature, odd });
     cursor.in_order(follows(last, mark), Part::Marks, row)?;

@@ -27,12 +27,9 @@ fn next_node(
     ensures ok { IfOk result (λ node. IsRead (node_fields edges corners nodes node) cursor.old cursor.new) }
     ensures err { IfErr result (IsRowStop (node_fields edges corners nodes) cursor.old) }
 {
-    let item = cursor.number(edges)?;
-    let left = cursor.number(nodes + 1)?;
-    let right = cursor.number(nodes + 1)?;
+    let (item, left, right) = cursor.three_numbers(edges, nodes + 1, nodes + 1)?;
     let side = cursor.byte(3)?;
-    let stamp = cursor.number(bound_at(side, corners))?;
-    let extra = cursor.number(bound_at(side, nodes + 1))?;
+    let (stamp, extra) = cursor.two_numbers(bound_at(side, corners), bound_at(side, nodes + 1))?;
     Ok(NodeRow {
         item,
         left,

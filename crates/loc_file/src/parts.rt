@@ -1,6 +1,6 @@
 // All parts of a file.
 
-ghost use Rattle.std.specs.Prelude.{ℕ, ◌<◌, IfOk, IfErr};
+ghost use Rattle.std.specs.Prelude.{ℕ, IfOk, IfErr};
 ghost use Rattle.loc_spec_index.specs.IndexFile.{fields, IsShaped};
 ghost use Rattle.loc_file.specs.Readings.{IsRead, IsStop};
 ghost use Rattle.loc_file.specs.Contents.{content_in};
@@ -37,7 +37,6 @@ pub(crate) struct Parts {
 // All parts of a file.
 pub(crate) fn read_parts(alloc: Global, cursor: &mut Cursor<'_>) -> Result<Parts, IndexFault>
     ensures ok { IfOk result (λ parts. IsRead (fields parts.version (content_in parts)) cursor.old cursor.new) }
-    ensures scale { IfOk result (λ parts. parts.scale < 16) }
     ensures shaped { IfOk result (λ parts. IsShaped parts.version (content_in parts)) }
     ensures err { IfErr result (λ f. (v : ℕ) × IsStop (IsShaped v) (fields v) cursor.old f) }
 {

@@ -6,7 +6,7 @@ ghost use Rattle.loc_gen.specs.Layers.{feature_count, features, limit_of, nested
 use crate::Kind;
 
 /// A rectangle by its lower left and its upper right corner.
-#[derive(Clone, Copy, PartialEq, Eq, Debug, Drop)]
+#[derive(Clone, Copy, Drop)]
 pub struct Rectangle {
     pub left: u64,
     pub low: u64,

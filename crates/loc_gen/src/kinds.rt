@@ -1,7 +1,7 @@
 // The kinds of generated layers, and how large they may be.
 
 /// A kind of generated layer.
-#[derive(Clone, Copy, PartialEq, Eq, Hash, Debug, Drop)]
+#[derive(Clone, Copy, Drop)]
 pub enum Kind {
     /// Unit squares side by side, in columns of as many.
     Grid,

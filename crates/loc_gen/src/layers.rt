@@ -12,10 +12,10 @@ use loc_io::{Sink, WriteFault};
 use thiserror::Error;
 
 /// Why a layer was not generated, or not to its end.
-#[derive(Clone, Copy, Debug, PartialEq, Eq, Error)]
+#[derive(Clone, Copy, Debug, Error)]
 pub enum GenFault {
     /// The size is above the limit of the kind.
-    #[error("{asked} past {limit}")]
+    #[error("the size is above the limit")]
     TooMany { asked: u64, limit: u64 },
     /// A write failed.
     #[error("a write failed")]

@@ -8,7 +8,7 @@ use crate::points::{Point, is_before};
 use std::marker::Model;
 
 /// An edge between two different points: its lower end `lo` comes before its upper end `hi`. Edges are ordered by `lo`, then by `hi`.
-#[derive(Clone, Copy, PartialEq, Eq, PartialOrd, Ord, Hash, Debug, Drop)]
+#[derive(Clone, Copy, PartialEq, Eq, PartialOrd, Ord, Drop)]
 pub struct Edge {
     lo: Point,
     hi: Point,

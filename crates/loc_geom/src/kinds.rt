@@ -1,7 +1,7 @@
 // Answers of the predicates.
 
 /// Where a point stands against the line through an edge.
-#[derive(Clone, Copy, PartialEq, Eq, Hash, Debug, Drop)]
+#[derive(Clone, Copy, Drop)]
 pub enum Side {
     Below,
     On,
@@ -9,7 +9,7 @@ pub enum Side {
 }
 
 /// How two edges meet. They conflict where they touch or cross.
-#[derive(Clone, Copy, PartialEq, Eq, Hash, Debug, Drop)]
+#[derive(Clone, Copy, Debug, Drop)]
 pub enum Meeting {
     Apart,
     Touch,

@@ -6,7 +6,7 @@ ghost use Rattle.loc_spec_plane.specs.Points.{before, up_to, same_point, point_a
 use std::marker::Model;
 
 /// A point of the grid: both coordinates are within 10^18. Points are ordered by x, then by y.
-#[derive(Clone, Copy, PartialEq, Eq, PartialOrd, Ord, Hash, Debug, Drop)]
+#[derive(Clone, Copy, PartialEq, Eq, PartialOrd, Ord, Drop)]
 pub struct Point {
     x: i64,
     y: i64,

@@ -1,4 +1,5 @@
 pub mod Appending
+mod Counted
 mod Growing
 mod Lookup
 pub mod Reading

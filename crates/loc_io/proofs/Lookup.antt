@@ -1,6 +1,6 @@
 -- Files in a list: what a look-up by name gives, and what it gives after one file was exchanged or added.
-use Rattle.std.proofs.Common.{◌≡◌, ℕ, ◌<◌, Bool, true, false, cond, List, [], ◌∷◌, ◌++◌, length, get_or, set, Some, None, option_map, string_bytes, unwrap_or, refl, sym, ◌∙◌, ap, subst, arith}
-use Rattle.std.specs.Prelude.{nat_lt, slice_get}
+use Rattle.std.proofs.Common.{◌≡◌, ◌≢◌, ◌⊎◌, inl, inr, ℕ, ◌<◌, Bool, true, false, cond, List, [], ◌∷◌, ◌++◌, length, get_or, set, Some, None, option_map, string_bytes, unwrap_or, refl, sym, ◌∙◌, ap, subst, arith}
+use Rattle.std.specs.Prelude.{nat_lt, slice_get, if◌then◌else◌, is_some}
 use Rattle.std.specs.List.{find, position, position_or_len}
 use Rattle.std.specs.Option.{option_and_then, option_map_or, option_or}
 use Rattle.std.specs.Str.{bytes_eq}
@@ -11,7 +11,9 @@ use Rattle.std.proofs.lemmas.List.Quantifiers.{position-Some}
 use Rattle.std.proofs.lemmas.List.Sums.{position_or_len_is}
 use Rattle.std.proofs.lemmas.Option.{slice_get_past}
 use Rattle.std.proofs.lemmas.Slice.Eq.{bytes_eq-Decides}
+use mathlib.Core.Bool.{true≢false}
 use Rattle.loc_io.specs.Files.{file_of, is_named, Puts, KeepsAll}
+use Rattle.loc_io.specs.Meaning.{Told, untold, holds, bytes_of}
 use Rattle.loc_io.specs.Steady.{bytes_at}
 use Rattle.loc_io.specs.declared.mem_file.MemFile.{MemFile}
 
@@ -79,3 +81,30 @@ push_puts fs name f none named q =
           let other : is_named q f ≡ false = rw named e in
           rw (find-append (is_named q) fs (f ∷ []), other) (elim (find (is_named q) fs) as (λ o. bytes (option_or o None) ≡ bytes o) [ None ↦ refl | Some g ↦ refl ])
     ] refl
+
+module _ (name bytes : List ℕ) (fs : List MemFile) (f : MemFile) (named : string_bytes f.name ≡ name) (is : f.bytes.items ≡ bytes) where
+  -- a file handed in is found first
+  handed_in : file_of (f ∷ fs) name ≡ Some bytes
+  handed_in =
+      let here : is_named name f ≡ true = (bytes_eq-Decides (string_bytes f.name) name).1 named in
+      rw here (ap Some is)
+
+  -- any other file is found as before
+  handed_beside : (q : List ℕ) → q ≢ name → file_of (f ∷ fs) q ≡ file_of fs q
+  handed_beside q differ =
+      let other : is_named q f ≡ false = elim (is_named q f) as (λ b. is_named q f ≡ b → b ≡ false) [ true ↦ λ e. absurd (differ (sym ((bytes_eq-Decides (string_bytes f.name) q).0 e) ∙ named)) | false ↦ λ _. refl ] refl in
+      rw other refl
+
+  -- and so a steady shelf tells it, unless it hides its files
+  pub handed_told : (hides : Bool) → ((if hides then untold else holds (unwrap_or (file_of (f ∷ fs) name) [])) ≡ holds bytes) ⊎ ((q : List ℕ) → (if hides then untold else holds (unwrap_or (file_of fs q) [])) ≡ untold)
+  handed_told true = inr (λ _. refl)
+  handed_told false = inl (ap (λ o. holds (unwrap_or o [])) handed_in)
+
+  -- and any other file as before
+  pub handed_others : (hides : Bool) (q : List ℕ) → q ≢ name → (if hides then untold else holds (unwrap_or (file_of (f ∷ fs) q) [])) ≡ (if hides then untold else holds (unwrap_or (file_of fs q) []))
+  handed_others hides q differ = ap (λ o. if hides then untold else holds (unwrap_or o [])) (handed_beside q differ)
+
+-- a steady shelf that hides its files goes on to do so
+pub handed_hidden : (fs : List MemFile) (f : MemFile) (hides : Bool) (q : List ℕ) → (if hides then untold else holds (unwrap_or (file_of fs q) [])) ≡ untold → (if hides then untold else holds (unwrap_or (file_of (f ∷ fs) q) [])) ≡ untold
+handed_hidden fs f true q is = refl
+handed_hidden fs f false q is = absurd (true≢false (ap (λ (t : Told). is_some (bytes_of t)) is))

@@ -1,13 +1,14 @@
 -- A loop of reads.
 use Rattle.std.proofs.Common.{◌≡◌, ◌≢◌, ℕ, ◌+◌, ◌<◌, ◌≤◌, Bool, true, List, [], ◌∷◌, ◌++◌, length, take, Option, Some, None, Ok, Err, refl, sym, subst, ◌∙◌, ap, arith, append_assoc, length-append, length-take}
 use Rattle.std.proofs.lemmas.List.{append-nil}
+use Rattle.std.proofs.KnownBytes.{Consumes-kept, Consumes-nil}
 use Rattle.std.specs.Io.KnownBytes.{Consumes, IsAtEnd}
 use Rattle.std.specs.Prelude.{◌||◌, nat_lt}
-use Rattle.loc_io.specs.Causes.{CountsLate}
+use Rattle.loc_io.specs.Causes.{CountsLate, Rose}
 use Rattle.loc_io.specs.Entries.{Entries, taken}
-use Rattle.loc_io.specs.Meaning.{Meaning, IsCounted, KeepsFiles, KeepsMaking, NoneLate, Reads, absent, bytes_of}
+use Rattle.loc_io.specs.Meaning.{Meaning, IsCounted, KeepsFiles, KeepsMaking, NoneLate, Reads, TakesUp, absent, bytes_of}
 use Rattle.loc_io.specs.Whole.{ReadsAll, BytesAreTold}
-use Rattle.loc_io.specs.declared.whole.ReadAllFault.TheVariants.{TooLong, NoMemory}
+use Rattle.loc_io.specs.declared.whole.ReadAllFault.TheVariants.{ReadFault, TooLong, NoMemory}
 use Rattle.std.specs.Prelude.{Vec}
 use Rattle.std.specs.declared.alloc.Global.{Global}
 
@@ -82,6 +83,53 @@ reads_no_memory name limit old new all hand = record {
   bytes = told_nothing limit (bytes_of (old.told name));
   there = λ gone. absurd (hand.there gone);
   in_time = hand.in_time;
+}
+
+-- a failed call tells nothing of the bytes
+told_unread : (limit : ℕ) (a : Option (List ℕ)) → BytesAreTold limit a (Err ReadFault)
+told_unread limit None = tt
+told_unread limit (Some x) = tt
+
+-- a file that was not taken up
+pub takes_fault : {T E : Type 0} (name : List ℕ) (limit : ℕ) (old new : Meaning) (e : E) → TakesUp {T = T} name old new (Err e) → ReadsAll name limit old new (Err ReadFault)
+takes_fault name limit old new e takes = record {
+  files = takes.files;
+  making = takes.making;
+  taken = 0;
+  entries = takes.entries;
+  fault = takes.cause.failed;
+  length = omega arith;
+  bytes = told_unread limit (bytes_of (old.told name));
+  there = λ _. tt;
+  in_time = in_time_by old new takes.late;
+}
+
+-- a file that was taken up, of which nothing was read
+pub takes_hand : {T E : Type 0} (name : List ℕ) (limit : ℕ) (old new : Meaning) (v : T) → TakesUp {E = E} name old new (Ok v) → InHand name limit old new []
+takes_hand name limit old new v takes = record {
+  files = takes.files;
+  making = takes.making;
+  entries = takes.entries;
+  is_open = takes.opened.1;
+  there = takes.opened.0;
+  bytes = Consumes-kept (bytes_of (old.told name)) (bytes_of (old.told name)) new.rest [] (Consumes-nil (bytes_of (old.told name))) takes.opened.2;
+  steady = takes.cause.steady;
+  in_time = in_time_by old new takes.late;
+  few = omega arith;
+}
+
+-- a read that failed
+pub reads_fault : {E : Type 0} (name : List ℕ) (limit : ℕ) (old mid new : Meaning) (all into : List ℕ) (e : E) → InHand name limit old mid all → Reads mid new into (Err e) → ReadsAll name limit old new (Err ReadFault)
+reads_fault name limit old mid new all into e hand reads = record {
+  files = files_then old mid new hand.files reads.files;
+  making = making_then old mid new hand.making reads.making;
+  taken = length all;
+  entries = reads.entries ∙ hand.entries;
+  fault = subst (λ (k : ℕ). Rose k new.read_faults) hand.steady reads.cause.failed;
+  length = hand.few;
+  bytes = told_unread limit (bytes_of (old.told name));
+  there = λ _. tt;
+  in_time = late_after old mid new hand.in_time hand.steady hand.making.write_faults reads.late;
 }
 
 module _ {E : Type 0} (name : List ℕ) (limit : ℕ) (old mid new : Meaning) (all into : List ℕ) (n : ℕ)

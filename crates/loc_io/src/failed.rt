@@ -5,12 +5,12 @@ ghost use Rattle.loc_io.specs.Causes.{CountsLate, Rose};
 use thiserror::Error;
 
 /// An outside call failed. The count of its shelf or sink rose, or stood at its last value.
-#[derive(Clone, Copy, Debug, PartialEq, Eq, Error)]
+#[derive(Clone, Copy, Debug, Error)]
 #[error("a call on a file or stream failed")]
 pub struct Failed;
 
 /// How many calls have failed. It stands still at its last value.
-#[derive(Clone, Copy, Debug)]
+#[derive(Clone, Copy)]
 pub(crate) struct FaultCount {
     pub(crate) number: u64,
 }
@@ -33,7 +33,7 @@ impl FaultCount {
 }
 
 /// How many calls were made after one had failed. It stands still at its last value.
-#[derive(Clone, Copy, Debug)]
+#[derive(Clone, Copy)]
 pub(crate) struct LateCount {
     pub(crate) number: u64,
 }
@@ -56,7 +56,7 @@ impl LateCount {
 }
 
 /// The failures of a shelf's calls, and how many were made after one.
-#[derive(Clone, Copy, Debug)]
+#[derive(Clone, Copy)]
 pub(crate) struct CallCounts {
     pub(crate) read_faults: FaultCount,
     pub(crate) write_faults: FaultCount,

@@ -6,7 +6,7 @@ use crate::Failed;
 use thiserror::Error;
 
 /// A write on a sink failed, and a front of the piece was written.
-#[derive(Clone, Copy, Debug, PartialEq, Eq, Error)]
+#[derive(Clone, Copy, Debug, Error)]
 #[error("a write failed")]
 pub struct WriteFault;
 

@@ -8,7 +8,7 @@ use std::alloc::{AllocError, Global};
 use thiserror::Error;
 
 /// Why a file was not read to its end. The contract of `read_all` says when each comes.
-#[derive(Clone, Copy, Debug, PartialEq, Eq, Error)]
+#[derive(Clone, Copy, Debug, Error)]
 pub enum ReadAllFault {
     /// A call on the shelf failed.
     #[error("a read failed")]

@@ -3,7 +3,7 @@
 use std::alloc::AllocError;
 
 /// Why a layer has no noded table: its segments have too many pieces together, or there was no memory.
-#[derive(Clone, Copy, PartialEq, Eq, Debug, Drop)]
+#[derive(Clone, Copy, Drop)]
 pub enum NodeFault {
     ManyPieces,
     NoMemory,

@@ -13,7 +13,7 @@ use loc_spec_plane::Mark;
 use std::alloc::{AllocError, Global};
 
 /// What becomes of a feature in a pass: it is kept, it waits for a later pass, or it conflicts with itself.
-#[derive(Clone, Copy, PartialEq, Eq, Debug)]
+#[derive(Clone, Copy, PartialEq, Eq)]
 pub(crate) enum Fate {
     Kept,
     Later,
@@ -39,7 +39,10 @@ fn are_in_conflict(table: &EdgeTable, first: u32, second: u32) -> bool
     requires first { first < length table.now.ends }
     requires second { second < length table.now.ends }
 {
-    conflict(table.edge(first), table.edge(second)) != Meeting::Apart
+    !matches!(
+        conflict(table.edge(first), table.edge(second)),
+        Meeting::Apart
+    )
 }
 
 // Whether marks, which rise by their features, name a feature.

@@ -9,7 +9,7 @@ use std::cmp::Ordering;
 use std::sync::ledger::Ledger;
 
 /// Where a point stands among the corners, which are in order: on one of them, or behind so many of them and before the others.
-#[derive(Clone, Copy, PartialEq, Eq, Debug)]
+#[derive(Clone, Copy)]
 pub enum Standing {
     OnCorner(u32),
     Behind(u32),

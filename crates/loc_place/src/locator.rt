@@ -12,7 +12,7 @@ use loc_spec_plane::Place;
 use std::sync::ledger::Ledger;
 
 /// A search that was given up: its path through this version is longer than any that a true index has.
-#[derive(Clone, Copy, PartialEq, Eq, Debug)]
+#[derive(Clone, Copy)]
 pub struct Deep {
     pub version: u32,
 }

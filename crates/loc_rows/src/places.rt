@@ -98,11 +98,8 @@ fn expect<I: Locator, L: Ledger>(
     let mut steps = Steps::<L>::new(blank);
     for (x, y, place) in wanted.iter().copied() {
         let p = point_of(x, y)?;
-        assert_eq!(rt;
-            index.locate(&views, p, &mut steps),
-            Ok(place),
-            "at {x} {y}"
-        );
+        let found = index.locate(&views, p, &mut steps);
+        assert!(rt; matches!(found, Ok(found) if found == place), "at {x} {y}");
     }
     Ok(())
 }
@@ -134,6 +131,6 @@ fn touch_by_hand(rt: HostRuntime) -> Result<(), Fail> {
     else {
         return Err(Fail::new("no edges that conflict"));
     };
-    assert_eq!(rt; (a, b, meeting), (3, 4, Meeting::Touch));
+    assert!(rt; matches!((a, b, meeting), (3, 4, Meeting::Touch)));
     Ok(())
 }

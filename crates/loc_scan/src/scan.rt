@@ -14,7 +14,7 @@ use std::sync::ledger::Ledger;
 
 /// The index that keeps nothing of a table: it looks at the corners and then at the edges, one after another, each at most once. It
 /// stands for every table whose rows are in order and of which no two edges conflict.
-#[derive(Clone, Copy, Debug)]
+#[derive(Clone, Copy)]
 pub struct Scan;
 
 impl Locator for Scan {

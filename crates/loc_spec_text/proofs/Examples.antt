@@ -50,6 +50,9 @@ exponent_number = refl
 no_number : (is_number (codes ".") ≡ false) × (is_number (codes "1e") ≡ false) × (is_number (codes "1.2.3") ≡ false) × (is_number (codes "+-1") ≡ false) × (is_number (codes "") ≡ false) × (is_number (codes "1e+-5") ≡ false) × (is_number (codes "e5") ≡ false)
 no_number = (refl, refl, refl, refl, refl, refl, refl)
 
+no_number_either : (is_number (codes "+") ≡ false) × (is_number (codes "-.") ≡ false) × (is_number (codes "1e+") ≡ false) × (is_number (codes "1-2") ≡ false) × (is_number (codes "--1") ≡ false) × (is_number (codes "1e5.0") ≡ false) × (is_number (codes "1e5e5") ≡ false) × (is_number (codes " 1") ≡ false) × (is_number (codes "1 ") ≡ false) × (is_number (codes "1,5") ≡ false) × (is_number (codes "0x10") ≡ false)
+no_number_either = (refl, refl, refl, refl, refl, refl, refl, refl, refl, refl, refl)
+
 -- values on a grid
 ten_tenths : (is_on_grid 0 (codes "10e-1") ≡ true) × (grid_value 0 (codes "10e-1") ≡ pos 1)
 unfolding scaled unit

@@ -30,6 +30,10 @@ printed : (grid_text 1 (negsuc 4) ≡ codes "-0.5") × (grid_text 1 (pos 40) ≡
 unfolding digits
 printed = (refl, refl, refl, refl)
 
+printed_too : (grid_text 0 (negsuc 6) ≡ codes "-7") × (grid_text 3 (pos 0) ≡ codes "0.000") × (grid_text 15 (negsuc 0) ≡ codes "-0.000000000000001") × (grid_text 15 (pos 1000000000000000000) ≡ codes "1000.000000000000000") × (grid_text 0 (negsuc 999999999999999999) ≡ codes "-1000000000000000000")
+unfolding digits
+printed_too = (refl, refl, refl, refl, refl)
+
 one : List ℕ
 one = codes "1"
 

@@ -19,7 +19,7 @@ pub use limits::{
 pub use scale::Scale;
 
 /// What is wrong with a geometry text. Numbers and rings are counted from 1 through the text.
-#[derive(Clone, Copy, PartialEq, Eq, Debug, Drop)]
+#[derive(Clone, Copy, Debug, Drop)]
 pub enum TextFault {
     Syntax,
     Tag,
@@ -33,7 +33,7 @@ pub enum TextFault {
 }
 
 /// The forms of a layer text: a geometry text a line, or records whose columns have names.
-#[derive(Clone, Copy, PartialEq, Eq, Debug, Drop)]
+#[derive(Clone, Copy, Drop)]
 pub enum Form {
     Lines,
     Csv,

@@ -6,7 +6,7 @@ ghost use Rattle.loc_spec_text.specs.Limits.{most_scale};
 use std::marker::Model;
 
 /// A scale of 0 to 15, seen as a number.
-#[derive(Clone, Copy, Debug, PartialEq, Eq, Drop)]
+#[derive(Clone, Copy, Drop)]
 pub struct Scale {
     decimals: u8,
 }

@@ -12,14 +12,14 @@ use loc_edges::Ranks;
 use std::alloc::AllocError;
 
 /// Why an edge was not inserted: it hits an edge of the list, or there was no memory.
-#[derive(Clone, Copy, PartialEq, Eq, Debug, Drop)]
+#[derive(Clone, Copy, Drop)]
 pub enum InsertFault {
     Hits { edge: u32 },
     NoMemory,
 }
 
 /// The edges just below and just above one of a list, or none where it is the lowest or the highest.
-#[derive(Clone, Copy, PartialEq, Eq, Debug, Drop)]
+#[derive(Clone, Copy, Drop)]
 pub struct Beside {
     pub below: Option<u32>,
     pub above: Option<u32>,

@@ -4,7 +4,7 @@ use loc_geom::Meeting;
 use std::alloc::AllocError;
 
 /// Why a sweep stops: edges a and b conflict, of which a has the lesser number, or there was no memory.
-#[derive(Clone, Copy, PartialEq, Eq, Debug, Drop)]
+#[derive(Clone, Copy, Drop)]
 pub enum SweepFault {
     Conflict { a: u32, b: u32, meeting: Meeting },
     NoMemory,

@@ -2,7 +2,7 @@
 use Rattle.std.proofs.Common.{◌≡◌, ◌≢◌, ◌⊎◌, ℕ, ◌≤◌, ap, Option, Some, None, refl, sym, ◌∙◌, subst, inl, inr, arith}
 use Rattle.std.specs.Prelude.{IfSome, option_and_then, option_map}
 use Rattle.loc_spec_text.specs.Bytes.{Text}
-use Rattle.loc_io.specs.Meaning.{KeepsFiles}
+use Rattle.loc_io.specs.Meaning.{KeepsFiles, Meaning}
 use Rattle.loc_io.specs.Streams.{InTime, Stream}
 use Rattle.loc_words.specs.Words.{Asked, query, features, check, build, ask, verify, face, gen, trial, upgrade, edges, stab, valid, dissolve}
 use Rattle.loc_course.specs.Courses.{Course, no_memory}
@@ -25,7 +25,7 @@ use Rattle.loc_reach.proofs.Plainly.{stab_plain}
 use Rattle.loc_trial.proofs.Plain.{gen_plain, trial_plain}
 use Rattle.loc_upgrade.specs.UpgradeCourses.{upgrade_course}
 use Rattle.loc_upgrade.proofs.Along.{edges_plain, upgrade_at_once, upgrade_makes_one}
-use Rattle.loc_top.specs.Run.{FilesOf, OutOf, Ran, RefusesPoints, RefusesWords, RunSentences, WritesFail, course_by, file_of, made_by}
+use Rattle.loc_top.specs.Run.{BesideCourse, FilesOf, OutOf, Ran, RefusesPoints, RefusesWords, RunSentences, WritesFail, course_by, file_of, made_by}
 
 -- a command makes no file but this, and by these lines alone it refuses a file whose lines it answers
 pub record IsAnswering (made : Option Text) (c : Course) : Type 0 where
@@ -191,3 +191,7 @@ module _ (old new : Moment) (n n' : Stream) (status : ℕ) where
           notes = notes_of o ran;
           notes_in_time = late;
         }
+
+-- what holds beside the course of the command that the words are
+pub beside_of : (found : Option Asked) (asked : Asked) (old new : Meaning) (status : ℕ) → IfSome found (λ a. BesideCourse a old new status) → found ≡ Some asked → BesideCourse asked old new status
+beside_of found asked old new status holds is = subst (λ f. IfSome f (λ a. BesideCourse a old new status)) is holds

@@ -2,15 +2,16 @@
 --   file_of               the file of a layer that a command names
 --   course_by, course_of  the course of a command, and of words that are one
 --   made_by               the file that a command makes
+--   BesideCourse          what holds of the files of a command beside its course
 --   Untouched, Ran        what a run of words comes to
 --   RefusesWords          words that are no command
 --   OutOf                 what stands on out
 --   AWriteFailed, WritesFail  when a write failed
 --   FilesOf               which files change
 --   OfCourse, RunSentences  what holds of the course of the words, and all that holds of a run by its words
-use Rattle.std.specs.Prelude.{◌≡◌, ◌≢◌, ◌⊎◌, ℕ, ◌-◌, ◌^◌, ◌<◌, true, List, Option, Some, None, IfSome, option_and_then, option_map, codes}
+use Rattle.std.specs.Prelude.{◌≡◌, ◌≢◌, ◌⊎◌, ℕ, ◌-◌, ◌^◌, ◌<◌, ⊤, true, List, Option, Some, None, IfSome, option_and_then, option_map, codes}
 use Rattle.loc_spec_text.specs.Bytes.{Text}
-use Rattle.loc_io.specs.Meaning.{KeepsFiles}
+use Rattle.loc_io.specs.Meaning.{KeepsFiles, Meaning}
 use Rattle.loc_io.specs.Streams.{InTime, Stream}
 use Rattle.loc_spec_text.specs.Points.{ended}
 use Rattle.loc_words.specs.Usage.{usage_text}
@@ -22,7 +23,9 @@ use Rattle.loc_course.specs.Outcomes.{outcome}
 use Rattle.loc_course.specs.Sentences.{AtOnce, Counts, Done, Ended, InTimes, Misses, Names, NoCountRose, Notes, OutSo, ReadsFail, RefusedOnly, Refuses, RefusesPartly, Succeeds, Wrote, note_of}
 use Rattle.loc_answering.specs.ByLine.{deep_text}
 use Rattle.loc_indexed.specs.Building.{build_course}
+use Rattle.loc_indexed.specs.Builds.{Built}
 use Rattle.loc_indexed.specs.IndexedCourses.{ask_course}
+use Rattle.loc_indexed.specs.Verifies.{Judged}
 use Rattle.loc_indexed.specs.Verifying.{verify_course}
 use Rattle.loc_maps.specs.MapCourses.{LayerFile, check_course, layer_file}
 use Rattle.loc_query.specs.QueryCourses.{query_course}
@@ -32,7 +35,9 @@ use Rattle.loc_breaches.specs.BreachCourses.{valid_course}
 use Rattle.loc_groups.specs.GroupCourses.{dissolve_course}
 use Rattle.loc_reach.specs.SpanCourses.{stab_course}
 use Rattle.loc_trial.specs.TrialCourses.{gen_course, trial_course}
+use Rattle.loc_upgrade.specs.TellsEdges.{Listed}
 use Rattle.loc_upgrade.specs.UpgradeCourses.{edges_course, upgrade_course}
+use Rattle.loc_upgrade.specs.Upgrades.{Upgraded}
 
 -- the file of a layer that a command names
 abbrev pub file_of : AskedLayer → LayerFile
@@ -60,6 +65,14 @@ abbrev pub made_by : Asked → Option Text
 made_by (build asked) = Some asked.index
 made_by (upgrade asked) = Some asked.new
 made_by other = None
+
+-- what holds of the files of a command beside its course
+abbrev pub BesideCourse : Asked → Meaning → Meaning → ℕ → Type 0
+BesideCourse (build asked) old new status = Built (file_of asked.layer) asked.index old new status
+BesideCourse (verify asked) old new status = Judged (old.told asked.index) status
+BesideCourse (upgrade asked) old new status = Upgraded asked.old asked.new old new status
+BesideCourse (edges asked) old new status = Listed (old.told asked.index) status
+BesideCourse other old new status = ⊤
 
 -- the course of the words, if they are a command
 abbrev pub course_of : List Text → Option Course

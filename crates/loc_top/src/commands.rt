@@ -1,17 +1,13 @@
 // What each command does.
 
-ghost use Rattle.std.specs.Prelude.{◌≡◌, ◌≤◌};
-ghost use Rattle.loc_words.specs.Words.{AskedBuild, AskedEdges, AskedUpgrade, AskedVerify, HasScale, asked_by, build, edges, upgrade, verify};
+ghost use Rattle.std.specs.Prelude.{◌≤◌};
+ghost use Rattle.loc_words.specs.Words.{HasScale, asked_by};
 ghost use Rattle.loc_words.specs.declared.command.Command.TheVariants as by;
 ghost use Rattle.loc_course.specs.Following.{Follows};
 ghost use Rattle.loc_course.specs.Moments.{moment};
 ghost use Rattle.loc_course.specs.Sentences.{status_of};
 ghost use Rattle.loc_course.specs.Stops.{end_of};
-ghost use Rattle.loc_indexed.specs.Builds.{Built};
-ghost use Rattle.loc_indexed.specs.Verifies.{Judged};
-ghost use Rattle.loc_upgrade.specs.TellsEdges.{Listed};
-ghost use Rattle.loc_upgrade.specs.Upgrades.{Upgraded};
-ghost use Rattle.loc_top.specs.Run.{course_by, file_of};
+ghost use Rattle.loc_top.specs.Run.{BesideCourse, course_by};
 
 use loc_breaches::valid;
 use loc_course::Stop;
@@ -72,10 +68,7 @@ pub(crate) fn run_command<F: Shelf, O: Sink, L: Ledger>(
     ensures follows { Follows (course_by (asked_by command.entry))
         (moment (F.meaning shelf.old) (O.meaning out.old) steps.old)
         (moment (F.meaning shelf.new) (O.meaning out.new) steps.new) (end_of result) }
-    ensures built { (asked : AskedBuild) → asked_by command.entry ≡ build asked → Built (file_of asked.layer) asked.index (F.meaning shelf.old) (F.meaning shelf.new) (status_of (end_of result)) }
-    ensures judged { (asked : AskedVerify) → asked_by command.entry ≡ verify asked → Judged ((F.meaning shelf.old).told asked.index) (status_of (end_of result)) }
-    ensures upgraded { (asked : AskedUpgrade) → asked_by command.entry ≡ upgrade asked → Upgraded asked.old asked.new (F.meaning shelf.old) (F.meaning shelf.new) (status_of (end_of result)) }
-    ensures listed { (asked : AskedEdges) → asked_by command.entry ≡ edges asked → Listed ((F.meaning shelf.old).told asked.index) (status_of (end_of result)) }
+    ensures beside { BesideCourse (asked_by command.entry) (F.meaning shelf.old) (F.meaning shelf.new) (status_of (end_of result)) }
 {
     match command {
         Command::Query(asked) => run_query(alloc, asked, shelf, out, steps),

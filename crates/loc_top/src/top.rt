@@ -1,6 +1,6 @@
 //! The top call: the words, the command, the status and the line on notes.
 
-ghost use Rattle.std.specs.Prelude.{◌≡◌, ◌≤◌, Some, map, string_bytes};
+ghost use Rattle.std.specs.Prelude.{◌≡◌, ◌≤◌, Some, IfSome, map, string_bytes};
 ghost use Rattle.loc_io.specs.Streams.{InTime};
 ghost use Rattle.loc_words.specs.Words.{AskedAsk, AskedBuild, AskedEdges, AskedFeatures, AskedLayer, AskedQuery, AskedStab, AskedUpgrade, AskedVerify, ask, build, command_of, dissolve, edges, features, query, stab, upgrade, valid, verify};
 ghost use Rattle.loc_breaches.specs.Judges.{Judges};
@@ -8,13 +8,13 @@ ghost use Rattle.loc_course.specs.Moments.{moment};
 ghost use Rattle.loc_features.specs.FeaturesTold.{FeaturesTold};
 ghost use Rattle.loc_groups.specs.Dissolves.{Dissolves};
 ghost use Rattle.loc_indexed.specs.Asks.{Asks};
-ghost use Rattle.loc_indexed.specs.Builds.{Builds, Built};
-ghost use Rattle.loc_indexed.specs.Verifies.{Judged, Verifies};
+ghost use Rattle.loc_indexed.specs.Builds.{Builds};
+ghost use Rattle.loc_indexed.specs.Verifies.{Verifies};
 ghost use Rattle.loc_query.specs.Headline.{Headline};
 ghost use Rattle.loc_reach.specs.Stabs.{Stabs};
-ghost use Rattle.loc_upgrade.specs.TellsEdges.{Listed, TellsEdges};
-ghost use Rattle.loc_upgrade.specs.Upgrades.{Upgraded, Upgrades};
-ghost use Rattle.loc_top.specs.Run.{FilesOf, Ran, RefusesWords, RunSentences, course_of, file_of};
+ghost use Rattle.loc_upgrade.specs.TellsEdges.{TellsEdges};
+ghost use Rattle.loc_upgrade.specs.Upgrades.{Upgrades};
+ghost use Rattle.loc_top.specs.Run.{BesideCourse, FilesOf, Ran, RefusesWords, RunSentences, course_of, file_of};
 
 use crate::commands::run_command;
 use loc_course::{Stop, report, write_text};
@@ -36,10 +36,7 @@ fn run_course<F: Shelf, O: Sink, N: Sink, L: Ledger>(
     ensures ran { Ran (course_of (map string_bytes words.now))
         (moment (F.meaning shelf.old) (O.meaning out.old) steps.old)
         (moment (F.meaning shelf.new) (O.meaning out.new) steps.new) (N.meaning notes.old) (N.meaning notes.new) result }
-    ensures built { (asked : AskedBuild) → command_of (map string_bytes words.now) ≡ Some (build asked) → Built (file_of asked.layer) asked.index (F.meaning shelf.old) (F.meaning shelf.new) result }
-    ensures judged { (asked : AskedVerify) → command_of (map string_bytes words.now) ≡ Some (verify asked) → Judged ((F.meaning shelf.old).told asked.index) result }
-    ensures upgraded { (asked : AskedUpgrade) → command_of (map string_bytes words.now) ≡ Some (upgrade asked) → Upgraded asked.old asked.new (F.meaning shelf.old) (F.meaning shelf.new) result }
-    ensures listed { (asked : AskedEdges) → command_of (map string_bytes words.now) ≡ Some (edges asked) → Listed ((F.meaning shelf.old).told asked.index) result }
+    ensures beside { IfSome (command_of (map string_bytes words.now)) (λ asked. BesideCourse asked (F.meaning shelf.old) (F.meaning shelf.new) result) }
     ensures notes_in_time { InTime (N.meaning notes.old) (N.meaning notes.new) }
 {
     match command_of(alloc, words) {

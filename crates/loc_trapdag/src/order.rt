@@ -15,19 +15,19 @@ use thiserror::Error;
 
 /// Why a text is no order. A line that is no number stands before one that is out of range, and that before one whose edge an earlier
 /// line has. Where no line is at fault, the least edge that no line has is missing.
-#[derive(Clone, Copy, PartialEq, Eq, Debug, Drop, Error)]
+#[derive(Clone, Copy, Debug, Drop, Error)]
 pub enum OrderFault {
     /// The line is not 1 to 20 digits with white space around.
-    #[error("line {line}: not a number")]
+    #[error("a line is not a number")]
     NotNumber { line: u32 },
     /// There is no edge of this number.
-    #[error("line {line}: out of range")]
+    #[error("a line is out of range")]
     OutOfRange { line: u32 },
     /// An earlier line has the edge.
-    #[error("line {line}: edge of line {earlier} again")]
+    #[error("a line has the edge of an earlier one")]
     Twice { line: u32, earlier: u32 },
     /// No line has the edge.
-    #[error("edge {edge} missing")]
+    #[error("an edge is missing")]
     Missing { edge: u32 },
     /// No memory was found for the order. It says nothing of the text.
     #[error("out of memory")]

@@ -22,7 +22,7 @@ use std::marker::Model;
 
 /// What took the place of a trapezoid that an edge cut: the parts before and behind the edge, where there are any, and the pieces
 /// above and below it, each by number.
-#[derive(Clone, Copy, PartialEq, Eq, Debug)]
+#[derive(Clone, Copy)]
 pub struct Split {
     pub cut: usize,
     pub before: Option<usize>,

@@ -3,7 +3,7 @@
 use loc_geom::{Edge, Point};
 
 /// The first breach of a feature. Rings and polygons count from 1 through the feature.
-#[derive(Clone, Copy, PartialEq, Eq, Debug, Drop)]
+#[derive(Clone, Copy, Drop)]
 pub enum Breach {
     /// The ring has no segment.
     PointRing { ring: u32 },

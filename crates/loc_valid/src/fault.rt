@@ -4,7 +4,7 @@ use std::alloc::AllocError;
 
 /// Why a feature is not judged: its segments have too many pieces together, its distinct cover lists are too long together, or there was no
 /// memory.
-#[derive(Clone, Copy, PartialEq, Eq, Debug, Drop)]
+#[derive(Clone, Copy, Drop)]
 pub enum ValidFault {
     ManyPieces,
     ManyCovers,

@@ -8,7 +8,7 @@ use crate::lists::{first_from, is_among};
 use loc_rings::Rings;
 
 /// How a hole is misplaced.
-#[derive(Clone, Copy, Debug, PartialEq, Eq, Drop)]
+#[derive(Clone, Copy, Drop)]
 pub(crate) enum Fault {
     /// It is outside the exterior of its polygon.
     Outside,

@@ -6,7 +6,7 @@ ghost use Rattle.loc_spec_plane.specs.Tables.{pair_before};
 ghost use Rattle.loc_valid.specs.Hits.{AreLeast, lesser_of, other_than, turned_by};
 
 /// The two least of some numbers, as far as there are two.
-#[derive(Clone, Copy, PartialEq, Eq, Debug, Drop)]
+#[derive(Clone, Copy, Drop)]
 pub(crate) enum Least {
     Zero,
     One(u32),

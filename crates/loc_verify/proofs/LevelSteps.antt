@@ -1,9 +1,9 @@
 -- The nodes of a version, level by level.
-use Rattle.std.proofs.Common.{◌≡◌, ◌≢◌, ℕ, zero, suc, ◌+◌, ◌<◌, ◌≤◌, Bool, true, false, List, [], ◌∷◌, ◌++◌, length, get_or, set, take, refl, sym, ◌∙◌, ap, inl, inr, arith, length-append}
+use Rattle.std.proofs.Common.{◌≡◌, ◌≢◌, ℕ, zero, suc, ◌+◌, ◌<◌, ◌≤◌, Bool, true, false, List, [], ◌∷◌, ◌++◌, length, get_or, replicate, set, take, refl, sym, ◌∙◌, ap, subst, inl, inr, arith, length-append}
 use Rattle.std.specs.Prelude.{IsTrue, ◌⊎◌, ◌↔◌}
-use Rattle.std.proofs.lemmas.Bool.{cases_eq, true≢false}
+use Rattle.std.proofs.lemmas.Bool.{cases_eq, cases_lt, true≢false}
 use Rattle.std.proofs.lemmas.Grind.{get_or-set_at}
-use Rattle.std.proofs.lemmas.List.{get_or-set_other, length-set}
+use Rattle.std.proofs.lemmas.List.{get_or-replicate, get_or-set_other, get_or_past, length-replicate, length-set}
 use Rattle.loc_spec_index.specs.declared.NodeRow.{NodeRow}
 use Rattle.loc_spec_index.specs.Nodes.{Side, Left, Right, child_of, led_to}
 use Rattle.loc_verify.proofs.Following.{leads_nowhere, led_by}
@@ -16,6 +16,14 @@ set_flag flags i m fits h = elim (cases_eq m i) [ inl same ↦ inl same | inr ot
 stays_set : (flags : List Bool) (i m : ℕ) → i < length flags → get_or flags m false ≡ true → get_or (set flags i true) m false ≡ true
 stays_set flags i m fits h = elim (cases_eq m i) [ inl same ↦ get_or-set_at flags i m true false same fits | inr other ↦ get_or-set_other flags i m true false other ∙ h ]
 
+-- where no flag is set
+pub none_set : (flags : List Bool) (k m : ℕ) → flags ≡ replicate k false → get_or flags m false ≡ false
+none_set flags k m is = ap (λ fs. get_or fs m false) is ∙ elim (cases_lt m k) [ inl less ↦ get_or-replicate k m false false less | inr past ↦ get_or_past (replicate k false) m false (subst (λ n. n ≤ m) (sym (length-replicate k false)) past) ]
+
+-- a flag that is set is within the list
+pub flag_within : (flags : List Bool) (m : ℕ) → get_or flags m false ≡ true → m < length flags
+flag_within flags m h = elim (cases_lt m (length flags)) [ inl less ↦ less | inr past ↦ absurd (true≢false (sym h ∙ get_or_past flags m false past)) ]
+
 module _ (rows : List NodeRow) (version : ℕ) where
   -- ---- one level from the one before
   module _ (level : List Bool) where
@@ -26,6 +34,23 @@ module _ (rows : List NodeRow) (version : ℕ) where
     pub record AreChildrenTo (k : ℕ) (next : List Bool) : Type 0 where
       pub as_many : length next ≡ length rows + 1
       pub exact : (m : ℕ) → m ≢ 0 → IsTrue (get_or next m false) ↔ IsChildTo k m
+
+    -- none before the first node
+    pub children_none : (k : ℕ) (next : List Bool) → k ≡ length rows + 1 → next ≡ replicate k false → AreChildrenTo 1 next
+    children_none k next size is = record {
+      as_many = ap length is ∙ (length-replicate k false ∙ size);
+      exact = λ m there. (λ h. absurd (true≢false (sym h ∙ none_set next k m is)), λ child. absurd (child.2 (let less = child.3 in omega (arith, less))));
+    }
+
+    -- those of all nodes
+    pub children_all : (k : ℕ) (next : List Bool) → length level ≡ length rows + 1 → length rows < k → AreChildrenTo k next → IsNextLevel rows version level next
+    children_all k next size end all = record {
+      as_many = all.as_many ∙ sym size;
+      exact = λ m there. (
+        λ h. (let c = (all.exact m there).0 h in (c.0, c.1, c.2, c.4, c.5)),
+        λ child. (all.exact m there).1 (child.0, child.1, child.2, (let less = flag_within level child.0 child.3 in omega (arith, less, size, end)), child.3, child.4),
+      );
+    }
 
     -- the children of one node more
     pub children_more : (k l r : ℕ) (next : List Bool) → k ≢ 0 → get_or level k false ≡ true → l ≤ length rows → r ≤ length rows → l ≡ child_of rows version k Left → r ≡ child_of rows version k Right
@@ -111,6 +136,26 @@ module _ (rows : List NodeRow) (version : ℕ) where
   last_of (s ∷ r ∷ sides) (suc k) size = let l = last_of (r ∷ sides) k (omega (arith, size)) in record { front = s ∷ l.front; side = l.side; whole = ap (λ xs. s ∷ xs) l.whole; count = ap suc l.count }
 
   module _ (root : ℕ) where
+    no_turn : {m : ℕ} (sides : List Side) → length sides ≡ 0 → led_to rows version root sides ≡ m → m ≡ root
+    no_turn [] size is = sym is
+    no_turn (s ∷ sides) size is = absurd (omega (arith, size))
+
+    -- no turn
+    pub reached_none : (k : ℕ) (flags : List Bool) → k ≡ length rows + 1 → root ≤ length rows → flags ≡ replicate k false → AreReached rows version root 0 (set flags root true)
+    reached_none k flags size fits is = record {
+      as_many = length-set flags root true ∙ many;
+      exact = λ m there. (
+        λ h. elim (set_flag flags root m in_flags h) [ inl same ↦ ([], refl, sym same) | inr old ↦ absurd (true≢false (sym old ∙ none_set flags k m is)) ],
+        λ path. get_or-set_at flags root m true false (no_turn path.0 path.1 path.2) in_flags,
+      );
+    }
+      where
+        many : length flags ≡ length rows + 1
+        many = ap length is ∙ (length-replicate k false ∙ size)
+
+        in_flags : root < length flags
+        in_flags = omega (arith, many, fits)
+
     -- one turn more
     pub reached_more : (turns : ℕ) (flags next : List Bool) → AreReached rows version root turns flags → IsNextLevel rows version flags next → AreReached rows version root (turns + 1) next
     reached_more turns flags next reached step = record {

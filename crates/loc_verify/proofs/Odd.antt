@@ -1,19 +1,19 @@
 -- How often a number stands in a list, odd or even; and how many of the edges at a corner a feature marks odd.
 use Rattle.std.proofs.Common.{◌≡◌, ℕ, zero, suc, ◌+◌, ◌-◌, ◌<◌, ◌≤◌, Bool, true, false, not, ◌&&◌, ◌||◌, List, [], ◌∷◌, ◌++◌, length, get_or, take, filter, refl, sym, ◌∙◌, ap, subst, inl, inr, arith, cond}
-use Rattle.std.specs.Prelude.{Option, Some, None, count_by, ◌==◌}
+use Rattle.std.specs.Prelude.{Option, Some, None, IsTrue, count_by, ◌==◌}
 use Rattle.std.specs.List.{list_all, range_with_len}
 use Rattle.std.specs.List.Sorted.{IsPermutation}
-use Rattle.std.proofs.lemmas.Bool.{and_left, and_parts, cases_Bool, cond-false, cond-true, eq-eqb, eqb-true, ltb-true, ne_eqb, or_from}
+use Rattle.std.proofs.lemmas.Bool.{and_left, and_parts, cases_Bool, cases_eq, cond-false, cond-true, eq-eqb, eqb-true, ltb-true, ne_eqb, or_from}
 use Rattle.std.proofs.lemmas.List.Sorted.{sum_by-IsPermutation}
 use Rattle.std.proofs.lemmas.List.Sums.{sum_by-append}
 use Rattle.loc_spec_plane.specs.declared.Mark.{Mark}
 use Rattle.loc_spec_plane.specs.Lists.{exactly_one, is_rising, odd_many}
-use Rattle.loc_spec_plane.specs.Tables.{Table, IsTable, edge_numbers, ends_at, has_odd, hi_of, lo_of, mark_before}
+use Rattle.loc_spec_plane.specs.Tables.{Table, IsEvenAt, IsTable, edge_numbers, ends_at, has_odd, hi_of, lo_of, mark_before}
 use Rattle.loc_laws_rays.proofs.Parity.{exactly_one_assoc, exactly_one_comm, exactly_one-false, exactly_one_same, never, odd_many-append, odd_many-exactly_one, odd_many-take_more}
 use Rattle.loc_laws_order.proofs.Booleans.{and_true}
 use Rattle.loc_cover.specs.Exchanges.{is_marked_odd}
 use Rattle.loc_edges.specs.Ending.{IsBeginning}
-use Rattle.loc_verify.specs.Least.{IsLeastOdd, has_odd_from, is_odd_at, is_odd_in}
+use Rattle.loc_verify.specs.Least.{IsLeastOdd, IsLeastUneven, has_odd_from, is_odd_at, is_odd_in}
 
 -- ---- of marks in order an odd one of a feature is the only one
 abbrev pub is_of : ℕ → Mark → Bool
@@ -184,3 +184,16 @@ least_found row i last odd less = (
 pub least_left : (row : List ℕ) (odd : Option ℕ) → ((f : ℕ) → is_odd_in f row ≡ is_it odd f) → IsLeastOdd row odd
 least_left row None odd = odd
 least_left row (Some g) odd = (odd g ∙ eq-eqb g g refl, λ f below. odd f ∙ ne_eqb g f (λ same. omega (arith, same, below)))
+
+-- ---- corners by the numbers that stand an odd number of times in a row
+module _ (t : Table) (corner : ℕ) (row : List ℕ) (is : (f : ℕ) → is_odd_in f row ≡ is_odd_at t corner f) (before : (m : ℕ) → m < corner → IsEvenAt t m) where
+  -- the first with one
+  pub uneven_there : (f : ℕ) → corner < length t.corners → IsLeastOdd row (Some f) → IsLeastUneven t (Some (corner, f))
+  uneven_there f fits least = (fits, sym (is f) ∙ least.0, (λ g less. sym (is g) ∙ least.1 g less), before)
+
+  -- one with none
+  pub even_there : IsLeastOdd row None → (m : ℕ) → m < corner + 1 → IsEvenAt t m
+  even_there none m less = elim (cases_eq m corner) [
+    | inl same ↦ (λ f. subst (λ k. IsTrue (not (is_odd_at t k f))) (sym same) (ap not (sym (is f) ∙ none f)))
+    | inr other ↦ before m (omega (arith, less, other))
+  ]

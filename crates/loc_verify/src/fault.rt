@@ -7,37 +7,37 @@ use std::alloc::AllocError;
 use thiserror::Error;
 
 /// The first flaw of an index: corners, edges, features, lists and versions go by number, and so does the position in a list, all from 0.
-#[derive(Clone, Copy, PartialEq, Eq, Debug, Drop, Error)]
+#[derive(Clone, Copy, Debug, Drop, Error)]
 pub enum VerifyFault {
     /// The corner is the end of no edge.
-    #[error("corner {corner} lone")]
+    #[error("a corner is the end of no edge")]
     Lone { corner: u32 },
     /// The edge has no mark.
-    #[error("edge {edge} bare")]
+    #[error("an edge has no mark")]
     Bare { edge: u32 },
     /// The feature marks an odd number of the edges at the corner odd.
-    #[error("feature {feature} uneven at corner {corner}")]
+    #[error("a feature marks an odd number of the edges at a corner")]
     Uneven { corner: u32, feature: u32 },
     /// The two edges conflict, of which a has the lesser number.
-    #[error("edges {a} and {b} conflict")]
+    #[error("two edges conflict")]
     Conflict { a: u32, b: u32, meeting: Meeting },
     /// The stored floor is not that of the corner.
-    #[error("floor of corner {corner}")]
+    #[error("a stored floor is not that of its corner")]
     WrongFloor { corner: u32 },
     /// The list that the edge names is not the one above it.
-    #[error("cover of edge {edge}")]
+    #[error("an edge names another list than the one above it")]
     WrongCover { edge: u32 },
     /// No edge names the list.
-    #[error("list {list} spare")]
+    #[error("no edge names a list")]
     SpareCover { list: u32 },
     /// An end of the edge is not on the segment of its source.
-    #[error("source of edge {edge}")]
+    #[error("an end of an edge is not on the segment of its source")]
     WrongSource { edge: u32 },
     /// A path of the version has too many nodes for the edges alive there.
-    #[error("version {version} deep")]
+    #[error("a path of a version has too many nodes")]
     Deep { version: u32 },
     /// The version is read otherwise than the list at its corner, from this position on.
-    #[error("version {version} wrong at {position}")]
+    #[error("a version is read otherwise than the list at its corner")]
     WrongList { version: u32, position: u32 },
     /// Memory was wanting. It says nothing of the index.
     #[error("out of memory")]

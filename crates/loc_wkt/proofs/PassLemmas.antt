@@ -1,8 +1,8 @@
 -- What is kept of numbers, points and rings as they are read.
 use Rattle.std.proofs.Common.{◌≡◌, ℕ, ◌+◌, ◌-◌, ◌++◌, map, not, get_or, ltb, length-append, List, [], ◌∷◌, Bool, true, false, Option, Some, None, option_map, refl, sym, ◌∙◌, ap, ap₂, length, ◌<◌, ◌≤◌, ◌^◌, ℤ, subst, arith}
-use Rattle.std.specs.Prelude.{if◌then◌else◌, is_none, IfErr, IfOk, IsErrAnd, OnOk, Result, Ok, Err}
+use Rattle.std.specs.Prelude.{if◌then◌else◌, is_none, is_err, IfErr, IfOk, IsErrAnd, OnOk, Result, Ok, Err}
 use Rattle.std.specs.List.{fold}
-use Rattle.std.proofs.lemmas.Bool.{le-ltb}
+use Rattle.std.proofs.lemmas.Bool.{le-ltb, lt-ltb, true≢false}
 use Rattle.std.proofs.lemmas.List.{get_or_default}
 use Rattle.std.proofs.lemmas.Result.{err_from_is_err_and}
 use Rattle.std.proofs.lemmas.Option.{some_pair_parts}
@@ -152,6 +152,51 @@ ring_open n [] p q long e f g = absurd (omega arith)
 ring_open n (x ∷ xs) p q long e f g =
     let last : get_or (x ∷ xs) (length (x ∷ xs) - 1) q ≡ get_or (x ∷ xs) (length xs) x = get_or_default (x ∷ xs) (length (x ∷ xs) - 1) q x (omega arith) ∙ ap (λ i. get_or (x ∷ xs) i x) (let i : length (x ∷ xs) - 1 ≡ length xs = omega arith in i) in
     fault_by n (ltb (length (x ∷ xs)) 4) (same_point x (get_or (x ∷ xs) (length xs) x)) (le-ltb (length (x ∷ xs)) 4 long) (ap₂ same_point (sym e) (sym (f ∙ last)) ∙ g)
+
+short_by : (n : ℕ) (a b : Bool) → a ≡ true → Some (RingShort n) ≡ option_map (λ (f : ℕ → TextFault). f n) (if a then Some RingShort else if not b then Some RingOpen else None)
+short_by n true b h = refl
+short_by n false b h = absurd (cc)
+
+-- fewer than four points
+pub ring_short : (n : ℕ) (points : List Point) → length points < 4 → Some (RingShort n) ≡ option_map (λ (f : ℕ → TextFault). f n) (ring_fault points)
+ring_short n [] few = refl
+ring_short n (x ∷ xs) few = short_by n (ltb (length (x ∷ xs)) 4) _ (lt-ltb (length (x ∷ xs)) 4 few)
+
+closed_by : (n : ℕ) (a b : Bool) → a ≡ false → b ≡ true → None ≡ option_map (λ (f : ℕ → TextFault). f n) (if a then Some RingShort else if not b then Some RingOpen else None)
+closed_by n true b h k = absurd (cc)
+closed_by n false false h k = absurd (cc)
+closed_by n false true h k = refl
+
+-- four points or more, of which the last is the first
+pub ring_closed : (n : ℕ) (points : List Point) (p q : Point) → 4 ≤ length points → p ≡ get_or points 0 p → q ≡ get_or points (length points - 1) q → same_point p q ≡ true
+    → None ≡ option_map (λ (f : ℕ → TextFault). f n) (ring_fault points)
+ring_closed n [] p q long e f g = absurd (omega arith)
+ring_closed n (x ∷ xs) p q long e f g =
+    let last : get_or (x ∷ xs) (length (x ∷ xs) - 1) q ≡ get_or (x ∷ xs) (length xs) x = get_or_default (x ∷ xs) (length (x ∷ xs) - 1) q x (omega arith) ∙ ap (λ i. get_or (x ∷ xs) i x) (let i : length (x ∷ xs) - 1 ≡ length xs = omega arith in i) in
+    closed_by n (ltb (length (x ∷ xs)) 4) (same_point x (get_or (x ∷ xs) (length xs) x)) (le-ltb (length (x ∷ xs)) 4 long) (ap₂ same_point (sym e) (sym (f ∙ last)) ∙ g)
+
+rings-begun : (polygons : Polygons) → length (all_rings (polygons ++ [] ∷ [])) ≡ length (all_rings polygons)
+rings-begun [] = refl
+rings-begun (rings ∷ more) = length-append rings (all_rings (more ++ [] ∷ [])) ∙ (ap (λ n. length rings + n) (rings-begun more) ∙ sym (length-append rings (all_rings more)))
+
+-- a further polygon has begun, and less text is left
+pub begun_room : (v : Values) (built : Polygons) (text rest : List ℕ) → built ≡ v.built ++ [] ∷ [] → HasRoom v text → length rest < length text → HasRoom (record v { built = built }) rest
+begun_room v built text rest is room shorter = record {
+  scale = room.scale;
+  numbers = omega (arith, room.numbers);
+  rings = omega (arith, room.rings);
+  kept = omega (arith, ap (λ (p : Polygons). length (all_rings p)) is, rings-begun v.built, room.kept);
+  polygons = omega (arith, ap length is, length-append v.built ([] ∷ []), room.polygons);
+}
+
+-- so there is one
+pub begun_some : (v : Values) (built : Polygons) → built ≡ v.built ++ [] ∷ [] → 0 < length built
+begun_some v built is = omega (arith, ap length is, length-append v.built ([] ∷ []))
+
+-- what a call says that did not fail
+pub not_err : {X F : Type 0} (r : Result X F) (P : Type 0) → is_err r ≡ false → OnOk r P → P
+not_err (Ok x) P fine h = h
+not_err (Err e) P fine h = absurd (true≢false fine)
 
 -- points leave the polygons as they are
 pub points_keep : (v : Values) (points : List WidePoint) → (fold after_point v points).built ≡ v.built

@@ -210,3 +210,13 @@ room_more v c m n small e room =
 
 pub room_now : (v m n : ℕ) → m ≡ 1 + n → (v + 1) * 10 ^ m ≤ 10 ^ 19 → v * 10 + 9 < 10 ^ 19
 room_now v m n e room = let more = room_more v 9 m n (omega arith) e room in let one : ((v * 10 + 9) + 1) * 1 ≤ ((v * 10 + 9) + 1) * 10 ^ n = mul-le-mul_left ((v * 10 + 9) + 1) (ten_pos n) in omega (arith, more, one)
+
+ten_mono : (m n : ℕ) → m ≤ n → 10 ^ m ≤ 10 ^ n
+ten_mono m n le =
+    let e : 10 ^ n ≡ 10 ^ m * 10 ^ (n - m) = ap (λ k. 10 ^ k) (let whole : n ≡ m + (n - m) = omega (arith, le) in whole) ∙ pow-add 10 m (n - m) in
+    let one : 10 ^ m * 1 ≤ 10 ^ m * 10 ^ (n - m) = mul-le-mul_left (10 ^ m) (ten_pos (n - m)) in
+    omega (arith, e, one)
+
+-- fewer places need less room
+pub room_less : (v m n : ℕ) → m ≤ n → (v + 1) * 10 ^ n ≤ 10 ^ 19 → (v + 1) * 10 ^ m ≤ 10 ^ 19
+room_less v m n le room = let less : (v + 1) * 10 ^ m ≤ (v + 1) * 10 ^ n = mul-le-mul_left (v + 1) (ten_mono m n le) in omega (arith, less, room)

@@ -1,7 +1,7 @@
 -- The number texts of a span line by its front.
-use Rattle.std.proofs.Common.{◌≡◌, ℕ, Bool, true, false, not, List, [], ◌∷◌, Option, Some, None, refl, sym, ◌∙◌, ap}
-use Rattle.std.specs.Prelude.{IfSome, IfNone, is_some, if◌then◌else◌, int_le, option_and_then, ℤ}
-use Rattle.std.proofs.lemmas.Bool.{both_ways, not-true, not-false}
+use Rattle.std.proofs.Common.{◌≡◌, ℕ, Bool, true, false, not, List, [], ◌∷◌, Option, Some, None, refl, sym, ◌∙◌, ap, ltb-true, ltb-false}
+use Rattle.std.specs.Prelude.{IfSome, IfNone, is_some, if◌then◌else◌, int_le, int_lt, negsuc, option_and_then, pos, ℤ}
+use Rattle.std.proofs.lemmas.Bool.{both_ways, not-true, not-false, le-leb, lt-leb}
 use Rattle.std.proofs.lemmas.Option.{cond_some, same_Some}
 use Rattle.loc_spec_plane.specs.Points.{point_at as at}
 use Rattle.loc_spec_text.specs.Geometry.{Symbol, PointText, number}
@@ -43,9 +43,38 @@ pub span_by : {X : Type 0} (ps rest more : List Symbol) (x y z : List ℕ) → p
 span_by ps rest more x y z e f None b first behind some none h = (λ _. whole_span ps rest more x y z e f none, λ is. absurd (both_ways b is (not-false b (sym h))))
 span_by ps rest more x y z e f (Some v) b first behind some none h = (λ is. absurd (both_ways b (not-true b (sym h)) is), λ _. long_span ps rest more (behind v) (first v) x y z e f some)
 
+-- the tests of two heights
+pub goes_down : (a b : ℤ) → int_lt b a ≡ true → int_le a b ≡ false
+goes_down (pos a) (pos b) h = lt-leb a b (ltb-true b a h)
+goes_down (pos a) (negsuc b) h = refl
+goes_down (negsuc a) (pos b) h = absurd (cc h)
+goes_down (negsuc a) (negsuc b) h = lt-leb b a (ltb-true a b h)
+
+pub goes_up : (a b : ℤ) → int_lt b a ≡ false → int_le a b ≡ true
+goes_up (pos a) (pos b) h = le-leb a b (ltb-false b a h)
+goes_up (pos a) (negsuc b) h = absurd (cc h)
+goes_up (negsuc a) (pos b) h = refl
+goes_up (negsuc a) (negsuc b) h = le-leb b a (ltb-false a b h)
+
 module _ (scale : ℕ) (ps : List Symbol) (x y z : List ℕ) (texts : span_texts ps ≡ Some (x, y, z)) where
   abbrev on : List ℕ → Option ℤ
   on text = if is_grid_number scale text then Some (grid_value scale text) else None
+
+  -- the first is not on the grid
+  pub first_off : None ≡ on x → option_and_then (span_on_grid scale) (span_texts ps) ≡ None
+  first_off first = ap (option_and_then (span_on_grid scale)) texts ∙ off (is_grid_number scale x) refl first
+    where
+      off : (g : Bool) → is_grid_number scale x ≡ g → None ≡ (if g then Some (grid_value scale x) else None) → span_on_grid scale (x, y, z) ≡ None
+      off true is none = absurd (cc none)
+      off false is none = rw is refl
+
+  -- the second is not on the grid
+  pub second_off : (v : ℤ) → Some v ≡ on x → None ≡ on y → option_and_then (span_on_grid scale) (span_texts ps) ≡ None
+  second_off v first second = ap (option_and_then (span_on_grid scale)) texts ∙ off (is_grid_number scale y) refl second
+    where
+      off : (g : Bool) → is_grid_number scale y ≡ g → None ≡ (if g then Some (grid_value scale y) else None) → span_on_grid scale (x, y, z) ≡ None
+      off true is none = absurd (cc none)
+      off false is none = rw ((cond_some (is_grid_number scale x) (grid_value scale x) v (sym first)).0, is) refl
 
   module _ (v w : ℤ) (first : Some v ≡ on x) (second : Some w ≡ on y) where
     a : (is_grid_number scale x ≡ true) × (grid_value scale x ≡ v)

@@ -21,7 +21,7 @@ pub(crate) use short::short_number;
 use short::short_on_grid;
 
 /// What a number text is on the grid of a scale: its grid value, or off the grid, or on it and beyond 10^18 either way.
-#[derive(Clone, Copy, Debug, PartialEq, Eq)]
+#[derive(Clone, Copy)]
 pub enum GridNumber {
     OnGrid(i64),
     OffGrid,

@@ -1,7 +1,7 @@
 //! Commands as rows.
 
 /// What an option of a command takes.
-#[derive(Clone, Copy, Debug, PartialEq, Eq)]
+#[derive(Clone, Copy)]
 pub enum OptionKind {
     /// A value, and the command must have it.
     Required,

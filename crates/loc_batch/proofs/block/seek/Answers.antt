@@ -1,8 +1,20 @@
-use Rattle.std.proofs.Common.{◌≡◌, suc, ◌+◌, ◌∷◌, drop, Some, sym, ◌∙◌, ap, arith, length-set, drop_of_length-le, drop-cons, add-one, add-mul, mul-le-mul_right}
+use Rattle.std.proofs.Common.{◌≡◌, suc, ◌+◌, ◌∷◌, drop, Some, sym, refl, ◌<◌, length, subst, ◌∙◌, ap, arith, rules, length-set, drop_of_length-le, drop-cons, add-one, add-mul, mul-le-mul_right}
 use Rattle.std.specs.Prelude.{set, IfSome}
 use Rattle.std.proofs.lemmas.List.Elements.{All-set}
 use Rattle.loc_batch.specs.Blocks.{placed}
+use Rattle.loc_batch.specs.declared.block.Query.{Query}
 use Rattle.loc_batch.proofs.block.seek.Goals as goal
+
+pub loop-query-init : goal.loop-query-init
+loop-query-init g c = record { goes = refl; as_many = refl; known = c.requires.known; up = omega arith; few = omega arith }
+
+pub bounds-found-query : goal.bounds-found-query
+bounds-found-query g c =
+    subst (λ n. c.query-item.result.line < n) (sym c.loop-query.invariant.as_many)
+    (subst (λ (q : Query). q.line < length c.args.found.now) (sym c.query-item.is) (c.requires.lines c.loop-query.query-index c.query-item.result c.loop-query-test.true))
+
+pub offset_bounds-found-query : goal.offset_bounds-found-query
+offset_bounds-found-query g c = search (rules, bounds-found-query g c)
 
 pub loop-query-preserved : goal.loop-query-preserved
 loop-query-preserved g c =

@@ -50,3 +50,9 @@ loop-n-preserved c =
 
 pub returns : goal.returns
 returns c = (let all = take_all c.loop-n.n c.args.tagged.now c.loop-n-test.false in subst (λ ts. IsGrouped ts c.loop-n.rows) all c.loop-n.invariant.grouped) ∙ ap (map (features_of c.args.tagged.now)) (edges_left c.args.tagged.now c.requires.in_order)
+
+pub loop-n-init : goal.loop-n-init
+loop-n-init c = (let none : length c.new-rows.result ≡ 0 = ap length c.new-rows.ensures in record { grouped = c.new-rows.ensures; few = omega (arith, none); some = λ lt. absurd (omega (arith, lt)) })
+
+pub start-requires : goal.start-requires
+start-requires c = omega (arith, c.len.ensures)

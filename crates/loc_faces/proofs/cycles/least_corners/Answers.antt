@@ -1,6 +1,6 @@
-use Rattle.std.proofs.Common.{◌≡◌, ◌+◌, get_or, set, min, sym, ◌∙◌, ap, subst, arith}
+use Rattle.std.proofs.Common.{◌≡◌, ◌+◌, ◌<◌, get_or, set, min, refl, sym, ◌∙◌, ap, subst, inl, arith}
 use Rattle.std.proofs.lemmas.List.{get_or_read}
-use Rattle.loc_spec_plane.specs.HalfEdges.{target}
+use Rattle.loc_spec_plane.specs.HalfEdges.{half_edge_count, target}
 use Rattle.loc_half.specs.HalfEdgeLists.{leader_in}
 use Rattle.loc_faces.proofs.Leaders.{leads_within}
 use Rattle.loc_faces.proofs.Least.{IsLeastSoFar, least_more, least_all}
@@ -17,3 +17,28 @@ loop-h-preserved c =
 
 pub returns : goal.returns
 returns c = least_all c.args.table.now c.law.ensures.in_order c.args.half.now c.requires.half c.loop-h.least.items c.loop-h.h (omega arith) (omega arith) c.loop-h.invariant
+
+pub loop-h-init : goal.loop-h-init
+loop-h-init c = record {
+  as_many = omega (arith, c.in_ok-resize.ensures.len, c.resize.new.self.ok.0, c.edge_count-count.ensures.value);
+  under = λ g less. absurd (omega (arith, less));
+  met = λ l lt. inl (c.in_ok-resize.ensures.by_index.1 l 0 refl (omega (arith, c.new-least.ensures.len)) (omega (arith, lt, c.edge_count-count.ensures.value)) ∙ c.corner_count.ensures.value);
+}
+
+pub leader-leader-requires : goal.leader-leader-requires
+leader-leader-requires c = omega (arith, c.requires.half.as_many_leaders, c.loop-h-test.true, c.edge_count-count.ensures.value)
+
+pub index-requires : goal.index-requires
+index-requires c =
+    let fits : c.loop-h.h < half_edge_count c.args.table.now = omega (arith, c.loop-h-test.true, c.edge_count-count.ensures.value) in
+    let leads : c.leader-leader.result < half_edge_count c.args.table.now = subst (λ l. l < half_edge_count c.args.table.now) (sym c.leader-leader.ensures) (leads_within c.args.table.now c.law.ensures.in_order c.args.half.now c.requires.half c.loop-h.h fits) in
+    omega (arith, leads, c.loop-h.invariant.as_many, c.loop-h.least.ok.0)
+
+pub target-requires : goal.target-requires
+target-requires c = omega (arith, c.loop-h-test.true, c.edge_count-count.ensures.value)
+
+pub index_mut-requires : goal.index_mut-requires
+index_mut-requires c =
+    let fits : c.loop-h.h < half_edge_count c.args.table.now = omega (arith, c.loop-h-test.true, c.edge_count-count.ensures.value) in
+    let leads : c.leader-leader.result < half_edge_count c.args.table.now = subst (λ l. l < half_edge_count c.args.table.now) (sym c.leader-leader.ensures) (leads_within c.args.table.now c.law.ensures.in_order c.args.half.now c.requires.half c.loop-h.h fits) in
+    omega (arith, leads, c.loop-h.invariant.as_many, c.loop-h.least.ok.0)

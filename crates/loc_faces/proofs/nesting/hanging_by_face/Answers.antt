@@ -34,3 +34,18 @@ returns-clause-rows c = λ f.
 pub returns-clause-in_range : goal.returns-clause-in_range
 returns-clause-in_range c = λ count fits. All-permutation (λ (pair : ℕ × ℕ). pair.0 < count) _ _ c.in_ok-sort_by_key.ensures.permutation
     (subst (All (λ (pair : ℕ × ℕ). pair.0 < count)) (sym (all c)) (keyed_within (λ h. get_or c.args.faces.now h 0) (leads_hanging c.args.table.now (next_in c.args.half.now)) count (length c.args.faces.now) fits))
+
+pub loop-h-init : goal.loop-h-init
+loop-h-init c = c.new-keyed.ensures.items
+
+pub leads_hanging-requires-clause-half : goal.leads_hanging-requires-clause-half
+leads_hanging-requires-clause-half c = c.requires.half
+
+pub leads_hanging-requires-clause-hanging : goal.leads_hanging-requires-clause-hanging
+leads_hanging-requires-clause-hanging c = c.requires.hanging
+
+pub leads_hanging-requires-clause-in_range : goal.leads_hanging-requires-clause-in_range
+leads_hanging-requires-clause-in_range c = omega (arith, c.loop-h-test.true, c.edge_count-h-end.ensures.value)
+
+pub bounds-faces-h : goal.bounds-faces-h
+bounds-faces-h c = omega (arith, c.loop-h-test.true, c.edge_count-h-end.ensures.value, c.requires.as_many)

@@ -6,7 +6,7 @@ use Rattle.loc_rb.specs.Steps.{RedViolation, IsRedTop}
 use Rattle.loc_rb.proofs.OneChange.{has-row, no-entries}
 use Rattle.loc_rb.proofs.Balanced.{red-shape}
 use Rattle.loc_rb.proofs.Recolouring.{within-colours}
-use Rattle.loc_rb.proofs.Counts.{within-trans, within-more}
+use Rattle.loc_rb.proofs.Counts.{within-trans, within-more, within-none}
 use Rattle.loc_rb.proofs.InsertionSteps.{violation-live, violation-under-black, violation-under-root, violation-pair, violation-moved-up, pair-live, pair-uncle-spot, red-live, violation-at-root, uncle-fits, uncle-tested}
 use Rattle.loc_rb.proofs.insertion.fix_insertion.Goals as goal
 
@@ -67,3 +67,21 @@ returns-clause-tree g c L H = violation-at-root _ _ _ _ _ (c.up.invariant.all L 
 
 pub returns-clause-within : goal.returns-clause-within
 returns-clause-within g c = within-more 0 0 6 _ _ (within-trans 0 0 0 0 _ _ _ c.up.invariant.within (within-colours _ _ _ _ c.set_colour-2.ensures (red-live _ _ _ _ c.up.invariant.some.1))) (omega arith)
+
+pub up-init : goal.up-init
+up-init g c = record { some = c.requires.place; all = λ _ H. H; within = within-none _; short = c.requires.short }
+
+pub returns-in-Black-clause-within : goal.returns-in-Black-clause-within
+returns-in-Black-clause-within g c = within-more 0 0 6 _ _ c.up.invariant.within (omega arith)
+
+pub rotate_grandparent-requires-clause-room : goal.rotate_grandparent-requires-clause-room
+rotate_grandparent-requires-clause-room g c = omega (arith, c.requires.room, c.up.invariant.within.spare)
+
+pub rotate_grandparent-requires-clause-short : goal.rotate_grandparent-requires-clause-short
+rotate_grandparent-requires-clause-short g c = omega (arith, c.up.invariant.short, c.in-Some.ensures.len, c.in-Some-pop.ensures.len)
+
+pub returns-in-None-red_child-clause-within : goal.returns-in-None-red_child-clause-within
+returns-in-None-red_child-clause-within g c = within-trans 0 0 0 6 _ _ _ c.up.invariant.within c.rotate_grandparent.ensures.within
+
+pub up-smaller : goal.up-smaller
+up-smaller g c = omega (arith, c.in-Some.ensures.len, c.in-Some-pop.ensures.len)

@@ -1,5 +1,5 @@
 -- The new red node hangs at the gap; then the violation is mended.
-use Rattle.std.proofs.Common.{arith}
+use Rattle.std.proofs.Common.{arith, ◌∙◌}
 use Rattle.loc_rb.proofs.InsertionSteps.{can-insert, inserted}
 use Rattle.loc_rb.proofs.insertion.insert.Goals as goal
 
@@ -14,3 +14,15 @@ returns-clause-tree g c L H p = c.fix_insertion.ensures.tree _ (inserted _ _ _ _
 
 pub returns-clause-changed : goal.returns-clause-changed
 returns-clause-changed g c = omega (arith, c.make-new.ensures.changed, c.transplant.ensures.within.changed, c.fix_insertion.ensures.within.changed)
+
+pub transplant-requires-clause-room : goal.transplant-requires-clause-room
+transplant-requires-clause-room g c = omega (arith, c.requires.room, c.make-new.ensures.spare)
+
+pub fix_insertion-requires-clause-room : goal.fix_insertion-requires-clause-room
+fix_insertion-requires-clause-room g c = omega (arith, c.requires.room, c.make-new.ensures.spare, c.transplant.ensures.within.spare)
+
+pub returns-clause-made : goal.returns-clause-made
+returns-clause-made g c = omega (arith, c.make-new.ensures.made, c.transplant.ensures.within.made, c.fix_insertion.ensures.within.made)
+
+pub returns-clause-kept : goal.returns-clause-kept
+returns-clause-kept g c = c.fix_insertion.ensures.within.kept ∙ c.transplant.ensures.within.kept ∙ c.make-new.ensures.kept

@@ -5,7 +5,7 @@ use Rattle.loc_rb.specs.Balance.{IsBlackTop}
 use Rattle.loc_rb.specs.Places.{Holds}
 use Rattle.loc_rb.specs.Steps.{LacksBlack, IsRedTop}
 use Rattle.loc_rb.proofs.OneChange.{no-entries}
-use Rattle.loc_rb.proofs.Counts.{within-trans}
+use Rattle.loc_rb.proofs.Counts.{within-trans, within-more, within-none}
 use Rattle.loc_rb.proofs.RemovalSteps.{uneven, other-fits, uneven-tested, lacks-root}
 use Rattle.loc_rb.proofs.removal.fix_removal.Goals as goal
 
@@ -52,3 +52,33 @@ up-smaller g c = let a = c.in-Some.ensures.len in let b = c.if-fix_black_sibling
 
 pub returns-clause-tree : goal.returns-clause-tree
 returns-clause-tree g c L H = lacks-root _ _ _ (c.up.invariant.all L H) (no-entries _ c.in_default.ensures.variant.1)
+
+pub up-init : goal.up-init
+up-init g c = record { some = c.requires.place; all = λ _ H. H; within = within-none _; short = c.requires.short }
+
+pub rotate_red_sibling-low-requires-clause-room : goal.rotate_red_sibling-low-requires-clause-room
+rotate_red_sibling-low-requires-clause-room g c = omega (arith, c.requires.room, c.up.invariant.within.spare)
+
+pub rotate_red_sibling-low-requires-clause-short : goal.rotate_red_sibling-low-requires-clause-short
+rotate_red_sibling-low-requires-clause-short g c = omega (arith, c.up.invariant.short, c.in-Some.ensures.len)
+
+pub fix_black_sibling-requires-clause-room : goal.fix_black_sibling-requires-clause-room
+fix_black_sibling-requires-clause-room g c = omega (arith, c.requires.room, c.up.invariant.within.spare, c.rotate_red_sibling-low.ensures.within.spare)
+
+pub fix_black_sibling-requires-clause-short : goal.fix_black_sibling-requires-clause-short
+fix_black_sibling-requires-clause-short g c = omega (arith, c.up.invariant.short, c.in-Some.ensures.len, c.rotate_red_sibling-low.ensures.length)
+
+pub returns-in-Some-red_child-clause-within : goal.returns-in-Some-red_child-clause-within
+returns-in-Some-red_child-clause-within g c = within-trans 0 3 0 6 _ _ _ (within-trans 0 0 0 3 _ _ _ c.up.invariant.within c.rotate_red_sibling-low.ensures.within) c.fix_black_sibling.ensures.within
+
+pub fix_black_sibling-requires-in-None-clause-room : goal.fix_black_sibling-requires-in-None-clause-room
+fix_black_sibling-requires-in-None-clause-room g c = omega (arith, c.requires.room, c.up.invariant.within.spare)
+
+pub fix_black_sibling-requires-in-None-clause-short : goal.fix_black_sibling-requires-in-None-clause-short
+fix_black_sibling-requires-in-None-clause-short g c = omega (arith, c.up.invariant.short, c.in-Some.ensures.len)
+
+pub returns-then-fix_black_sibling-clause-within : goal.returns-then-fix_black_sibling-clause-within
+returns-then-fix_black_sibling-clause-within g c = within-more 0 6 9 _ _ (within-trans 0 0 0 6 _ _ _ c.up.invariant.within c.fix_black_sibling-in-None.ensures.within) (omega arith)
+
+pub returns-clause-within : goal.returns-clause-within
+returns-clause-within g c = within-more 0 0 9 _ _ c.up.invariant.within (omega arith)

@@ -40,3 +40,21 @@ pub returns-in-None-clause-tree : goal.returns-in-None-clause-tree
 returns-in-None-clause-tree g c L q =
     let s = spliced _ _ _ _ _ _ q _ _ c.only_child-child.ensures c.colour-colour.ensures c.transplant.ensures.tree in
     c.fix_removal.ensures.tree L (splice-lacks _ _ _ _ _ _ q s.replaced (s.colour_is ∙ c.in-Black.is) (sym s.child_is ∙ c.in-None.is))
+
+pub transplant-requires-clause-room : goal.transplant-requires-clause-room
+transplant-requires-clause-room g c = omega (arith, c.requires.room)
+
+pub transplant-requires-clause-short : goal.transplant-requires-clause-short
+transplant-requires-clause-short g c = omega (arith, c.requires.short)
+
+pub returns-in-Red-clause-within : goal.returns-in-Red-clause-within
+returns-in-Red-clause-within g c = within-more 0 1 10 _ _ c.transplant.ensures.within (omega arith)
+
+pub fix_removal-requires-clause-room : goal.fix_removal-requires-clause-room
+fix_removal-requires-clause-room g c = omega (arith, c.requires.room, c.transplant.ensures.within.spare)
+
+pub fix_removal-requires-clause-short : goal.fix_removal-requires-clause-short
+fix_removal-requires-clause-short g c = omega (arith, c.requires.short, c.transplant.ensures.length)
+
+pub returns-in-None-clause-within : goal.returns-in-None-clause-within
+returns-in-None-clause-within g c = within-trans 0 1 0 9 _ _ _ c.transplant.ensures.within c.fix_removal.ensures.within

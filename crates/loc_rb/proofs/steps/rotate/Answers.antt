@@ -38,3 +38,12 @@ returns-in-Some-clause-within g c =
 
 pub returns-in-Some-clause-length : goal.returns-in-Some-clause-length
 returns-in-Some-clause-length g c = let q = length-carried _ _ _ _ _ c.change-low.ensures.rows.above in let l = c.in-Some.ensures.len in let k = c.transplant.ensures.length in omega arith
+
+pub change-low-requires-clause-room : goal.change-low-requires-clause-room
+change-low-requires-clause-room g c = omega (arith, c.requires.room)
+
+pub change-high-requires-clause-room : goal.change-high-requires-clause-room
+change-high-requires-clause-room g c = omega (arith, c.requires.room, c.change-low.ensures.spare)
+
+pub transplant-requires-clause-room : goal.transplant-requires-clause-room
+transplant-requires-clause-room g c = omega (arith, c.requires.room, c.change-low.ensures.spare, c.change-high.ensures.spare)

@@ -20,3 +20,12 @@ returns-in-Edges-clause-follows g c = rw c.in-Edges.is (c.edges.ensures.follows 
 
 pub returns-in-Upgrade-clause-follows : goal.returns-in-Upgrade-clause-follows
 returns-in-Upgrade-clause-follows g c = rw c.in-Upgrade.is (c.upgrade.ensures.follows (g.O.Sink.meaning c.args.out.now) c.args.steps.now)
+
+pub returns-in-Verify-clause-beside : goal.returns-in-Verify-clause-beside
+returns-in-Verify-clause-beside g c = rw c.in-Verify.is c.verify.ensures.judged
+
+pub returns-in-Upgrade-clause-beside : goal.returns-in-Upgrade-clause-beside
+returns-in-Upgrade-clause-beside g c = rw c.in-Upgrade.is c.upgrade.ensures.upgraded
+
+pub returns-in-Edges-clause-beside : goal.returns-in-Edges-clause-beside
+returns-in-Edges-clause-beside g c = rw c.in-Edges.is c.edges.ensures.listed

@@ -1,6 +1,6 @@
 use Rattle.std.proofs.Common.{ap, map, string_bytes}
 use Rattle.std.specs.Prelude.{option_map}
-use Rattle.loc_words.specs.Words.{command_of}
+use Rattle.loc_words.specs.Words.{build, command_of, edges, upgrade, verify}
 use Rattle.loc_indexed.specs.Building.{build_course}
 use Rattle.loc_indexed.specs.IndexedCourses.{ask_course}
 use Rattle.loc_indexed.specs.Verifying.{verify_course}
@@ -21,7 +21,7 @@ use Rattle.loc_upgrade.specs.UpgradeCourses.{edges_course, upgrade_course}
 use Rattle.loc_upgrade.proofs.EdgesTold.{tells}
 use Rattle.loc_upgrade.proofs.Upgraded.{upgrades}
 use Rattle.loc_top.specs.Run.{course_by, file_of}
-use Rattle.loc_top.proofs.Runs.{ended_of, files_of, range, refuses_words, sentences_hold, sentences_of}
+use Rattle.loc_top.proofs.Runs.{beside_of, ended_of, files_of, range, refuses_words, sentences_hold, sentences_of}
 use Rattle.loc_top.proofs.top.run.Goals as goal
 
 pub returns-clause-headline : goal.returns-clause-headline
@@ -42,19 +42,19 @@ returns-clause-asks g c asked is =
 pub returns-clause-builds : goal.returns-clause-builds
 returns-clause-builds g c asked is =
     let file = file_of asked.layer in
-    builds file asked.index _ _ _ _ _ (ended_of _ _ _ _ c.run_course.result _ c.run_course.ensures.ran (build_course file asked.index) (ap (option_map course_by) is)) (c.run_course.ensures.built asked is)
+    builds file asked.index _ _ _ _ _ (ended_of _ _ _ _ c.run_course.result _ c.run_course.ensures.ran (build_course file asked.index) (ap (option_map course_by) is)) (beside_of _ (build asked) (g.F.Shelf.meaning c.args.shelf.now) (g.F.Shelf.meaning c.run_course.new.shelf) c.run_course.result c.run_course.ensures.beside is)
 
 pub returns-clause-verifies : goal.returns-clause-verifies
 returns-clause-verifies g c asked is =
-    verifies asked.index _ _ _ _ _ (sentences_of _ _ _ _ c.run_course.result _ c.run_course.ensures.ran (verify_course asked.index) (ap (option_map course_by) is)) (c.run_course.ensures.judged asked is)
+    verifies asked.index _ _ _ _ _ (sentences_of _ _ _ _ c.run_course.result _ c.run_course.ensures.ran (verify_course asked.index) (ap (option_map course_by) is)) (beside_of _ (verify asked) (g.F.Shelf.meaning c.args.shelf.now) (g.F.Shelf.meaning c.run_course.new.shelf) c.run_course.result c.run_course.ensures.beside is)
 
 pub returns-clause-upgrades : goal.returns-clause-upgrades
 returns-clause-upgrades g c asked is =
-    upgrades asked.old asked.new _ _ _ _ _ (ended_of _ _ _ _ c.run_course.result _ c.run_course.ensures.ran (upgrade_course asked.old asked.new) (ap (option_map course_by) is)) (c.run_course.ensures.upgraded asked is)
+    upgrades asked.old asked.new _ _ _ _ _ (ended_of _ _ _ _ c.run_course.result _ c.run_course.ensures.ran (upgrade_course asked.old asked.new) (ap (option_map course_by) is)) (beside_of _ (upgrade asked) (g.F.Shelf.meaning c.args.shelf.now) (g.F.Shelf.meaning c.run_course.new.shelf) c.run_course.result c.run_course.ensures.beside is)
 
 pub returns-clause-edges : goal.returns-clause-edges
 returns-clause-edges g c asked is =
-    tells asked.index _ _ _ _ _ (sentences_of _ _ _ _ c.run_course.result _ c.run_course.ensures.ran (edges_course asked.index) (ap (option_map course_by) is)) (c.run_course.ensures.listed asked is)
+    tells asked.index _ _ _ _ _ (sentences_of _ _ _ _ c.run_course.result _ c.run_course.ensures.ran (edges_course asked.index) (ap (option_map course_by) is)) (beside_of _ (edges asked) (g.F.Shelf.meaning c.args.shelf.now) (g.F.Shelf.meaning c.run_course.new.shelf) c.run_course.result c.run_course.ensures.beside is)
 
 pub returns-clause-stabs : goal.returns-clause-stabs
 returns-clause-stabs g c asked is =

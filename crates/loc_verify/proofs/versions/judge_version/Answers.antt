@@ -36,3 +36,18 @@ returns-else-branch-clause-fault c =
       differs_there h _ c.law.ensures c.args.version c.args.list.now c.requires.list c.most_nodes-room.result c.most_nodes-room.ensures.within c.most_nodes-room.ensures.past (subst (λ n. n ≤ length h.nodes) c.root.ensures.value c.root.ensures.within) c.in-Differs.position followed
           (λ path. both_ways c.in_ok-has_path-in-Differs.field-0 c.if-branch.false (c.in_ok-has_path-in-Differs.ensures.1 path)),
     )
+
+pub root-requires : goal.root-requires
+root-requires c = c.requires.in_range
+
+pub most_nodes-room-requires : goal.most_nodes-room-requires
+most_nodes-room-requires c = c.requires.few
+
+pub follow-requires-clause-node : goal.follow-requires-clause-node
+follow-requires-clause-node c = c.root.ensures.within
+
+pub follow-requires-clause-few : goal.follow-requires-clause-few
+follow-requires-clause-few c = c.requires.few
+
+pub has_path-requires : goal.has_path-requires
+has_path-requires c = c.requires.in_range

@@ -1,4 +1,4 @@
-use Rattle.std.proofs.Common.{◌++◌, ◌+◌, Ok, arith, sym, ◌∙◌, ap, map}
+use Rattle.std.proofs.Common.{◌++◌, ◌+◌, Ok, arith, sym, ◌∙◌, ap, map, refl}
 use Rattle.std.proofs.lemmas.Result.{err_from_is_err_and}
 use Rattle.loc_spec_text.specs.Answered.{answered}
 use Rattle.loc_spec_text.specs.Bytes.{ended_lines}
@@ -9,6 +9,15 @@ use Rattle.loc_batch.proofs.Cutting.{split_none, unbroken_both, unbroken_front}
 use Rattle.loc_batch.proofs.Counting.{fewer, sought_and_put}
 use Rattle.loc_batch.proofs.Lines.{answered_found, cut_answered, goes_off, goes_on, no_line}
 use Rattle.loc_batch.proofs.desk.Desk.put_lines.Goals as goal
+
+pub loop-more-init : goal.loop-more-init
+loop-more-init g c = record { goes = λ t n k r p. p; unbroken = c.requires.unbroken; left = refl; up = omega arith; few = omega arith }
+
+pub put_block-requires-clause-known : goal.put_block-requires-clause-known
+put_block-requires-clause-known g c = c.search.ensures.known
+
+pub loop-more-smaller : goal.loop-more-smaller
+loop-more-smaller g c = c.in-Some.ensures.shorter
 
 pub search-requires-clause-held : goal.search-requires-clause-held
 search-requires-clause-held g c = (map (point_of c.args.scale) c.in-Some.ensures.reads.lines, c.in-Some.ensures.reads.holds)

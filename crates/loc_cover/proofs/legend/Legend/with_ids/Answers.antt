@@ -2,7 +2,7 @@ use Rattle.std.proofs.Common.{◌≡◌, ◌<◌, ◌≤◌, ◌^◌, length, ge
 use Rattle.std.specs.Prelude.{All, IfSome}
 use Rattle.std.proofs.lemmas.List.{get_or_default, length-map}
 use Rattle.loc_spec_plane.specs.Tables.{corner}
-use Rattle.loc_spec_plane.specs.Places.{IsFloor}
+use Rattle.loc_spec_plane.specs.Places.{IsFloor, IsJustBelow}
 use Rattle.loc_spec_plane.specs.Covers.{feature_count}
 use Rattle.loc_cover.specs.Legends.{AreLists}
 use Rattle.loc_cover.proofs.Sound.{are_lists, covers_named, floor_in_range}
@@ -47,3 +47,27 @@ returns-clause-is_true c =
       above = λ e inside. rw (made.lists, made.above, c.in_ok-covers.ensures.lists) (c.in_ok-covers.ensures.above e inside).at;
       floors = λ n inside. subst (λ floors. IsFloor t (corner t n) (get_or floors n None)) (sym (made.floors ∙ (c.in_ok-floors.ensures.items ∙ c.of_corner.ensures))) (c.requires.swept.of_corner n inside);
     }
+
+pub cover_rows-requires-clause-even : goal.cover_rows-requires-clause-even
+cover_rows-requires-clause-even c = record { all_ends = c.requires.all_ends; all_even = c.requires.all_even; apart = c.requires.apart }
+
+pub cover_rows-requires-clause-below : goal.cover_rows-requires-clause-below
+cover_rows-requires-clause-below c = record {
+  as_many = ap length c.of_edge.ensures ∙ c.requires.swept.as_many_edges;
+  are = λ e fits. subst (λ below. IsJustBelow c.args.table.now e (get_or below e None)) (sym c.of_edge.ensures) (c.requires.swept.of_edge e fits);
+}
+
+pub assemble-requires-clause-as_many_edges : goal.assemble-requires-clause-as_many_edges
+assemble-requires-clause-as_many_edges c = c.in_ok-covers.ensures.as_many
+
+pub returns-clause-ids : goal.returns-clause-ids
+returns-clause-ids c = c.in_ok-assemble.ensures.ids ∙ c.in_ok-ids.ensures
+
+pub returns-clause-fits : goal.returns-clause-fits
+returns-clause-fits c = c.in_ok-assemble.ensures.fits
+
+pub returns-clause-few : goal.returns-clause-few
+returns-clause-few c = c.in_ok-covers.ensures.few
+
+pub returns-clause-refused : goal.returns-clause-refused
+returns-clause-refused c = tt

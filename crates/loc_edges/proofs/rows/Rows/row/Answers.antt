@@ -20,3 +20,19 @@ returns g c =
     ∙ (ap (λ i. Some (take (start_of items starts (n + 1) - i) (drop i items))) (sym start)
     ∙ (ap (λ i. Some (take (i - c.start_at-start.result) (drop c.start_at-start.result items))) (sym end)
     ∙ ap (λ xs. Some (take (c.start_at-end.result - c.start_at-start.result) (drop c.start_at-start.result xs))) (sym c.deref-5.ensures.value))))
+
+pub slice_bounds-result-count : goal.slice_bounds-result-count
+slice_bounds-result-count g c =
+    let items = c.self.inside.items.items in
+    let starts = c.self.inside.starts.items in
+    let n = c.args.n in
+    let start : c.start_at-start.result ≡ start_of c.self.inside.items.items c.self.inside.starts.items c.args.n = c.start_at-start.ensures ∙ (ap (λ xs. start_of xs c.deref-2.result.now n) c.deref.ensures.value ∙ ap (λ ns. start_of items ns n) c.deref-2.ensures.value) in
+    let end : c.start_at-end.result ≡ start_of c.self.inside.items.items c.self.inside.starts.items (c.args.n + 1) = c.start_at-end.ensures ∙ (ap (λ xs. start_of xs c.deref-4.result.now (n + 1)) c.deref-3.ensures.value ∙ ap (λ ns. start_of items ns (n + 1)) c.deref-4.ensures.value) in
+    omega (arith, start, end, c.self.invariant.in_order n)
+
+pub offset_bounds-deref-start : goal.offset_bounds-deref-start
+offset_bounds-deref-start g c =
+    let items = c.self.inside.items.items in
+    let n = c.args.n in
+    let start : c.start_at-start.result ≡ start_of c.self.inside.items.items c.self.inside.starts.items c.args.n = c.start_at-start.ensures ∙ (ap (λ xs. start_of xs c.deref-2.result.now n) c.deref.ensures.value ∙ ap (λ ns. start_of items ns n) c.deref-2.ensures.value) in
+    omega (arith, start, c.self.invariant.within n, ap length c.deref-5.ensures.value)

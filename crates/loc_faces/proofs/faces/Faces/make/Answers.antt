@@ -4,7 +4,7 @@ use Rattle.loc_spec_plane.specs.HalfEdges.{half_edge_count}
 use Rattle.loc_spec_plane.specs.Faces.{hangs}
 use Rattle.loc_half.specs.HalfEdgeLists.{next_in}
 use Rattle.loc_faces.specs.Boundaries.{inner_leaders}
-use Rattle.loc_faces.specs.Cycles.{AreHanging, AreNumbered, face_by}
+use Rattle.loc_faces.specs.Cycles.{AreHanging, AreLeast, AreNumbered, face_by}
 use Rattle.loc_faces.specs.FaceLists.{AreFaces}
 use Rattle.loc_faces.proofs.Nested.{face_over}
 use Rattle.loc_faces.proofs.Numbering.{listed_few}
@@ -44,3 +44,48 @@ returns c =
     ∙ ap (λ n. map (inner_leaders c.args.table.now (next_in c.args.half.now) (λ h. get_or c.in_ok-of_half.of_half.items h 0)) (numbers (n + 1))) many) in
     let made = faces_are c.args.table.now c.law.ensures.in_order c.args.half.now c.requires.half c.args.floors.now c.requires.floors c.in_ok-hanging.hanging.items hung c.in_ok-outers.outers.items c.in_ok-outers.of_cycle.items c.number_hanging-of_cycle.result.items c.in_ok-of_half.of_half.items numbered outer nested within size each c.in_ok-inner.inner rows in
     subst (λ n. AreFaces c.args.table.now (next_in c.args.half.now) (record { count = n + 1; of_half = c.in_ok-of_half.of_half.items; outers = c.in_ok-outers.outers.items; inner = c.in_ok-inner.inner })) (sym many) made
+
+pub least_corners-requires : goal.least_corners-requires
+least_corners-requires c = record { half = c.requires.half }
+
+pub hanging_cycles-requires-clause-half : goal.hanging_cycles-requires-clause-half
+hanging_cycles-requires-clause-half c = c.requires.half
+
+pub hanging_cycles-requires-clause-least : goal.hanging_cycles-requires-clause-least
+hanging_cycles-requires-clause-least c = subst (AreLeast c.args.table.now c.args.half.now) (sym c.deref.ensures.value) c.in_ok-least.ensures
+
+pub number_outer-requires-clause-half : goal.number_outer-requires-clause-half
+number_outer-requires-clause-half c = c.requires.half
+
+pub number_outer-requires-clause-hanging : goal.number_outer-requires-clause-hanging
+number_outer-requires-clause-hanging c = subst (AreHanging c.args.table.now c.args.half.now) (sym c.deref-2.ensures.value) c.in_ok-hanging.ensures
+
+pub number_hanging-of_cycle-requires-clause-half : goal.number_hanging-of_cycle-requires-clause-half
+number_hanging-of_cycle-requires-clause-half c = c.requires.half
+
+pub number_hanging-of_cycle-requires-clause-floors : goal.number_hanging-of_cycle-requires-clause-floors
+number_hanging-of_cycle-requires-clause-floors c = c.requires.floors
+
+pub number_hanging-of_cycle-requires-clause-least : goal.number_hanging-of_cycle-requires-clause-least
+number_hanging-of_cycle-requires-clause-least c = subst (AreLeast c.args.table.now c.args.half.now) (sym c.deref-3.ensures.value) c.in_ok-least.ensures
+
+pub number_hanging-of_cycle-requires-clause-hanging : goal.number_hanging-of_cycle-requires-clause-hanging
+number_hanging-of_cycle-requires-clause-hanging c = subst (AreHanging c.args.table.now c.args.half.now) (sym c.deref-4.ensures.value) c.in_ok-hanging.ensures
+
+pub number_hanging-of_cycle-requires-clause-as_many : goal.number_hanging-of_cycle-requires-clause-as_many
+number_hanging-of_cycle-requires-clause-as_many c = c.in_ok-outers.ensures.as_many
+
+pub face_of_each-requires-clause-half : goal.face_of_each-requires-clause-half
+face_of_each-requires-clause-half c = c.requires.half
+
+pub face_of_each-requires-clause-as_many : goal.face_of_each-requires-clause-as_many
+face_of_each-requires-clause-as_many c = ap length c.deref-5.ensures.value ∙ c.number_hanging-of_cycle.ensures.as_many
+
+pub hanging_rows-requires-clause-half : goal.hanging_rows-requires-clause-half
+hanging_rows-requires-clause-half c = c.requires.half
+
+pub hanging_rows-requires-clause-hanging : goal.hanging_rows-requires-clause-hanging
+hanging_rows-requires-clause-hanging c = subst (AreHanging c.args.table.now c.args.half.now) (sym c.deref-6.ensures.value) c.in_ok-hanging.ensures
+
+pub hanging_rows-requires-clause-as_many : goal.hanging_rows-requires-clause-as_many
+hanging_rows-requires-clause-as_many c = ap length c.deref-7.ensures.value ∙ c.in_ok-of_half.ensures.as_many

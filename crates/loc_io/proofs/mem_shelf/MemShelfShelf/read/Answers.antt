@@ -1,5 +1,27 @@
 use Rattle.std.proofs.Common.{◌≡◌, ◌+◌, ◌≤◌, refl, sym, ap, subst, ◌∙◌, drop, take, take-append-drop, drop-drop, arith}
+use Rattle.loc_io.proofs.Counted.{failed_once, told_none}
 use Rattle.loc_io.proofs.mem_shelf.MemShelfShelf.read.Goals as goal
+
+pub returns-then-next_fails-clause-shelf : goal.returns-then-next_fails-clause-shelf
+returns-then-next_fails-clause-shelf c = record {
+  files = λ _. refl;
+  making = record { is_making = refl; made = refl; write_faults = ap (λ f. f.number) c.note_call.ensures.writes };
+  entries = refl;
+  opened = tt;
+  bytes = refl;
+  bound = tt;
+  cause = failed_once _ _ _ _ c.note_call.ensures.reads c.count_one.ensures.rose c.count_one.ensures.later;
+  late = c.note_call.ensures.late;
+}
+
+pub returns-then-next_fails-clause-failing : goal.returns-then-next_fails-clause-failing
+returns-then-next_fails-clause-failing c = record { counted = c.next_fails.ensures.calls; fails = λ _. refl }
+
+pub returns-then-next_fails-clause-only : goal.returns-then-next_fails-clause-only
+returns-then-next_fails-clause-only c = λ _. sym c.next_fails.ensures.listed ∙ c.if-next_fails.true
+
+pub returns-clause-failing : goal.returns-clause-failing
+returns-clause-failing c = told_none _ _ _ _ _ c.next_fails.ensures.calls c.next_fails.ensures.listed c.if-next_fails.false
 
 pub returns-clause-shelf : goal.returns-clause-shelf
 returns-clause-shelf c =

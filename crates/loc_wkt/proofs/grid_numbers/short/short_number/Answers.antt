@@ -33,3 +33,18 @@ returns-clause-found c =
     let ended : ends_symbol (drop front.length c.unsigned-body.result.now) ≡ true = ap ends_symbol (sym (take_rest c.unsigned-body.result.now front.length)) ∙ sym c.ends_symbol.ensures ∙ c.if-not-ends_symbol.false in
     front_symbol text front is k place (subst (λ t. ends_symbol (drop front.length t) ≡ true) c.unsigned-body.ensures ended)
     ∙ ap₂ (λ a b. Some (a, symbols b)) (sym c.split_at.ensures.front) (sym c.split_at.ensures.back)
+
+pub slice_bounds-front_of-end : goal.slice_bounds-front_of-end
+slice_bounds-front_of-end c = omega (arith, length-take c.min.result c.unsigned-body.result.now, c.min.ensures)
+
+pub front_of-requires : goal.front_of-requires
+front_of-requires c = omega (arith, length-take c.min.result c.unsigned-body.result.now, c.min.ensures)
+
+pub returns-in_err-front-clause-found : goal.returns-in_err-front-clause-found
+returns-in_err-front-clause-found c = rw c.from_residual.ensures tt
+
+pub returns-in_err-front-clause-shorter : goal.returns-in_err-front-clause-shorter
+returns-in_err-front-clause-shorter c = rw c.from_residual.ensures tt
+
+pub returns-in_err-front-clause-within : goal.returns-in_err-front-clause-within
+returns-in_err-front-clause-within c = rw c.from_residual.ensures tt

@@ -1,4 +1,5 @@
 use Rattle.std.proofs.Common.{◌∙◌, ap, Some, refl, arith}
+use Rattle.std.proofs.lemmas.Result.{IfOk-from_err}
 use Rattle.loc_spec_text.specs.Geometry.{symbols}
 use Rattle.loc_wkt.specs.Lists.{wide_ring_at}
 use Rattle.loc_wkt.specs.Passes.{after_ring}
@@ -28,3 +29,24 @@ loop-more-preserved c = record {
       (omega (arith, c.in_ok-more.ensures.shorter, c.in-Some.ensures.shorter));
   started = c.in_ok-more.ensures.started;
 }
+
+pub behind_ring-requires-clause-room : goal.behind_ring-requires-clause-room
+behind_ring-requires-clause-room c = c.loop-more.invariant.list.room
+
+pub behind_ring-requires-clause-started : goal.behind_ring-requires-clause-started
+behind_ring-requires-clause-started c = c.loop-more.invariant.started
+
+pub returns-in_err-more-clause-ok : goal.returns-in_err-more-clause-ok
+returns-in_err-more-clause-ok c = IfOk-from_err _ _ c.from_residual.ensures.0
+
+pub returns-in_err-more-clause-room : goal.returns-in_err-more-clause-room
+returns-in_err-more-clause-room c = IfOk-from_err _ _ c.from_residual.ensures.0
+
+pub returns-in_err-more-clause-shorter : goal.returns-in_err-more-clause-shorter
+returns-in_err-more-clause-shorter c = IfOk-from_err _ _ c.from_residual.ensures.0
+
+pub returns-then-not-goes_on-clause-room : goal.returns-then-not-goes_on-clause-room
+returns-then-not-goes_on-clause-room c = less_room c.behind_ring.new.self c.in_ok-more.more.now c.in-Some.behind.now c.in_ok-more.ensures.room (omega (arith, c.in-Some.ensures.shorter))
+
+pub returns-then-not-goes_on-clause-shorter : goal.returns-then-not-goes_on-clause-shorter
+returns-then-not-goes_on-clause-shorter c = omega (arith, c.in-Some.ensures.shorter, c.in_ok-more.ensures.shorter, c.loop-more.invariant.list.shorter)
