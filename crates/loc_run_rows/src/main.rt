@@ -21,10 +21,13 @@ use crate::failing::{failing, pieces};
 use crate::hostile::hostile;
 use crate::making::{cut, make};
 use crate::playing::{brief, copies, equal, run, same};
+use crate::runs::words_of;
 use crate::stage::Stage;
 use crate::stop::Stop;
 use crate::trips::{orders, refused, shuffles, trip};
+use loc_top::{answer, status_of};
 use std::alloc::Global;
+use std::process::ExitCode;
 use std::{fs, io, mem};
 
 // The files of rows, in the order in which they are played.
@@ -91,9 +94,10 @@ fn play_all(page: &mut String, alloc: Global, text: &str) -> Result<(), Stop> {
     played
 }
 
-fn main(rt: HostRuntime) -> io::Result<()> {
+// Plays the files of rows, and prints what their steps leave.
+fn play_files(rt: &HostRuntime) -> io::Result<()> {
     for name in &FILES {
-        let text = fs::read_to_string(&rt, *name)?;
+        let text = fs::read_to_string(rt, *name)?;
         println!(rt; "# {name}")?;
         let mut page = String::new(rt.alloc());
         let played = play_all(&mut page, rt.alloc(), text.as_str());
@@ -103,4 +107,28 @@ fn main(rt: HostRuntime) -> io::Result<()> {
         }
     }
     Ok(())
+}
+
+// Words that are no command.
+const NO_COMMAND: &str = "query layer.wkt";
+
+// Runs words that are no command, and prints their status.
+fn start_refused(rt: &HostRuntime) -> io::Result<()> {
+    match words_of(rt.alloc(), NO_COMMAND) {
+        Ok(words) => {
+            let status = status_of(rt, words.as_slice());
+            println!(rt; "# {NO_COMMAND}: status {status}")
+        }
+        Err(stop) => println!(rt; "{stop:?}"),
+    }
+}
+
+// The status of a program that could not print.
+const NOT_PRINTED: u8 = 99;
+
+fn main(rt: HostRuntime) -> ExitCode {
+    if play_files(&rt).is_err() || start_refused(&rt).is_err() {
+        return ExitCode::from(NOT_PRINTED);
+    }
+    answer(&rt)
 }

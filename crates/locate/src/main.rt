@@ -1,7 +1,7 @@
-//! The program. Its lines stand in `loc_start`, which two small programs of other words share.
+//! The program. Its lines stand in `loc_top`, which the program of rows shares.
 #![tactic(auto)]
 
-use loc_start::answer;
+use loc_top::answer;
 use std::process::ExitCode;
 
 fn main(rt: HostRuntime) -> ExitCode {

@@ -1,4 +1,4 @@
-use Rattle.loc_start.proofs.answer.Given as goal
+use Rattle.loc_top.proofs.start.status_of.Given as goal
 
 abbrev pub ghosts-start : goal.ghosts-start
 ghosts-start a = record { name = a.blank.name; parts = a.blank.parts }

@@ -1,12 +1,11 @@
 //! The start of the program: real files, standard output as `out`, standard error as notes, and the status that the run answers.
-#![tactic(auto)]
-
 ghost use Rattle.std.specs.Prelude.{◌≡◌, ◌⊎◌, ◌<◌, ◌≤◌, None, map, string_bytes};
 ghost use Rattle.std.specs.Process.{exit_status};
 ghost use Rattle.loc_top.specs.Run.{course_of};
 
+use crate::top::run;
+use loc_geom::Steps;
 use loc_io::{FileShelf, StdSink};
-use loc_top::{Steps, run};
 use std::alloc::Global;
 use std::marker::Brand;
 use std::process::ExitCode;
@@ -43,13 +42,21 @@ fn words(rt: &HostRuntime, alloc: Global) -> Option<Vec<String>> {
     }
 }
 
+/// The status of a run of these words over real files, standard output and standard error.
+pub fn status_of(rt: &HostRuntime, words: &[String]) -> u8
+    ensures range { result ≤ 5 }
+    ensures only_refused { result ≡ 2 → course_of (map string_bytes words.now) ≡ None }
+    ensures refused { course_of (map string_bytes words.now) ≡ None → (result ≡ 2) ⊎ (result ≡ 5) }
+{
+    start::<Brand>(rt, rt.alloc(), words, Blank::new(1))
+}
+
 /// Runs the program's own words, and ends with the status of that run.
 pub fn answer(rt: &HostRuntime) -> ExitCode
     ensures { exit_status result ≤ 5 }
 {
-    let alloc = rt.alloc();
-    match words(rt, alloc) {
-        Some(words) => ExitCode::from(start::<Brand>(rt, alloc, words.as_slice(), Blank::new(1))),
+    match words(rt, rt.alloc()) {
+        Some(words) => ExitCode::from(status_of(rt, words.as_slice())),
         None => ExitCode::from(NO_MEMORY),
     }
 }
