@@ -33,6 +33,10 @@ pub read : (scale row : ℕ) (rest line more : List ℕ) (features : List Featur
     → later scale row rest features ≡ result_and_then (with_row features (record { number = row + 1; id = decimal (row + 1); text = line }) (text_reading (reading scale) line)) (later scale (row + 1) more)
 read scale row rest line more features cut full = rw cut (numbered scale (row + 1) line (enumerate_from (row + 1 + 1) (lines more)) features false full)
 
+-- another blank line is none
+pub skipped : (scale row : ℕ) (rest line more : List ℕ) (features : List Feature) → lines rest ≡ line ∷ lines more → is_blank line ≡ true → later scale row rest features ≡ later scale (row + 1) more features
+skipped scale row rest line more features cut blank = rw cut (numbered scale (row + 1) line (enumerate_from (row + 1 + 1) (lines more)) features true blank)
+
 -- the fault of a row is that of the layer
 pub row_fault : (read : List ℕ → Result Polygons TextFault) (row : RowRead) (features : List Feature) (fault : LayerFault) → IsFaultOf row fault → IsFaultOf (features_from read (row ∷ []) features) fault
 row_fault read row features f.NoMemory is = tt

@@ -18,7 +18,7 @@ use Rattle.loc_status.specs.Versions.{AreVersions}
 use Rattle.loc_persist.specs.Meaning.{VersionsMeaning, IsMeaning}
 use Rattle.loc_cover.specs.Legends.{LegendRows, IsSound, IsTrueLegend}
 use Rattle.loc_write.specs.Written.{HoldsParts, IsContentOf}
-use Rattle.loc_making.specs.Writing.{IsFront, IsWhole, WritesFile}
+use Rattle.loc_page.specs.Writing.{IsFront, IsWhole, WritesFile}
 use Rattle.loc_laws_built.specs.Built.{IsPlaneOf}
 use Rattle.loc_laws_built.proofs.Counted.{layer_fits}
 use Rattle.loc_laws_built.proofs.Spelled.{bytes_of_are}

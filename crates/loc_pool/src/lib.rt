@@ -10,8 +10,6 @@ mod heap;
 mod node;
 mod pool;
 mod slabs;
-#[cfg(test)]
-mod tests;
 
 pub use pool::Pool;
 

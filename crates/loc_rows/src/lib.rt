@@ -1,5 +1,5 @@
 //! What no clause says and no command shows: that answers come from the lists that a sweep keeps, the rows of nodes by hand, that a counter of
-//! steps takes no room, where tokens begin and end, and that real files and sinks do as is told. Tests of the crates below, and
+//! steps takes no room, where tokens begin and end, and that steady files and sinks do as is told. Tests of the crates below, and
 //! nothing else; nothing stands on it.
 #![tactic(auto)]
 

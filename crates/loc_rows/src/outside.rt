@@ -1,10 +1,8 @@
-//! What no clause and no run says of files and sinks: that calls on steady ones succeed with ample memory, and that the real files and
-//! streams give and take what the calls say.
+//! What no clause and no run says of files and sinks: that calls on steady ones succeed with ample memory.
 
-use loc_io::{FileShelf, Shelf, StdSink, SteadyShelf, SteadySink, read_all, write_all};
+use loc_io::{Shelf, SteadyShelf, SteadySink, read_all, write_all};
 use std::alloc::Global;
 use std::test::Fail;
-use std::{fs, io};
 
 // Whether the file under the name has these bytes.
 fn reads<F: Shelf>(alloc: Global, shelf: &mut F, name: &str, bytes: &[u8]) -> bool {
@@ -54,31 +52,5 @@ fn steady_files(rt: HostRuntime) -> Result<(), Fail> {
     assert!(rt; reads(alloc, &mut shelf, "c", b""));
     assert!(rt; calls_before_failure(&mut shelf) == 7);
     assert!(rt; write_all(&mut SteadySink::new(), b"ab").is_ok());
-    Ok(())
-}
-
-#[test]
-fn real_files(rt: HostRuntime) -> Result<(), Fail> {
-    let alloc = rt.alloc();
-    let mut shelf = FileShelf::new(&rt);
-    fs::write(&rt, "a", "12345")?;
-    assert!(rt; calls_before_failure(&mut shelf) == 7);
-    assert!(rt; reads(alloc, &mut shelf, "a", b"12345"));
-    assert!(rt; reads(alloc, &mut shelf, "b", b"xyz"));
-    assert!(rt;
-        !reads(alloc, &mut shelf, "c", b""),
-        "a name that is not there"
-    );
-    assert!(rt; !reads(alloc, &mut shelf, ".", b""), "a directory");
-    Ok(())
-}
-
-#[test]
-fn real_streams(rt: HostRuntime) -> Result<(), Fail> {
-    let out = rt.stdout();
-    assert!(rt; write_all(&mut StdSink::new(io::writer(&out)), b"to a real output\n").is_ok());
-    assert!(rt; write_all(&mut StdSink::new(fs::create(&rt, "c")?), b"whole").is_ok());
-    assert!(rt; fs::read(&rt, "c")?.as_slice() == b"whole".as_slice());
-    assert!(rt; write_all(&mut StdSink::new(fs::create(&rt, "/dev/full")?), b"whole").is_err());
     Ok(())
 }

@@ -104,15 +104,38 @@ fn expect<I: Locator, L: Ledger>(
     Ok(())
 }
 
-// The places of points in a layer, by the lists of its sweep.
-fn expect_row(rt: &impl Abort, alloc: Global, row: (Features, Places)) -> Result<(), Fail> {
-    let (features, wanted) = row;
-    let table = EdgeTable::make(alloc, &layer_of(alloc, features)?)?;
-    let Ok((index, _)) = sweep(alloc, &table, VecIndex::new(alloc)) else {
+// The plain table of a layer.
+fn table_of(alloc: Global, features: Features) -> Result<EdgeTable, Fail> {
+    let layer = layer_of(alloc, features)?;
+    let table = EdgeTable::make(alloc, &layer);
+    drop(layer);
+    Ok(table?)
+}
+
+// The places of points in a table, by the lists of its sweep.
+fn expect_swept(
+    rt: &impl Abort,
+    alloc: Global,
+    table: &EdgeTable,
+    wanted: Places,
+) -> Result<(), Fail> {
+    let Ok((index, floors)) = sweep(alloc, table, VecIndex::new(alloc)) else {
         return Err(Fail::new("edges that conflict"));
     };
+    drop(floors);
     table.law();
-    expect::<VecIndex, Brand>(rt, &index, &table, wanted, Blank::new(1))
+    let expected = expect::<VecIndex, Brand>(rt, &index, table, wanted, Blank::new(1));
+    drop(index);
+    expected
+}
+
+// The places of points in a layer.
+fn expect_row(rt: &impl Abort, alloc: Global, row: (Features, Places)) -> Result<(), Fail> {
+    let (features, wanted) = row;
+    let table = table_of(alloc, features)?;
+    let expected = expect_swept(rt, alloc, &table, wanted);
+    drop(table);
+    expected
 }
 
 #[test]
@@ -123,14 +146,22 @@ fn places_by_hand(rt: HostRuntime) -> Result<(), Fail> {
     Ok(())
 }
 
+// The two edges that a sweep of a table shows, and how they meet.
+fn shown(alloc: Global, table: &EdgeTable) -> Option<(u32, u32, Meeting)> {
+    match sweep(alloc, table, VecIndex::new(alloc)) {
+        Err(SweepFault::Conflict { a, b, meeting }) => Some((a, b, meeting)),
+        other => {
+            drop(other);
+            None
+        }
+    }
+}
+
 #[test]
 fn touch_by_hand(rt: HostRuntime) -> Result<(), Fail> {
-    let alloc = rt.alloc();
-    let table = EdgeTable::make(alloc, &layer_of(alloc, SIDE_BY_SIDE)?)?;
-    let Err(SweepFault::Conflict { a, b, meeting }) = sweep(alloc, &table, VecIndex::new(alloc))
-    else {
-        return Err(Fail::new("no edges that conflict"));
-    };
-    assert!(rt; matches!((a, b, meeting), (3, 4, Meeting::Touch)));
+    let table = table_of(rt.alloc(), SIDE_BY_SIDE)?;
+    let found = shown(rt.alloc(), &table);
+    drop(table);
+    assert!(rt; matches!(found, Some((3, 4, Meeting::Touch))));
     Ok(())
 }

@@ -63,15 +63,21 @@ fn toggle(versions: &mut Versions, item: u32, steps: u32) -> Result<(), AllocErr
     }
 }
 
-/// Whether two items, with a seal between, lie in two nodes, of which the first has the second as its extra child.
-fn two_nodes(alloc: Global) -> Result<bool, AllocError> {
-    let mut versions = Versions::new(alloc);
-    toggle(&mut versions, 5, 0)?;
+/// Puts two items in where there are none, with a seal behind each.
+fn put_two(versions: &mut Versions) -> Result<(), AllocError>
+    requires small { IsSmall versions.old 0 }
+    requires unsealed { versions.old.roots ≡ [] }
+{
+    toggle(versions, 5, 0)?;
     versions.seal()?;
-    toggle(&mut versions, 7, 1)?;
-    versions.seal()?;
-    if versions.nodes() != 2 {
-        return Ok(false);
+    toggle(versions, 7, 1)?;
+    versions.seal()
+}
+
+/// Whether two versions lie in two nodes, of which the first has the second as its extra child.
+fn are_two_nodes(versions: &Versions) -> bool {
+    if versions.nodes() != 2 || versions.sealed() != 2 {
+        return false;
     }
     let upper = NodeRow {
         item: 5,
@@ -89,12 +95,20 @@ fn two_nodes(alloc: Global) -> Result<bool, AllocError> {
         stamp: 0,
         extra: 0,
     };
-    Ok(
-        versions.row(1) == upper
-            && versions.row(2) == lower
-            && versions.root_number(0) == 1
-            && versions.root_number(1) == 1,
-    )
+    versions.row(1) == upper
+        && versions.row(2) == lower
+        && versions.root_number(0) == 1
+        && versions.root_number(1) == 1
+}
+
+/// Whether two items, with a seal between, lie in two such nodes.
+fn two_nodes(alloc: Global) -> Result<bool, AllocError> {
+    let mut versions = Versions::new(alloc);
+    let put = put_two(&mut versions);
+    let are_two = put.is_ok() && are_two_nodes(&versions);
+    drop(versions);
+    put?;
+    Ok(are_two)
 }
 
 #[test]

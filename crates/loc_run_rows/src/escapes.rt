@@ -54,15 +54,14 @@ fn step(escape: Escape, letter: u8, bytes: &mut Vec<u8>) -> Result<Escape, Stop>
     Ok(next)
 }
 
-/// The bytes that a text of a row stands for.
-pub(crate) fn unescaped(alloc: Global, text: &str) -> Result<Vec<u8>, Stop> {
-    let mut bytes = Vec::new(alloc);
+/// Puts the bytes that a text of a row stands for behind others.
+pub(crate) fn put_unescaped(bytes: &mut Vec<u8>, text: &str) -> Result<(), Stop> {
     let mut escape = Escape::None;
     for letter in text.bytes() {
-        escape = step(escape, letter, &mut bytes)?;
+        escape = step(escape, letter, bytes)?;
     }
     match escape {
-        Escape::None => Ok(bytes),
+        Escape::None => Ok(()),
         _ => Err(Stop::NoStep),
     }
 }

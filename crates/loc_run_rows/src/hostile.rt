@@ -1,7 +1,6 @@
 //! Index files whose nodes were put there to keep a judge busy: long chains, and paths that double at each level.
 
 use crate::making::{cut, number};
-use crate::stage::Stage;
 use crate::stop::Stop;
 use std::alloc::AllocError;
 
@@ -60,23 +59,15 @@ fn put_roots(index: &mut [u8], nodes: u32, version: usize) -> Result<(), Stop> {
     Ok(())
 }
 
-// Puts nodes and roots into an index, as the rest of the step says.
-fn put_more(index: &mut Vec<u8>, rest: &str) -> Result<(), Stop> {
+/// `hostile COUNT single|double VERSION`: an index with so many hostile nodes more, to which the roots lead from a version on.
+pub(crate) fn put_hostile(index: &mut Vec<u8>, built: &[u8], rest: &str) -> Result<(), Stop> {
     let (count, rest) = cut(rest);
     let (links, version) = cut(rest);
     let count = number(count)? as u32;
-    let nodes = number_at(index, 36)?;
+    let nodes = number_at(built, 36)?;
+    index.extend_from_slice(built)?;
     put_roots(index, nodes, number(version)? as usize)?;
     put_number(index, 36, nodes.saturating_add(count))?;
     put_nodes(index, nodes, count, links == "double")?;
-    Ok(())
-}
-
-/// `hostile COUNT single|double VERSION`: the file `index` is the file `built` with so many hostile nodes more, to which the roots lead from
-/// a version on.
-pub(crate) fn hostile(stage: &mut Stage, rest: &str) -> Result<(), Stop> {
-    let mut index = Vec::from_slice(stage.alloc, stage.bytes("built")?)?;
-    put_more(&mut index, rest)?;
-    stage.put("index", &index)?;
     Ok(())
 }

@@ -1,7 +1,7 @@
 //! Rows of runs: words, files, and what `run` leaves of them. The files of data/ have the rows, a step a line; what each step leaves is printed
 //! behind it, and has to be what the file `stdout` beside src/ has.
 //!
-//! `row NAME` begins a row, over a shelf without files. The steps of `making` and `hostile` make files, those of `playing`, `trips` and `failing`
+//! `row NAME` begins a row, over a shelf without files. The steps of `making` and `shapes` make files, those of `playing`, `trips` and `failing`
 //! run words: behind `|` stands what is left on out, behind `!` what is left on notes. A line without a step, or that begins with `#`, is a remark.
 #![tactic(auto)]
 
@@ -18,7 +18,6 @@ mod trips;
 mod watched;
 
 use crate::failing::{failing, pieces};
-use crate::hostile::hostile;
 use crate::making::{cut, make};
 use crate::playing::{brief, copies, equal, run, same};
 use crate::runs::words_of;
@@ -67,7 +66,6 @@ fn play(page: &mut String, stage: &mut Stage, verb: &str, rest: &str) -> Result<
         "shuffles" => shuffles(page, stage, rest),
         "failing" => failing(page, stage, rest),
         "pieces" => pieces(page, stage, rest),
-        "hostile" => hostile(stage, rest),
         _ => make(stage, verb, rest),
     }
 }

@@ -2,11 +2,11 @@
 
 ghost use Rattle.std.specs.Prelude.{◌<◌, ◌^◌, IfOk};
 
-use crate::escapes::unescaped;
+use crate::escapes::put_unescaped;
+use crate::hostile::put_hostile;
 use crate::shapes::shape;
 use crate::stage::Stage;
 use crate::stop::Stop;
-use std::alloc::{AllocError, Global};
 
 /// The first word of a text, and what stands behind the space.
 pub(crate) fn cut(text: &str) -> (&str, &str) {
@@ -23,104 +23,88 @@ pub(crate) fn number(word: &str) -> Result<u64, Stop>
     }
 }
 
-// Bytes so many times over.
-fn repeated(alloc: Global, bytes: &[u8], count: u64) -> Result<Vec<u8>, AllocError> {
-    let mut all = Vec::new(alloc);
-    for _ in 0..count {
-        all.extend_from_slice(bytes)?;
-    }
-    Ok(all)
-}
-
-// `file NAME BYTES`: a file of these bytes.
-fn file(stage: &mut Stage, rest: &str) -> Result<(), Stop> {
-    let (name, text) = cut(rest);
-    let bytes = unescaped(stage.alloc, text)?;
-    stage.put(name, &bytes)?;
-    Ok(())
-}
-
 // `more NAME COUNT BYTES`: these bytes so many times behind those of a file.
-fn more(stage: &mut Stage, rest: &str) -> Result<(), Stop> {
-    let (name, rest) = cut(rest);
+fn put_more(bytes: &mut Vec<u8>, old: &[u8], rest: &str) -> Result<(), Stop> {
     let (count, text) = cut(rest);
-    let part = unescaped(stage.alloc, text)?;
-    let mut bytes = Vec::from_slice(stage.alloc, stage.bytes(name)?)?;
-    bytes.extend_from_slice(&repeated(stage.alloc, &part, number(count)?)?)?;
-    stage.put(name, &bytes)?;
+    bytes.extend_from_slice(old)?;
+    for _ in 0..number(count)? {
+        put_unescaped(bytes, text)?;
+    }
     Ok(())
 }
 
 // `times NAME COUNT`: a file so many times over.
-fn times(stage: &mut Stage, rest: &str) -> Result<(), Stop> {
-    let (name, count) = cut(rest);
-    let bytes = repeated(stage.alloc, stage.bytes(name)?, number(count)?)?;
-    stage.put(name, &bytes)?;
-    Ok(())
-}
-
-// `copy FROM NAME`: a file with the bytes of another.
-fn copy(stage: &mut Stage, rest: &str) -> Result<(), Stop> {
-    let (from, name) = cut(rest);
-    let bytes = Vec::from_slice(stage.alloc, stage.bytes(from)?)?;
-    stage.put(name, &bytes)?;
-    Ok(())
-}
-
-// `save NAME`: a file of what stands on out of the last run.
-fn save(stage: &mut Stage, name: &str) -> Result<(), Stop> {
-    let bytes = Vec::from_slice(stage.alloc, stage.left()?.out.bytes())?;
-    stage.put(name, &bytes)?;
-    Ok(())
-}
-
-// Bytes with those of a text in place of as many as are cut out at a place.
-fn spliced(
-    alloc: Global,
-    old: &[u8],
-    at: usize,
-    count: usize,
-    text: &str,
-) -> Result<Vec<u8>, Stop> {
-    let behind = at.saturating_add(count);
-    if behind < at || old.len() < behind {
-        return Err(Stop::NoStep);
+fn put_times(bytes: &mut Vec<u8>, old: &[u8], count: &str) -> Result<(), Stop> {
+    for _ in 0..number(count)? {
+        bytes.extend_from_slice(old)?;
     }
-    let mut bytes = Vec::from_slice(alloc, &old[..at])?;
-    bytes.extend_from_slice(&unescaped(alloc, text)?)?;
-    bytes.extend_from_slice(&old[behind..])?;
-    Ok(bytes)
+    Ok(())
 }
 
 // `splice NAME AT CUT BYTES`: in a file, these bytes in place of as many as are cut out there.
-fn splice(stage: &mut Stage, rest: &str) -> Result<(), Stop> {
-    let (name, rest) = cut(rest);
+fn put_spliced(bytes: &mut Vec<u8>, old: &[u8], rest: &str) -> Result<(), Stop> {
     let (at, rest) = cut(rest);
     let (count, text) = cut(rest);
     let at = number(at)? as usize;
-    let count = number(count)? as usize;
-    let bytes = spliced(stage.alloc, stage.bytes(name)?, at, count, text)?;
-    stage.put(name, &bytes)?;
+    let behind = at + number(count)? as usize;
+    if old.len() < behind {
+        return Err(Stop::NoStep);
+    }
+    bytes.extend_from_slice(&old[..at])?;
+    put_unescaped(bytes, text)?;
+    bytes.extend_from_slice(&old[behind..])?;
     Ok(())
 }
 
-// `damaged AT CUT BYTES`: the file `index` is the file `sample` with a splice.
-fn damaged(stage: &mut Stage, rest: &str) -> Result<(), Stop> {
-    copy(stage, "sample index")?;
-    let line = format!(in stage.alloc; "index {rest}")?;
-    splice(stage, line.as_str())
+// Puts the bytes of the file that a step makes of the file `old` and the rest of its words.
+fn put_made(
+    bytes: &mut Vec<u8>,
+    stage: &Stage,
+    verb: &str,
+    old: &str,
+    rest: &str,
+) -> Result<(), Stop> {
+    match verb {
+        "file" => put_unescaped(bytes, rest),
+        "more" => put_more(bytes, stage.bytes(old)?, rest),
+        "times" => put_times(bytes, stage.bytes(old)?, rest),
+        "copy" => Ok(bytes.extend_from_slice(stage.bytes(old)?)?),
+        "save" => Ok(bytes.extend_from_slice(stage.left()?.out.bytes())?),
+        "hostile" => put_hostile(bytes, stage.bytes(old)?, rest),
+        _ => put_spliced(bytes, stage.bytes(old)?, rest),
+    }
+}
+
+// The file that a step makes, the file that it is made of, and the rest of its words: `copy FROM NAME`, `save NAME`, the file of what stands on out of
+// the last run, `damaged AT CUT BYTES`, the file `index` of the file `sample`, and `hostile`, the file `index` of the file `built`.
+fn names_of<'a>(verb: &str, rest: &'a str) -> (&'a str, &'a str, &'a str) {
+    let (name, behind) = cut(rest);
+    match verb {
+        "copy" => (behind, name, ""),
+        "damaged" => ("index", "sample", rest),
+        "hostile" => ("index", "built", rest),
+        _ => (name, name, behind),
+    }
+}
+
+// Makes a file of another, or of bytes.
+fn file(stage: &mut Stage, verb: &str, rest: &str) -> Result<(), Stop> {
+    let (name, old, rest) = names_of(verb, rest);
+    let mut bytes = Vec::new(stage.alloc);
+    let mut made = put_made(&mut bytes, stage, verb, old, rest);
+    if made.is_ok() {
+        made = stage.put(name, &bytes).map_err(Stop::from);
+    }
+    drop(bytes);
+    made
 }
 
 /// Makes a file by a step of these, or by one of `shapes`.
 pub(crate) fn make(stage: &mut Stage, verb: &str, rest: &str) -> Result<(), Stop> {
     match verb {
-        "file" => file(stage, rest),
-        "more" => more(stage, rest),
-        "times" => times(stage, rest),
-        "copy" => copy(stage, rest),
-        "save" => save(stage, rest),
-        "splice" => splice(stage, rest),
-        "damaged" => damaged(stage, rest),
+        "file" | "more" | "times" | "copy" | "save" | "splice" | "damaged" | "hostile" => {
+            file(stage, verb, rest)
+        }
         _ => shape(stage, verb, rest),
     }
 }

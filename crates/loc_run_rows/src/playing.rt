@@ -120,12 +120,16 @@ pub(crate) fn brief(page: &mut String, stage: &mut Stage, line: &str) -> Result<
 pub(crate) fn copies(page: &mut String, stage: &Stage, line: &str) -> Result<(), Stop> {
     let (name, count) = cut(line);
     let part = stage.bytes(name)?;
-    if part.is_empty() {
-        return Err(Stop::NoStep);
+    let mut rest = stage.left()?.out.bytes();
+    let mut found = 0u64;
+    for _ in 0..rest.len() {
+        match rest.strip_prefix(part) {
+            Some(behind) => rest = behind,
+            None => break,
+        }
+        found = found.saturating_add(1);
     }
-    let out = stage.left()?.out.bytes();
-    let all_same = out.chunks(part.len()).all(|chunk| chunk == part);
-    let found = out.chunks(part.len()).count();
+    let all_same = rest.is_empty();
     writeln!(page, "{found} copies of {count}: {all_same}")?;
     Ok(())
 }

@@ -2,7 +2,7 @@
 
 ghost use Rattle.std.specs.Prelude.{◌≡◌, ◌<◌};
 
-use crate::escapes::unescaped;
+use crate::escapes::put_unescaped;
 use crate::stop::Stop;
 use crate::watched::{Watch, WatchedShelf, WatchedSink};
 use loc_io::{MemShelf, MemSink};
@@ -49,11 +49,11 @@ impl Left {
 
 // The word that a word of a line stands for.
 fn word_of(alloc: Global, word: &str) -> Result<String, Stop> {
-    let text = if word == "\\e" { "" } else { word };
-    match String::from_utf8(unescaped(alloc, text)?) {
-        Ok(word) => Ok(word),
-        Err(_) => Err(Stop::NoStep),
+    let mut bytes = Vec::new(alloc);
+    if word != "\\e" {
+        put_unescaped(&mut bytes, word)?;
     }
+    String::from_utf8(bytes).map_err(|_| Stop::NoStep)
 }
 
 // Puts the words of a line behind others.

@@ -31,6 +31,25 @@ static REFUSED: [Step; 6] = [
     (false, "face layer 1\\s1 --scale", ""),
 ];
 
+// The words of a step, for a layer by its scale and what stands behind it.
+fn words_of(alloc: Global, front: &str, given: &str, back: &str) -> Result<String, AllocError> {
+    if front.ends_with("--scale") {
+        format!(in alloc; "{front} {given}{back}")
+    } else {
+        String::from_str(alloc, front)
+    }
+}
+
+// Plays a step of these words.
+fn play_step(page: &mut String, stage: &mut Stage, is_shown: bool, line: &str) -> Result<(), Stop> {
+    writeln!(page, "  {line}")?;
+    if is_shown {
+        run(page, stage, line)
+    } else {
+        same(page, stage, line)
+    }
+}
+
 // Plays the steps of a trip, for a layer by its scale and what stands behind it.
 fn play_steps(
     page: &mut String,
@@ -39,17 +58,10 @@ fn play_steps(
     given: &str,
 ) -> Result<(), Stop> {
     for (is_shown, front, back) in steps {
-        let line = if front.ends_with("--scale") {
-            format!(in stage.alloc; "{front} {given}{back}")?
-        } else {
-            String::from_str(stage.alloc, front)?
-        };
-        writeln!(page, "  {line}")?;
-        if *is_shown {
-            run(page, stage, line.as_str())?;
-        } else {
-            same(page, stage, line.as_str())?;
-        }
+        let line = words_of(stage.alloc, front, given, back)?;
+        let played = play_step(page, stage, *is_shown, line.as_str());
+        drop(line);
+        played?;
     }
     Ok(())
 }
@@ -64,20 +76,35 @@ pub(crate) fn refused(page: &mut String, stage: &mut Stage, given: &str) -> Resu
     play_steps(page, stage, &REFUSED, given)
 }
 
-// The text of an order of so many edges, by its number among all of them.
-fn order_text(alloc: Global, edges: u32, number: u32) -> Result<String, AllocError> {
-    let mut order = Vec::new(alloc);
+// Puts in the order of so many edges with this number among all of them.
+fn put_order(order: &mut Vec<u32>, edges: u32, number: u32) -> Result<(), AllocError> {
     let mut rest = number;
     for edge in 0..edges {
         let at = (rest % (edge + 1)) as usize;
         order.insert(at.min(order.len()), edge)?;
         rest /= edge + 1;
     }
-    let mut text = String::new(alloc);
-    for edge in &order {
+    Ok(())
+}
+
+// Puts the text of an order behind another.
+fn put_order_text(text: &mut String, order: &[u32]) -> Result<(), AllocError> {
+    for edge in order {
         writeln!(text, "{edge}")?;
     }
-    Ok(text)
+    Ok(())
+}
+
+// Puts the text of the order of so many edges with this number.
+fn put_order_of(
+    text: &mut String,
+    alloc: Global,
+    edges: u32,
+    number: u32,
+) -> Result<(), AllocError> {
+    let mut order = Vec::new(alloc);
+    put_order(&mut order, edges, number)?;
+    put_order_text(text, &order)
 }
 
 // The words of a query by trapezoids in an order.
@@ -85,8 +112,10 @@ const BY_ORDER: &str = "query layer points --scale 0 --index trap --order order"
 
 // Whether the order of so many edges with a number gives the same answers as the last run.
 fn order_agrees(stage: &mut Stage, edges: u32, number: u32) -> Result<bool, Stop> {
-    let order = order_text(stage.alloc, edges, number)?;
-    stage.put("order", order.as_bytes())?;
+    let mut text = String::new(stage.alloc);
+    put_order_of(&mut text, stage.alloc, edges, number)?;
+    stage.put("order", text.as_bytes())?;
+    drop(text);
     stage.take_words(BY_ORDER)?;
     stage.agrees()
 }

@@ -4,8 +4,8 @@ ghost use Rattle.std.specs.Prelude.{◌≡◌, ◌<◌, ◌≤◌, ◌^◌, ℕ,
 ghost use Rattle.loc_spec_plane.specs.Tables.{IsTable};
 ghost use Rattle.loc_spec_index.specs.IndexFile.{bytes_of};
 ghost use Rattle.loc_cover.specs.Legends.{FitsTable, IsSound};
-ghost use Rattle.loc_making.specs.Making.{PutsBytes};
-ghost use Rattle.loc_making.specs.Writing.{WritesFile};
+ghost use Rattle.loc_page.specs.Making.{PutsBytes};
+ghost use Rattle.loc_page.specs.Writing.{WritesFile};
 ghost use Rattle.loc_write.specs.Written.{content_of};
 ghost use Rattle.loc_spec_text.specs.Limits.{most_id_bytes, most_pieces};
 
@@ -14,7 +14,7 @@ use crate::writer::put_head;
 use loc_cover::Legend;
 use loc_edges::EdgeTable;
 use loc_io::{Shelf, WriteFault};
-use loc_making::FilePage;
+use loc_page::FilePage;
 use loc_spec_index::NodeRow;
 
 // All parts, with these roots and nodes.

@@ -7,7 +7,7 @@ ghost use Rattle.loc_spec_index.specs.declared.NodeRow.{NodeRow as RowOf};
 ghost use Rattle.loc_spec_index.specs.IndexFile.{none_or_next};
 ghost use Rattle.loc_cover.specs.Legends.{FitsTable};
 ghost use Rattle.loc_persist.specs.ByNumber.{AreRowsByNumber, AreRootsByNumber};
-ghost use Rattle.loc_making.specs.Making.{PutsBytes};
+ghost use Rattle.loc_page.specs.Making.{PutsBytes};
 ghost use Rattle.loc_write.specs.Bytes.{id_bytes, corner_bytes, edge_bytes, mark_bytes, cover_bytes, number_bytes, node_bytes};
 ghost use Rattle.loc_write.specs.Written.{edge_rows, marks_from};
 ghost use Rattle.loc_spec_text.specs.Limits.{most_id_bytes, most_members, most_pieces};
@@ -16,7 +16,7 @@ use crate::rows::{corner_row, edge_row, floor_number, id_row, mark_row, node_row
 use loc_cover::Legend;
 use loc_edges::{EdgeTable, Mark};
 use loc_io::{Shelf, WriteFault};
-use loc_making::FilePage;
+use loc_page::FilePage;
 use loc_persist::Versions;
 use loc_spec_index::NodeRow;
 

@@ -6,8 +6,8 @@ ghost use Rattle.loc_spec_plane.specs.Tables.{IsTable};
 ghost use Rattle.loc_spec_index.specs.Content.{Content};
 ghost use Rattle.loc_spec_index.specs.IndexFile.{IsFileOf, bytes_of};
 ghost use Rattle.loc_cover.specs.Legends.{FitsTable, IsSound};
-ghost use Rattle.loc_making.specs.Making.{PutsBytes};
-ghost use Rattle.loc_making.specs.Writing.{WritesFile};
+ghost use Rattle.loc_page.specs.Making.{PutsBytes};
+ghost use Rattle.loc_page.specs.Writing.{WritesFile};
 ghost use Rattle.loc_write.specs.Texts.{front_text, head_text, list_text};
 ghost use Rattle.loc_write.specs.Written.{IsContentOf};
 ghost use Rattle.loc_spec_text.specs.Limits.{most_id_bytes, most_pieces};
@@ -21,7 +21,7 @@ use crate::rows::{Counts, header_row};
 use loc_cover::Legend;
 use loc_edges::EdgeTable;
 use loc_io::{Shelf, WriteFault};
-use loc_making::FilePage;
+use loc_page::FilePage;
 use loc_persist::Versions;
 
 // The ids, the corners, the edges and the marks.

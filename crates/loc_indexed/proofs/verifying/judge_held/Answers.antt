@@ -13,3 +13,6 @@ pub returns-in-Err-clause-goes_on : goal.returns-in-Err-clause-goes_on
 returns-in-Err-clause-goes_on c m =
     let held = c.args.held.now.content in
     rw c.flaw_stop_of.ensures (goes_flawed first_is_found held m (files_are_readable _ c.args.held.now.version held c.law.ensures) c.in-Err.fault c.in-Err.ensures.first)
+
+pub returns-in-Err-clause-is_true : goal.returns-in-Err-clause-is_true
+returns-in-Err-clause-is_true c = tt

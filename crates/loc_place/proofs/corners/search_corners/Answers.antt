@@ -1,4 +1,5 @@
 use Rattle.std.proofs.Common.{◌≡◌, ◌+◌, ◌-◌, ◌/◌, true, length, subst, arith}
+use Rattle.std.proofs.lemmas.Bool.{and_from, lt-ltb}
 use Rattle.loc_spec_plane.specs.Points.{before}
 use Rattle.loc_spec_plane.specs.Tables.{corner}
 use Rattle.loc_place.proofs.Behind.{before_earlier, before_later, stands_behind}
@@ -21,6 +22,9 @@ loop-low-preserved-in-Less g c =
       halved = step_halves c.args.steps.now l.steps _ (l.high - l.low) (length t.corners) i.counted c.compare.ensures.counted i.halved _ (omega arith);
       halving = step_doubles c.args.steps.now l.steps _ (l.high - l.low) (length t.corners) i.counted c.compare.ensures.counted i.halved (omega arith);
     }
+
+pub returns-in-Equal-clause-standing : goal.returns-in-Equal-clause-standing
+returns-in-Equal-clause-standing g c = and_from _ _ (lt-ltb (c.loop-low.low + (c.loop-low.high - c.loop-low.low) / 2) (length c.args.views.now.corners) (omega arith)) c.in-Equal.ensures.value
 
 pub returns-in-Equal-clause-halving : goal.returns-in-Equal-clause-halving
 returns-in-Equal-clause-halving g c =

@@ -5,3 +5,6 @@ pub returns-in_err-table-in-File-clause-goes_on : goal.returns-in_err-table-in-F
 returns-in_err-table-in-File-clause-goes_on g c next o k =
     let p = err_from_is_err_and c.from_residual.result c.from_residual.ensures.1 in
     rw (p.1, p.2) (c.in_err-table-in-File.ensures.goes_on _ _)
+
+pub returns-in-Err-clause-goes_on : goal.returns-in-Err-clause-goes_on
+returns-in-Err-clause-goes_on g c next o k = c.in_ok-table-in-File.ensures.goes_on _ _ _ _ (rw (c.edge_count.ensures.value, c.in_ok-table-in-File.ensures.table.table) at (c.in-Err.ensures.goes_on (λ _. next) o k))

@@ -1,11 +1,21 @@
-use Rattle.std.proofs.Common.{◌≡◌, ◌<◌, true, length, get_or, subst, arith}
+use Rattle.std.proofs.Common.{◌≡◌, ◌∙◌, ◌<◌, ◌+◌, ◌-◌, ◌/◌, true, length, get_or, subst, arith}
+use Rattle.std.proofs.lemmas.Bool.{and_from, lt-ltb}
+use Rattle.loc_spec_plane.specs.declared.Place.TheVariants.{Border}
+use Rattle.loc_spec_plane.specs.Places.{IsPlace}
 use Rattle.loc_spec_plane.specs.Points.{is_below}
 use Rattle.loc_spec_plane.specs.Tables.{edge}
+use Rattle.loc_place.proofs.Cornerless.{lies_on_is}
 use Rattle.loc_place.proofs.Listed.{listed_alive, listed_few, in_area}
 use Rattle.loc_scan.proofs.versions.search_list.Goals as goal
 
 pub side-requires : goal.side-requires
 side-requires g c = record { in_range = (listed_alive c.args.views.now c.args.p c.args.list.now c.requires.alive _ (omega arith)).0 }
+
+pub returns-in-On-clause-place : goal.returns-in-On-clause-place
+returns-in-On-clause-place g c =
+    let k = c.loop-low.low + (c.loop-low.high - c.loop-low.low) / 2 in
+    let live = listed_alive c.args.views.now c.args.p c.args.list.now c.requires.alive k (omega arith) in
+    let place : IsPlace c.args.views.now c.args.p (Border (get_or c.args.list.now k 0)) = (c.requires.cornerless, and_from _ _ (lt-ltb _ _ live.0) (lies_on_is c.args.views.now c.args.p c.requires.cornerless c.requires.planar.in_order _ live.0 ∙ and_from _ _ c.in-On.ensures.value live.1)) in place
 
 pub returns-in-On-clause-within : goal.returns-in-On-clause-within
 returns-in-On-clause-within g c = let few = listed_few c.args.views.now c.args.p c.args.list.now c.requires.alive in omega arith

@@ -1,4 +1,4 @@
-use Rattle.std.proofs.Common.{◌-◌, rules}
+use Rattle.std.proofs.Common.{◌-◌}
 use Rattle.loc_spec_plane.specs.Tables.{corner, hi_of}
 use Rattle.loc_status.proofs.Standing.{chain_in_range}
 use Rattle.loc_treeidx.proofs.Descents.{here_row, here_item}
@@ -37,4 +37,4 @@ returns-clause-node c =
     record { front = r.front; back = r.back; leads = r.leads; whole = r.whole }
 
 pub returns-clause-beside : goal.returns-clause-beside
-returns-clause-beside c = search rules steps 400000
+returns-clause-beside c = record { below = c.next_below-below.ensures; above = c.next_above-above.ensures }

@@ -1,8 +1,8 @@
 use Rattle.std.proofs.Common.{◌++◌, subst}
 use Rattle.std.proofs.lemmas.Result.{err_from_is_err_and}
-use Rattle.loc_making.proofs.Files.{broken, not-over, not-begun, over}
-use Rattle.loc_making.proofs.Growing.{page-cut, page-whole}
-use Rattle.loc_making.specs.Making.{Broke}
+use Rattle.loc_page.proofs.Files.{broken, not-over, not-begun, over}
+use Rattle.loc_page.proofs.Growing.{page-cut, page-whole}
+use Rattle.loc_page.specs.Making.{Broke}
 use Rattle.loc_spec_index.specs.IndexFile.{bytes_of}
 use Rattle.loc_write.specs.Written.{content_of}
 use Rattle.loc_write.proofs.by_rows.write_rows.Goals as goal

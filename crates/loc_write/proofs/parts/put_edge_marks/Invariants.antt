@@ -1,7 +1,7 @@
 use Rattle.std.proofs.Common.{◌≡◌, true, map, drop}
 use Rattle.std.specs.List.{flat_map}
 use Rattle.loc_spec_plane.specs.declared.Mark.{Mark}
-use Rattle.loc_making.proofs.Growing.{Goes}
+use Rattle.loc_page.proofs.Growing.{Goes}
 use Rattle.loc_write.specs.Bytes.{mark_bytes}
 use Rattle.loc_write.proofs.parts.put_edge_marks.Given as goal
 

@@ -1,7 +1,7 @@
 use Rattle.std.proofs.Common.{◌∙◌, ap, arith}
 use Rattle.std.proofs.lemmas.Result.{err_from_is_err_and}
 use Rattle.loc_spec_index.specs.IndexFile.{none_or_next}
-use Rattle.loc_making.proofs.Growing.{goes-more, goes-stop, goes-end}
+use Rattle.loc_page.proofs.Growing.{goes-more, goes-stop, goes-end}
 use Rattle.loc_write.specs.Bytes.{number_bytes}
 use Rattle.loc_write.proofs.Lists.{cut-row, cut-end}
 use Rattle.loc_write.proofs.parts.put_floors.Goals as goal

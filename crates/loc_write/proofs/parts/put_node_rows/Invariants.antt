@@ -1,6 +1,6 @@
 use Rattle.std.proofs.Common.{◌≡◌, true, drop}
 use Rattle.std.specs.List.{flat_map}
-use Rattle.loc_making.proofs.Growing.{Goes}
+use Rattle.loc_page.proofs.Growing.{Goes}
 use Rattle.loc_write.specs.Bytes.{node_bytes}
 use Rattle.loc_write.proofs.parts.put_node_rows.Given as goal
 

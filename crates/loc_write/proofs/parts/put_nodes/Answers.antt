@@ -1,6 +1,6 @@
 use Rattle.std.proofs.Common.{◌∙◌, ap, arith}
 use Rattle.std.proofs.lemmas.Result.{err_from_is_err_and}
-use Rattle.loc_making.proofs.Growing.{goes-more, goes-stop, goes-end}
+use Rattle.loc_page.proofs.Growing.{goes-more, goes-stop, goes-end}
 use Rattle.loc_write.specs.Bytes.{node_bytes}
 use Rattle.loc_write.proofs.Lists.{cut-at, cut-end}
 use Rattle.loc_write.proofs.Numbering.{row-is}

@@ -2,7 +2,7 @@ use Rattle.std.proofs.Common.{◌≡◌, true, List, drop}
 use Rattle.std.specs.List.{flat_map}
 use Rattle.loc_spec_index.specs.declared.NodeRow.{NodeRow}
 use Rattle.loc_persist.specs.ByNumber.{AreRowsByNumber}
-use Rattle.loc_making.proofs.Growing.{Goes}
+use Rattle.loc_page.proofs.Growing.{Goes}
 use Rattle.loc_write.specs.Bytes.{node_bytes}
 use Rattle.loc_write.proofs.parts.put_nodes.Given as goal
 

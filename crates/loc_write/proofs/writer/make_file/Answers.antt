@@ -1,8 +1,8 @@
-use Rattle.std.proofs.Common.{◌++◌, subst}
+use Rattle.std.proofs.Common.{◌++◌, subst, rules}
 use Rattle.std.proofs.lemmas.Result.{err_from_is_err_and}
-use Rattle.loc_making.proofs.Files.{broken, not-begun, not-over}
-use Rattle.loc_making.proofs.Growing.{page-cut, page-whole}
-use Rattle.loc_making.specs.Making.{Broke}
+use Rattle.loc_page.proofs.Files.{broken, not-begun, not-over, over}
+use Rattle.loc_page.proofs.Growing.{page-cut, page-whole}
+use Rattle.loc_page.specs.Making.{Broke}
 use Rattle.loc_spec_index.specs.IndexFile.{bytes_of}
 use Rattle.loc_write.proofs.writer.make_file.Goals as goal
 
@@ -21,3 +21,6 @@ returns-in_err-put_parts g c k is = broken (err_from_is_err_and _ c.from_residua
 
 pub returns-in_err-finish : goal.returns-in_err-finish
 returns-in_err-finish g c k is = not-over (err_from_is_err_and _ c.from_residual-in_err-finish.ensures.1).1 c.in_ok-create.ensures (page-whole c.in_ok-put_parts.was c.in_ok-flush.was c.new-page.ensures c.in_ok-flush.ensures.empty (c.put_parts.ensures.put k is) c.flush.ensures.put) c.in_err-finish.ensures
+
+pub returns : goal.returns
+returns g c k is = over _ c.in_ok-create.ensures (page-whole c.in_ok-put_parts.was c.in_ok-flush.was c.new-page.ensures c.in_ok-flush.ensures.empty (c.put_parts.ensures.put k is) c.flush.ensures.put) (search rules)

@@ -1,5 +1,5 @@
 use Rattle.std.proofs.lemmas.Result.{err_from_is_err_and}
-use Rattle.loc_making.proofs.Growing.{both, stop}
+use Rattle.loc_page.proofs.Growing.{both, stop}
 use Rattle.loc_write.proofs.writer.put_front.Goals as goal
 
 pub returns-in_err-put_corners-clause-put : goal.returns-in_err-put_corners-clause-put

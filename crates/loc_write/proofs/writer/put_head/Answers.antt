@@ -1,6 +1,6 @@
 use Rattle.std.proofs.Common.{◌∙◌}
 use Rattle.std.proofs.lemmas.Result.{err_from_is_err_and}
-use Rattle.loc_making.proofs.Growing.{both, stop, put-same}
+use Rattle.loc_page.proofs.Growing.{both, stop, put-same}
 use Rattle.loc_write.proofs.Spelling.{header-text}
 use Rattle.loc_write.proofs.writer.put_head.Goals as goal
 
