@@ -9,10 +9,9 @@ use Rattle.loc_spec_plane.specs.HalfEdges.{half_edge_count, cycle, edge_of, orig
 use Rattle.loc_spec_plane.specs.Faces.{face_above, hangs, least_corner}
 use Rattle.loc_laws_order.proofs.Sides.{above-not_low, same_point_refl}
 use Rattle.loc_laws_order.proofs.AliveAt.{alive_parts}
-use Rattle.loc_laws_order.proofs.TableOrder.{corner_before}
+use Rattle.loc_laws_order.proofs.TableOrder.{corner_before, lo_rises}
 use Rattle.loc_edges.specs.Floors.{FloorLists, AreFloors}
 use Rattle.loc_half.specs.HalfEdgeLists.{HalfEdgeLists, AreHalfEdges, leader_in, next_in}
-use Rattle.loc_laws_order.proofs.TableOrder.{lo_rises}
 use Rattle.loc_half.proofs.Halves.{either_way, edge-fits, origin-up, target-down, target-up, target-fits}
 use Rattle.loc_half.proofs.Orbits.{comes_from, leaves_there}
 use Rattle.loc_faces.specs.Cycles.{AreHanging, AreLeast, face_by}

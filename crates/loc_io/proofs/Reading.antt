@@ -3,13 +3,12 @@ use Rattle.std.proofs.Common.{◌≡◌, ◌≢◌, ℕ, ◌+◌, ◌<◌, ◌�
 use Rattle.std.proofs.lemmas.List.{append-nil}
 use Rattle.std.proofs.KnownBytes.{Consumes-kept, Consumes-nil}
 use Rattle.std.specs.Io.KnownBytes.{Consumes, IsAtEnd}
-use Rattle.std.specs.Prelude.{◌||◌, nat_lt}
+use Rattle.std.specs.Prelude.{◌||◌, nat_lt, Vec}
 use Rattle.loc_io.specs.Causes.{CountsLate, Rose}
 use Rattle.loc_io.specs.Entries.{Entries, taken}
 use Rattle.loc_io.specs.Meaning.{Meaning, IsCounted, KeepsFiles, KeepsMaking, NoneLate, Reads, TakesUp, absent, bytes_of}
 use Rattle.loc_io.specs.Whole.{ReadsAll, BytesAreTold}
 use Rattle.loc_io.specs.declared.whole.ReadAllFault.TheVariants.{ReadFault, TooLong, NoMemory}
-use Rattle.std.specs.Prelude.{Vec}
 use Rattle.std.specs.declared.alloc.Global.{Global}
 
 -- a call where none has failed is in time

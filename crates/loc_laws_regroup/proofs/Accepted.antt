@@ -14,7 +14,7 @@ use Rattle.loc_spec_text.specs.declared.Form.{Form}
 use Rattle.loc_spec_text.specs.declared.Form.TheVariants as form
 use Rattle.loc_spec_text.specs.declared.TextFault.{TextFault}
 use Rattle.loc_spec_text.specs.Reading.{Polygons, reading}
-use Rattle.loc_spec_text.proofs.DigitLaws.{digit_range}
+use Rattle.loc_spec_text.proofs.DigitLaws.{digit_range, decimal_digits}
 use Rattle.loc_rings.specs.Values.{Feature}
 use Rattle.loc_spec_text.specs.Limits.{most_id_bytes}
 use Rattle.loc_rings.specs.Layers.{layer_points, point_count}
@@ -23,7 +23,6 @@ use Rattle.loc_csvform.specs.declared.faults.LayerFault.TheVariants.{BadText, Lo
 use Rattle.loc_csvform.specs.Layer.{column, csv_row, csv_rows, features_from, field, is_row_line, layer_of, LayerRead, line_row, Row, row_id, row_of, RowRead, rows_of, rows_under, text_reading, with_feature, with_row}
 use Rattle.loc_csvform.proofs.Marks.{within}
 use Rattle.loc_laws_regroup.specs.Laws.{IsId}
-use Rattle.loc_spec_text.proofs.DigitLaws.{decimal_digits}
 use Rattle.loc_laws_regroup.proofs.Lists.{all_append, all_kept, all_map}
 use Rattle.loc_laws_regroup.proofs.Readings.{IsReadRing, reading_good}
 

@@ -1,8 +1,7 @@
 -- Laws of number values: what a reader shows to know a number's place on the grid, with no power of the exponent's size formed.
 use Rattle.std.proofs.Common.{◌≡◌, ◌≢◌, ℕ, zero, suc, ◌+◌, ◌-◌, ◌*◌, ◌/◌, ◌%◌, ◌^◌, ◌<◌, ◌≤◌, length, true, false, sym, ◌∙◌, ap, arith, mul_assoc, zero-mul, pow-suc, eq-eqb, ne_eqb, mul-le-mul_left, mul-le-mul_right}
-use Rattle.std.proofs.lemmas.Nat.{pow-add}
+use Rattle.std.proofs.lemmas.Nat.{pow-add, div-add-mod'}
 use Rattle.std.proofs.Math.Nat.{mul-mod_left, mul-div_cancel, eq_of_mul-eq-mul_right}
-use Rattle.std.proofs.lemmas.Nat.{div-add-mod'}
 use Rattle.std.proofs.lemmas.Bool.{lt-leb}
 use Rattle.std.specs.Prelude.{List, nat_le}
 use Rattle.loc_spec_text.specs.Number.{significand, raised, lowered, fraction_digits, scaled, unit, is_on_grid, magnitude, is_in_range}

@@ -1,11 +1,10 @@
 -- The laws of the plain reader: what it reads is spelled so, and what is spelled so is read.
 use Rattle.std.proofs.Common.{◌≡◌, ◌≢◌, ◌⊎◌, ℕ, zero, suc, ◌+◌, ◌≤◌, List, [], ◌∷◌, ◌++◌, length, Bool, true, false, Option, Some, None, option_map, option_and_then, refl, sym, ◌∙◌, ap, ap₂, inl, inr, arith, append_assoc, append-nil, length-append, codes, bytes_eq}
-use Rattle.std.specs.Prelude.{⊤}
+use Rattle.std.specs.Prelude.{⊤, Result, Err, MatchOption}
 use Rattle.std.specs.List.{AllByRecursion}
 use Rattle.std.proofs.lemmas.Option.{option_and_then_some, some_pair_parts, cond_some, none-some}
 use Rattle.std.proofs.lemmas.Slice.Eq.{bytes_eq-Decides}
 use Rattle.loc_spec_text.specs.Reader.{Reader, onto, next, members_at, enclosed_at, list_at, point_at, wide_end, wide_more, wide_point_at, one_of, all_of, tree_after, tree_of, geometry_of, wide_geometry_of}
-use Rattle.std.specs.Prelude.{Result, Err, MatchOption}
 use Rattle.loc_spec_text.specs.Bytes.{err_or}
 use Rattle.loc_spec_text.specs.declared.TextFault.{TextFault}
 use Rattle.loc_spec_text.specs.Reading.{Polygons, reading, reading_of, Reads, ReadsTree, word_fault}

@@ -1,10 +1,9 @@
 -- How many bytes an index file has: none is longer than a command reads.
 use Rattle.std.proofs.Common.{◌≡◌, ℕ, suc, ◌+◌, ◌*◌, ◌^◌, ◌<◌, ◌≤◌, Bool, true, false, List, [], ◌∷◌, ◌++◌, length, map, get_or, refl, sym, ◌∙◌, ap, subst, arith, length-append}
-use Rattle.std.specs.Prelude.{Option, None, sum_by}
+use Rattle.std.specs.Prelude.{Option, None, sum_by, min, ◌-◌, ◌&&◌, nat_lt, if◌then◌else◌}
 use Rattle.std.specs.Int.{w32}
 use Rattle.std.proofs.lemmas.List.Sums.{sum_by-cons}
 use Rattle.std.specs.List.{flat_map, last_or}
-use Rattle.std.specs.Prelude.{min, ◌-◌, ◌&&◌, nat_lt, if◌then◌else◌}
 use Rattle.loc_spec_plane.specs.Covers.{list_before}
 use Rattle.loc_spec_plane.specs.Lists.{is_rising}
 use Rattle.loc_spec_plane.specs.Points.{Point}

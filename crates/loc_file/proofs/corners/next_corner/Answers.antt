@@ -1,11 +1,9 @@
 use Rattle.std.proofs.Common.{[], ◌∷◌}
 use Rattle.loc_spec_index.specs.declared.Part.TheVariants.{Corners}
-use Rattle.loc_spec_index.specs.IndexFile.{order, point_fields}
+use Rattle.loc_spec_index.specs.IndexFile.{order, point_fields, follows}
 use Rattle.loc_file.specs.Readings.{stop}
-use Rattle.loc_file.proofs.Steps.{handed, wrong-along, read-along, fault-first}
-use Rattle.loc_file.proofs.Steps.{front-stop, fault-behind, read-append}
+use Rattle.loc_file.proofs.Steps.{handed, wrong-along, read-along, fault-first, front-stop, fault-behind, read-append}
 use Rattle.loc_spec_plane.specs.Points.{before}
-use Rattle.loc_spec_index.specs.IndexFile.{follows}
 use Rattle.loc_file.proofs.corners.next_corner.Goals as goal
 
 pub returns-in_err-corner-clause-err : goal.returns-in_err-corner-clause-err

@@ -1,4 +1,4 @@
-use Rattle.std.proofs.Common.{◌≡◌, ◌+◌, ◌-◌, ◌≤◌, length, sym, ◌∙◌, ap, subst, arith}
+use Rattle.std.proofs.Common.{◌≡◌, suc, ◌+◌, ◌-◌, ◌≤◌, length, refl, sym, ◌∙◌, ap, subst, arith}
 use Rattle.loc_spec_index.specs.Nodes.{Left, Right, child}
 use Rattle.loc_file.specs.Searches.{answer_of}
 use Rattle.loc_laws_search.proofs.Walking.{walk-on, walk-left, walk-right, same-walk}
@@ -50,3 +50,8 @@ loop-walked-preserved g c =
             omega (arith, i.few, c.side.ensures.counted, d, e);
       }
     ]
+
+pub returns-else-at-eq0-2-clause-found : goal.returns-else-at-eq0-2-clause-found
+returns-else-at-eq0-2-clause-found g c =
+    let l = c.loop-walked in
+    sym (ap answer_of (l.invariant.found ∙ same-walk c.args.views.now c.args.held.now.content.nodes c.args.p c.args.version (42 - l.walked) 0 l.at (suc (l.at - 1)) l.floor l.floor (omega (arith, c.loop-walked-test.false)) (omega (arith, c.if-at-eq0-2.false)) refl))

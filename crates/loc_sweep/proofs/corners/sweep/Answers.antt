@@ -1,7 +1,6 @@
 use Rattle.std.proofs.Common.{◌≡◌, ◌<◌, ◌≤◌, ℕ, List, Option, length, arith, sym, subst, ap₂}
 use Rattle.loc_sweep.specs.Line.{IsBegun}
-use Rattle.loc_edges.specs.Floors.{FloorLists}
-use Rattle.loc_edges.specs.Floors.{AreFloors}
+use Rattle.loc_edges.specs.Floors.{FloorLists, AreFloors}
 use Rattle.loc_sweep.proofs.UnderWay.{all_apart, all_floors, all_swept, goes_on, under_way}
 use Rattle.loc_sweep.proofs.corners.sweep.Goals as goal
 

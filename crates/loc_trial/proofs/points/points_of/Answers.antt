@@ -1,5 +1,6 @@
-use Rattle.std.proofs.Common.{◌≡◌, ◌+◌, ◌*◌, ◌%◌, ◌++◌, ap, sym, ◌∙◌, rules}
+use Rattle.std.proofs.Common.{◌≡◌, ◌+◌, ◌*◌, ◌%◌, ◌++◌, ap, sym, subst, ◌∙◌, arith, rules}
 use Rattle.std.specs.Prelude.{unsigned_abs}
+use Rattle.std.specs.List.{flat_map, range_with_len}
 use Rattle.loc_spec_plane.specs.Points.{Point}
 use Rattle.loc_spec_text.specs.Points.{ended}
 use Rattle.loc_gen.specs.Layers.{start_of}
@@ -13,3 +14,11 @@ loop-t-preserved c =
     let y : c.unsigned_abs-in-loop-t.result ≡ (c.loop-t.t * 25173) % (2 * c.args.n) = (let b : c.unsigned_abs-in-loop-t.result ≡ unsigned_abs c.y.result = search rules in b) ∙ ap unsigned_abs (c.y.ensures.value ∙ ap (λ (p : Point). p.y) c.gen_point-p.ensures) in
     let more = rw (x, y) at c.in_ok-push_point.ensures in
     more ∙ ap (λ l. l ++ ended (point_line c.args.n c.args.shift c.loop-t.t)) c.loop-t.invariant ∙ sym (one_more (λ t. ended (point_line c.args.n c.args.shift t)) c.loop-t.t)
+
+pub loop-t-init : goal.loop-t-init
+loop-t-init c = c.new-text.ensures.items
+
+pub returns : goal.returns
+returns c =
+    let all : c.loop-t.t ≡ c.args.n = omega (arith, c.loop-t-test.false) in
+    subst (λ k. c.loop-t.text.items ≡ flat_map (λ t. ended (point_line c.args.n c.args.shift t)) (range_with_len 0 k)) all c.loop-t.invariant

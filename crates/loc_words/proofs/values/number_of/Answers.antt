@@ -1,7 +1,6 @@
-use Rattle.std.proofs.Common.{◌≡◌, ◌∙◌, rules, length, ◌<◌}
+use Rattle.std.proofs.Common.{◌≡◌, ◌∙◌, rules, length, ◌<◌, true}
 use Rattle.std.specs.Char.{is_ascii_digit}
 use Rattle.std.specs.List.{list_all}
-use Rattle.std.proofs.Common.{true}
 use Rattle.loc_words.proofs.Numbers.{parsed}
 use Rattle.loc_words.proofs.values.number_of.Goals as goal
 

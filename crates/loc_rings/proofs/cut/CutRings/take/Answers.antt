@@ -1,5 +1,4 @@
-use Rattle.std.proofs.Common.{◌≡◌, ◌+◌, ◌++◌, [], ◌∷◌, length, map, sym, ◌∙◌, ap, ap₂, subst, arith, length-append}
-use Rattle.std.proofs.Common.{All}
+use Rattle.std.proofs.Common.{◌≡◌, ◌+◌, ◌++◌, [], ◌∷◌, length, map, sym, ◌∙◌, ap, ap₂, subst, arith, length-append, All}
 use Rattle.std.proofs.lemmas.List.Elements.{All-push}
 use Rattle.std.proofs.lemmas.List.{map-append}
 use Rattle.loc_rings.specs.Kept.{BeginAtZero}
