@@ -98,15 +98,18 @@ def text_of(rings):
 def row_of(number, layer, points):
     text = text_of(layer.rings).replace("\n", "\\n")
     head = [f"row bricks whose corners lie on sides of others, {number} of 10", f"file layer {text}",
-            "file points " + "".join(f"{x} {y}\\n" for x, y in points), "trip 0"]
-    answers = ["| " + layer.answer(p) for p in points]
+            "file points " + "".join(f"{x} {y}\\n" for x, y in points)]
+    answers = ["| " + layer.answer(p) for p in points] + ["status 0"]
     index = layer.index_line()
-    left = head + ["  build layer index --scale 0", "status 0", "made " + index.replace(" of", ":", 1), "  query layer points --scale 0 --index scan"]
-    left += answers + ["status 0", "  query layer points --scale 0 --index tree", "same", "  query layer points --scale 0 --index trap", "same"]
-    left += ["  ask index points", "same", "  verify index", "| " + index, "status 0", "  check layer --scale 0"]
-    left += [f"| features {len(layer.rings)} corners {len(layer.corners)} edges {len(layer.edges)}", "status 0", "run query layer points --scale 0"]
-    left += answers + ["status 0", "shuffles 24", "24 of 24 shuffles: the same", ""]
-    return head + ["run query layer points --scale 0", "shuffles 24", ""], left
+    query = "query layer points --scale 0"
+    steps = [("run build layer index --scale 0", ["status 0", "made " + index.replace(" of", ":", 1)]), (f"run {query} --index scan", answers)]
+    steps += [(f"same {query} --index {name}", ["same"]) for name in ("tree", "trap")]
+    steps += [("same ask index points", ["same"]), ("run verify index", ["| " + index, "status 0"])]
+    counts = f"| features {len(layer.rings)} corners {len(layer.corners)} edges {len(layer.edges)}"
+    steps += [("run check layer --scale 0", [counts, "status 0"]), (f"run {query}", answers)]
+    steps += [(f"same {query} --index trap --shuffle {n}", ["same"]) for n in range(24)]
+    left = head + [line for step, lines in steps for line in (step, *lines)]
+    return head + [step for step, _ in steps] + [""], left + [""]
 
 
 def main():

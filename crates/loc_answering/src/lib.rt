@@ -65,7 +65,11 @@ pub fn answer_lines<F: Copy + Drop, D: Answerer<F>, S: Shelf, O: Sink, L: Ledger
     requires line { length too_long.now ≤ 24 }
     requires fresh { IsFresh batch.old }
     requires fits { D.fits by.now }
-    ensures { AnswersSource (source name.now batch.old.limit (ended too_long.now)) (is_point_line batch.old.scale) (D.most_found by.now + D.most_put by.now) (told_by_line (told_by batch.old.scale (D.finds by.now) (D.tells by.now))) (moment (S.meaning shelf.old) (O.meaning out.old) steps.old) (moment (S.meaning shelf.new) (O.meaning out.new) steps.new) (end_of result) }
+    ensures { AnswersSource (source name.now batch.old.limit (ended too_long.now)) (is_point_line batch.old.scale)
+        (D.most_found by.now + D.most_put by.now)
+        (told_by_line (told_by batch.old.scale (D.finds by.now) (D.tells by.now)))
+        (moment (S.meaning shelf.old) (O.meaning out.old) steps.old)
+        (moment (S.meaning shelf.new) (O.meaning out.new) steps.new) (end_of result) }
 {
     match shelf.take_up(name) {
         Ok(()) => {}
@@ -95,7 +99,11 @@ pub fn answer_source<F: Shelf, I: Locator, N: FaceNumbers, O: Sink, L: Ledger>(
     requires fits { I.fits index.now table.now }
     requires legend { FitsTable table.now legend.now }
     requires faces { N.fits faces.now table.now }
-    ensures { AnswersSource (source name.now batch.old.limit (ended too_long.now)) (is_point_line batch.old.scale) (I.most index.now table.now) (by_line (answer_by batch.old.scale (I.finds index.now table.now) (N.shown faces.now) legend.now)) (moment (F.meaning shelf.old) (O.meaning out.old) steps.old) (moment (F.meaning shelf.new) (O.meaning out.new) steps.new) (end_of result) }
+    ensures { AnswersSource (source name.now batch.old.limit (ended too_long.now)) (is_point_line batch.old.scale)
+        (I.most index.now table.now) (by_line
+        (answer_by batch.old.scale (I.finds index.now table.now) (N.shown faces.now) legend.now))
+        (moment (F.meaning shelf.old) (O.meaning out.old) steps.old)
+        (moment (F.meaning shelf.new) (O.meaning out.new) steps.new) (end_of result) }
 {
     let by = ByPlace {
         index,

@@ -3,7 +3,7 @@ use Rattle.std.proofs.Common.{◌≡◌, ◌≢◌, ℕ, zero, suc, ◌<◌, ◌
 use Rattle.std.specs.Prelude.{set, option_map, slice_index_or, ◌==◌, if◌then◌else◌, is_ok, IsOk, Result, Ok, Err}
 use Rattle.std.specs.Option.{is_some}
 use Rattle.std.proofs.lemmas.List.Sums.{sum_by_push}
-use Rattle.std.proofs.lemmas.List.Elements.{All-append, All-cons, All-nil, Contains-push, All-tail}
+use Rattle.std.proofs.lemmas.List.Elements.{All-push, All-tail, Contains-append_left, Contains-push}
 use Rattle.std.proofs.lemmas.List.{map-append, ext_get_or, get_or_append_left, get_or-map, get_or_push, get_or-set_same, get_or-set_other, length-set, length-map, take-append-le, take_all}
 use Rattle.loc_spec_text.specs.Bytes.{ended_lines, unfinished}
 use Rattle.loc_spec_text.specs.Points.{point_of}
@@ -116,9 +116,6 @@ at_last (q ∷ points) last (suc i) p is = by (at_last points last i p is)
     by (inl h) = inl h
     by (inr h) = inr (omega (arith, h.0), h.1)
 
-none_more : {R : Type 0} (found : List (Option R)) → All (λ f. f ≡ None) found → All (λ f. f ≡ None) (found ++ None ∷ [])
-none_more found all = All-append (λ f. f ≡ None) found (None ∷ []) all (All-cons (λ f. f ≡ None) None [] refl (All-nil (λ f. f ≡ None)))
-
 right_more : (points : List (Option Point)) (last : Option Point) (queries : List Query) → All (λ (q : Query). get_or points q.line None ≡ Some q.point) queries → All (λ (q : Query). get_or (points ++ last ∷ []) q.line None ≡ Some q.point) queries
 right_more points last queries all = λ k d less. let q = slice_index_or queries k d in
     at_front points last q.line None (Some q.point) (within_list points q.line q.point (all k d less)) (all k d less)
@@ -127,30 +124,24 @@ right_more points last queries all = λ k d less. let q = slice_index_or queries
 pub holds_more : {F : Type 0} (points : List (Option Point)) (last : Option Point) (b : BlockState F) → Holds points b → Holds (points ++ last ∷ []) (with_line b last)
 holds_more points None b h = record {
   as_many = omega (arith, h.as_many, length-append b.found (None ∷ []), length-append points (None ∷ []));
-  empty = none_more b.found h.empty;
+  empty = All-push (λ f. f ≡ None) b.found None h.empty refl;
   right = right_more points None b.queries h.right;
   asked = λ i p is. elim (at_last points None i p is) [ inl old ↦ h.asked i p old | inr new ↦ absurd (cc (new.1)) ];
   few = omega (arith, h.few, sum_by_push (λ (p : Option Point). cond (is_some p) 1 0) points None);
 }
 holds_more points (Some last) b h = record {
   as_many = omega (arith, h.as_many, length-append b.found (None ∷ []), length-append points (Some last ∷ []));
-  empty = none_more b.found h.empty;
-  right = All-append (λ (q : Query). get_or (points ++ Some last ∷ []) q.line None ≡ Some q.point) b.queries (query ∷ []) (right_more points (Some last) b.queries h.right) (All-cons (λ (q : Query). get_or (points ++ Some last ∷ []) q.line None ≡ Some q.point) query [] (get_or_push points (Some last) None (length b.found) (sym h.as_many)) (All-nil (λ (q : Query). get_or (points ++ Some last ∷ []) q.line None ≡ Some q.point)));
+  empty = All-push (λ f. f ≡ None) b.found None h.empty refl;
+  right = All-push (λ (q : Query). get_or (points ++ Some last ∷ []) q.line None ≡ Some q.point) b.queries query (right_more points (Some last) b.queries h.right) (get_or_push points (Some last) None (length b.found) (sym h.as_many));
   asked = λ i p is. elim (at_last points (Some last) i p is) as (λ _. Contains (b.queries ++ query ∷ []) (record { point = p; line = i })) [
-    | inl old ↦ contains_before b.queries (record { point = p; line = i }) query (h.asked i p old)
-    | inr new ↦ subst (λ (q : Query). Contains (b.queries ++ query ∷ []) q) (same_query p i (cc (new.1)) (h.as_many ∙ sym new.0)) (Contains-push b.queries query)
+    | inl old ↦ Contains-append_left b.queries (query ∷ []) (record { point = p; line = i }) (h.asked i p old)
+    | inr new ↦ subst (λ (q : Query). Contains (b.queries ++ query ∷ []) q) (ap₂ (λ (x : Point) (n : ℕ). record { point = x; line = n }) (cc (new.1)) (h.as_many ∙ sym new.0)) (Contains-push b.queries query)
   ];
   few = omega (arith, h.few, length-append b.queries (query ∷ []), sum_by_push (λ (p : Option Point). cond (is_some p) 1 0) points (Some last));
 }
   where
     query : Query
     query = record { point = last; line = length b.found }
-
-    same_query : (p : Point) (i : ℕ) → last ≡ p → length b.found ≡ i → query ≡ record { point = p; line = i }
-    same_query p i a c = ap₂ (λ (x : Point) (n : ℕ). record { point = x; line = n }) a c
-
-    contains_before : (queries : List Query) (q last : Query) → Contains queries q → Contains (queries ++ last ∷ []) q
-    contains_before queries q last (k, less, is) = (k, omega (arith, less, length-append queries (last ∷ [])), at_front queries last k q q less is)
 
 -- the lines of a block, one more line read behind them
 pub reads_more : {F : Type 0} (scale : ℕ) (line text line' rest front more : List ℕ) (b : BlockState F) → ReadsLines scale line text line' rest b → rest ≡ front ++ 10 ∷ more → IsUnbroken front → length more < length rest
@@ -163,24 +154,9 @@ reads_more scale line text line' rest front more b r cuts whole less =
       split = r.split ∙ (ap₂ (λ (ls : List (List ℕ)) (u : List ℕ). (r.lines ++ ls, u)) (ap (λ s. s.0) split) (ap (λ s. s.1) split) ∙ ap (λ ls. (ls, unfinished more)) (sym (append_assoc r.lines ((line' ++ front) ∷ []) (ended_lines more))));
       unbroken = tt;
       shorter = omega (arith, r.shorter, less, length-append r.lines ((line' ++ front) ∷ []));
-      none = λ is. absurd (no_end r.lines (line' ++ front) is);
+      none = λ is. absurd (omega (arith, ap length is, length-append r.lines ((line' ++ front) ∷ [])));
     }
-  where
-    no_end : (ls : List (List ℕ)) (l : List ℕ) → ls ++ l ∷ [] ≡ [] → ⊥
-    no_end [] l is = cc is
-    no_end (x ∷ ls) l is = cc is
 
 -- at the start none is read
 pub reads_none : {F : Type 0} (scale : ℕ) (line text : List ℕ) (b : BlockState F) → b ≡ no_lines → IsUnbroken line → ReadsLines scale line text line text b
 reads_none scale line text b is whole = record { lines = []; holds = subst (λ c. Holds [] c) (sym is) holds_none; split = refl; unbroken = whole; shorter = omega arith; none = λ e. (refl, refl) }
-
--- no line ended in the text
-pub none_read : {F : Type 0} (scale : ℕ) (line text line' rest : List ℕ) (b : BlockState F) → ReadsLines scale line text line' rest b → length b.found ≡ 0 → IsUnbroken rest ⊎ (0 < length b.found) → IsUnbroken text × (line' ≡ line)
-none_read scale line text line' rest b r none ended =
-    let few : length r.lines ≡ 0 = omega (arith, none, r.holds.as_many, length-map r.lines (point_of scale)) in
-    let same = r.none (empty r.lines few) in
-    (elim ended [ inl u ↦ subst IsUnbroken same.1 u | inr less ↦ absurd (omega (arith, less, none)) ], same.0)
-  where
-    empty : (ls : List (List ℕ)) → length ls ≡ 0 → ls ≡ []
-    empty [] is = refl
-    empty (l ∷ ls) is = absurd (omega (arith, is))

@@ -38,7 +38,8 @@ fn judged(alloc: Global, feature: &Feature) -> Result<Option<Breach>, Stop>
 
 // The lines of all features.
 fn judged_lines(alloc: Global, layer: &Layer, scale: Scale) -> Result<Vec<u8>, Stop>
-    ensures goes_on { (m : Moment) → GoesOn (judged_course scale layer.now) m (λ _. writes (are_lines scale layer.now)) m result }
+    ensures goes_on { (m : Moment) → GoesOn (judged_course scale layer.now) m
+        (λ _. writes (are_lines scale layer.now)) m result }
     ensures lines { IfOk result (λ text. AreLines scale layer.now text.items) }
 {
     let mut text = Vec::new(alloc);
@@ -58,7 +59,9 @@ pub fn valid<F: Shelf, O: Sink>(
     shelf: &mut F,
     out: &mut O,
 ) -> Result<(), Stop>
-    ensures { (k : ℕ) → Follows (valid_course (layer_file layer_name.now form scale)) (moment (F.meaning shelf.old) (O.meaning out.old) k) (moment (F.meaning shelf.new) (O.meaning out.new) k) (end_of result) }
+    ensures { (k : ℕ) → Follows (valid_course (layer_file layer_name.now form scale))
+        (moment (F.meaning shelf.old) (O.meaning out.old) k)
+        (moment (F.meaning shelf.new) (O.meaning out.new) k) (end_of result) }
 {
     let layer = read_features_file(alloc, shelf, layer_name, form, scale)?;
     let text = judged_lines(alloc, &layer, scale)?;

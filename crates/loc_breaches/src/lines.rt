@@ -76,7 +76,8 @@ fn push_edge_in(
 
 // Two edges that cross.
 fn push_crossing(text: &mut Vec<u8>, a: Edge, b: Edge, scale: Scale) -> Result<(), AllocError>
-    ensures { OnOk result (text.new.items ≡ text.old.items ++ (codes "edges " ++ edge_text scale a ++ codes " and " ++ edge_text scale b ++ codes " cross")) }
+    ensures { OnOk result (text.new.items ≡ text.old.items
+        ++ (codes "edges " ++ edge_text scale a ++ codes " and " ++ edge_text scale b ++ codes " cross")) }
 {
     push_edge_in(text, b"edges ", a, b" and ", scale)?;
     push_edge_in(text, b"", b, b" cross", scale)
@@ -84,7 +85,8 @@ fn push_crossing(text: &mut Vec<u8>, a: Edge, b: Edge, scale: Scale) -> Result<(
 
 // A ring that is twice at a point.
 fn push_pinch(text: &mut Vec<u8>, ring: u32, at: Point, scale: Scale) -> Result<(), AllocError>
-    ensures { OnOk result (text.new.items ≡ text.old.items ++ (codes "ring " ++ decimal ring ++ codes " twice at " ++ position_text scale at)) }
+    ensures { OnOk result (text.new.items ≡ text.old.items
+        ++ (codes "ring " ++ decimal ring ++ codes " twice at " ++ position_text scale at)) }
 {
     push_numbered(text, b"ring ", ring, b" twice at ")?;
     push_position(text, at, scale)
@@ -99,7 +101,8 @@ fn push_pair(
     second: u32,
     after: &[u8],
 ) -> Result<(), AllocError>
-    ensures { OnOk result (text.new.items ≡ text.old.items ++ (before.now ++ decimal first ++ between.now ++ decimal second ++ after.now)) }
+    ensures { OnOk result (text.new.items ≡ text.old.items
+        ++ (before.now ++ decimal first ++ between.now ++ decimal second ++ after.now)) }
 {
     push_numbered(text, before, first, between)?;
     push_numbered(text, b"", second, after)

@@ -8,5 +8,6 @@ ghost use Rattle.loc_course.specs.Sentences.{Ended, Sentences};
 
 /// The sentences, for every course and every command that follows it. The call does nothing: its contract is the law.
 pub fn course_law()
-    ensures { (c : Course) (old new : Moment) (n n' : Stream) (status : ℕ) → Ended c old new n n' status → Sentences c old new n n' status }
+    ensures { (c : Course) (old new : Moment) (n n' : Stream) (status : ℕ) → Ended c old new n n' status
+        → Sentences c old new n n' status }
 {}

@@ -20,7 +20,7 @@ use Rattle.loc_edges.proofs.SortedSet.{any-sorted_set, rising-sorted_set}
 use Rattle.loc_cover.specs.declared.fault.LegendFault.{LegendFault}
 use Rattle.loc_cover.specs.declared.fault.LegendFault.TheVariants.{ManyCovers, NoMemory}
 use Rattle.loc_cover.specs.Legends.{IsRefused}
-use Rattle.loc_cover.specs.Numbered.{IsNumbered, IsWithin, KeepsKnown, covers_of}
+use Rattle.loc_cover.specs.Numbered.{IsNumbered, IsWithin, covers_of}
 use Rattle.loc_cover.specs.Stores.{StoreRows, IsStore, IsPast, GainsAtMost, lists_in, lists_of}
 use Rattle.loc_cover.proofs.Gathered.{any_range}
 use Rattle.loc_cover.proofs.JustBelow.{over_just_below, over_nothing}
@@ -120,15 +120,4 @@ pub known_next : (known : List (Option ℕ)) (i : ℕ) → ((e : ℕ) → e < i 
 known_next known i before here e lt = elim (cases_eq e i) [
   | inl same ↦ subst (λ k. get_or known k None ≢ None) (sym same) here
   | inr other ↦ before e (omega (arith, lt, other))
-]
-
--- an edge that is given a number is known
-pub known_here : (known : List (Option ℕ)) (e n : ℕ) → e < length known → get_or (set known e (Some n)) e None ≢ None
-known_here known e n fits none = absurd (let some = get_or-set_same known e (Some n) None fits in cc (some, none))
-
--- and what is known stays so
-pub known_kept : (known : List (Option ℕ)) (e n : ℕ) → e < length known → KeepsKnown known (set known e (Some n))
-known_kept known e n fits d before none = elim (cases_eq d e) [
-  | inl same ↦ known_here known e n fits (subst (λ k. get_or (set known e (Some n)) k None ≡ None) same none)
-  | inr other ↦ before (sym (get_or-set_other known e d (Some n) None other) ∙ none)
 ]

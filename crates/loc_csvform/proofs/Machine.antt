@@ -1,5 +1,5 @@
 -- What the reading of one record leaves of a text.
-use Rattle.std.proofs.Common.{◌≡◌, ℕ, zero, suc, ◌+◌, ◌<◌, ◌≤◌, List, [], ◌∷◌, ◌++◌, Bool, true, false, ◌&&◌, ◌==◌, length, length-append, Option, Some, None, All, refl, sym, ◌∙◌, ap, arith, if◌then◌else◌}
+use Rattle.std.proofs.Common.{◌≡◌, ℕ, zero, suc, ◌+◌, ◌<◌, ◌≤◌, List, [], ◌∷◌, ◌++◌, Bool, true, false, ◌&&◌, ◌==◌, length, length-append, Option, Some, None, All, refl, ◌∙◌, ap, subst, arith, if◌then◌else◌}
 use Rattle.std.proofs.lemmas.List.Elements.{All-nil, All-push}
 use Rattle.std.proofs.lemmas.Option.{same_Some, none-some}
 use Rattle.csv.specs.Machine.{Read, next_record, step, in_field, start_field, start_record, after_end, ends_with, is_end, is_byte, ends_at_end, fields_after, field_after}
@@ -79,19 +79,9 @@ pub record Leaves (m : ℕ) (p : Read) (xs : List ℕ) : Type 0 where
   pub between : ends_at_end p.1 ≡ false
   pub short : Short m p.0
 
-at_end : (m : ℕ) (b : Bool) (fields : List (List ℕ)) (p : Read) → Short m fields → (if b then Some (fields, st.StartRecord, []) else None) ≡ Some p → Leaves m p []
-at_end m true fields p each e = subst_read (fields, st.StartRecord, []) p (same_Some _ _ e) (record { rest = omega arith; between = refl; short = each })
-  where
-    subst_read : (q p : Read) → q ≡ p → Leaves m q [] → Leaves m p []
-    subst_read q p same leaves = rw (sym same) leaves
-at_end m false fields p each e = absurd (none-some p e)
-
 here : (m : ℕ) (b : Bool) (fields : List (List ℕ)) (s : State) (rest : List ℕ) (more : Option Read) (p : Read) → (b ≡ true → ends_at_end s ≡ false) → Short m fields → (more ≡ Some p → Leaves m p rest)
     → (if b then Some (fields, s, rest) else more) ≡ Some p → Leaves m p rest
-here m true fields s rest more p fresh each ih e = subst_read (fields, s, rest) p (same_Some _ _ e) (record { rest = omega arith; between = fresh refl; short = each })
-  where
-    subst_read : (q p : Read) → q ≡ p → Leaves m q rest → Leaves m p rest
-    subst_read q p same leaves = rw (sym same) leaves
+here m true fields s rest more p fresh each ih e = subst (λ (q : Read). Leaves m q rest) (same_Some _ _ e) (record { rest = omega arith; between = fresh refl; short = each })
 here m false fields s rest more p fresh each ih e = ih e
 
 longer : (m : ℕ) (p : Read) (c : ℕ) (rest : List ℕ) → Leaves m p rest → Leaves m p (c ∷ rest)
@@ -99,7 +89,7 @@ longer m p c rest h = record { rest = omega (arith, h.rest); between = h.between
 
 leaves : (m : ℕ) (cfg : Config) (s : State) (fields : List (List ℕ)) (field xs : List ℕ) (p : Read) → Short m fields → length field + length xs ≤ m → next_record cfg s fields field xs ≡ Some p → Leaves m p xs
 unfolding next_record
-leaves m cfg s fields field [] p each fits e = at_end m (ends_at_end s) (fields ++ (field ∷ [])) p (short_push m fields field each (omega (arith, fits))) e
+leaves m cfg s fields field [] p each fits e = here m (ends_at_end s) (fields ++ field ∷ []) st.StartRecord [] None p (λ _. refl) (short_push m fields field each (omega (arith, fits))) (λ none. absurd (none-some p none)) e
 leaves m cfg s fields field (c ∷ rest) p each fits e =
     let next = after-short m (step cfg s c).1 c fields field rest each fits in
     longer m p c rest (here m (is_end (step cfg s c).1) (fields_after (step cfg s c).1 fields field) (step cfg s c).0 rest _ p (step-fresh cfg s c) next

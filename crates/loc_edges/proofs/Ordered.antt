@@ -4,9 +4,8 @@ use Rattle.loc_spec_plane.specs.declared.Mark.{Mark}
 use Rattle.loc_spec_plane.specs.Points.{Point, Edge, edge_before}
 use Rattle.loc_spec_plane.specs.Lists.{sorted_set}
 use Rattle.loc_spec_plane.specs.Rings.{Rings}
-use Rattle.loc_spec_plane.specs.Tables.{IsTable, table_of, table_by, layer_corners, pieces_of, whole, edge_marks}
+use Rattle.loc_spec_plane.specs.Tables.{table_by, layer_corners, pieces_of, whole, edge_marks}
 use Rattle.loc_laws_noding.specs.Laws.{IsCutting}
-use Rattle.loc_laws_noding.proofs.Noded.{cutting_whole}
 use Rattle.loc_laws_noding.proofs.Tables as laws
 use Rattle.loc_edges.specs.Kept.{AreEdges, written_points}
 use Rattle.loc_edges.specs.Layers.{AreOfLayer}
@@ -36,10 +35,6 @@ module _ (cut : Edge → List Edge) (layer : List Rings) where
   -- its edges are the pieces
   pub table_is-edges : IsCutting (layer_corners layer) cut → AreEdges (table_by cut layer) (pieces_of cut layer)
   table_is-edges cuts = record { as_many = sym (laws.as_many_ends cut layer); are = laws.edge_is_piece cut layer cuts }
-
--- the table of a layer is a table
-pub table_of-is_table : (layer : List Rings) → IsTable (table_of layer)
-table_of-is_table layer = laws.is_table whole layer (cutting_whole layer)
 
 -- a layer has few corners and edges where it has few points
 pub few_of_layer : (layer : List Rings) → length (written_points layer) ≤ 2 ^ 20 → (length (layer_corners layer) ≤ 2 ^ 20) × (length (pieces_of whole layer) ≤ 2 ^ 21)

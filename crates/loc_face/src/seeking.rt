@@ -41,7 +41,9 @@ fn write_above<O: Sink>(
     requires apart { NoConflict plane.now.table }
     requires floors { AreFloors plane.now.table plane.now.floors }
     requires in_range { IfSome floor (λ e. e < length plane.now.table.ends) }
-    ensures { (shelf : Meaning) (k : ℕ) → Follows (writes (exactly (text_above scale plane.now.table floor))) (moment shelf (O.meaning out.old) k) (moment shelf (O.meaning out.new) k) (end_of result) }
+    ensures { (shelf : Meaning) (k : ℕ) → Follows (writes (exactly (text_above scale plane.now.table floor)))
+        (moment shelf (O.meaning out.old) k)
+        (moment shelf (O.meaning out.new) k) (end_of result) }
 {
     let table = &plane.table;
     table.law();
@@ -75,7 +77,10 @@ fn write_at<O: Sink, L: Ledger>(
     requires apart { NoConflict plane.now.table }
     requires stands { AreVersionsOf plane.now.table plane.now.status }
     requires floors { AreFloors plane.now.table plane.now.floors }
-    ensures { (shelf : Meaning) → Follows (searches (most_steps plane.now.table) (place_course scale plane.now.table (place_at plane.now.table point))) (moment shelf (O.meaning out.old) steps.old) (moment shelf (O.meaning out.new) steps.new) (end_of result) }
+    ensures { (shelf : Meaning) → Follows (searches (most_steps plane.now.table)
+        (place_course scale plane.now.table (place_at plane.now.table point)))
+        (moment shelf (O.meaning out.old) steps.old)
+        (moment shelf (O.meaning out.new) steps.new) (end_of result) }
 {
     match plane.status.locate(&plane.table.views(), point, steps) {
         Ok(Place::Corner(n)) => Err(Stop::Refused(numbered_line(b"point: corner ", n))),
@@ -97,7 +102,9 @@ fn write_for<O: Sink, L: Ledger>(
     requires apart { NoConflict plane.now.table }
     requires stands { AreVersionsOf plane.now.table plane.now.status }
     requires floors { AreFloors plane.now.table plane.now.floors }
-    ensures { (shelf : Meaning) → Follows (point_course scale plane.now.table (point_of scale word.now)) (moment shelf (O.meaning out.old) steps.old) (moment shelf (O.meaning out.new) steps.new) (end_of result) }
+    ensures { (shelf : Meaning) → Follows (point_course scale plane.now.table (point_of scale word.now))
+        (moment shelf (O.meaning out.old) steps.old)
+        (moment shelf (O.meaning out.new) steps.new) (end_of result) }
 {
     match read_point(word, scale.decimals()) {
         Some(point) => write_at(alloc, plane, point, scale, out, steps),
@@ -117,7 +124,9 @@ pub fn face<F: Shelf, O: Sink, L: Ledger>(
     out: &mut O,
     steps: &mut Steps<L>,
 ) -> Result<(), Stop>
-    ensures { Follows (face_course (layer_file layer_name.now form scale) point.now) (moment (F.meaning shelf.old) (O.meaning out.old) steps.old) (moment (F.meaning shelf.new) (O.meaning out.new) steps.new) (end_of result) }
+    ensures { Follows (face_course (layer_file layer_name.now form scale) point.now)
+        (moment (F.meaning shelf.old) (O.meaning out.old) steps.old)
+        (moment (F.meaning shelf.new) (O.meaning out.new) steps.new) (end_of result) }
 {
     let layer = read_layer_file(alloc, shelf, layer_name, form, scale)?;
     let plane: Plane<TreeIndex> = judge(alloc, layer, scale)?;

@@ -1,8 +1,8 @@
 -- The numbers of the outer cycles, as one half-edge after another is looked at.
-use Rattle.std.proofs.Common.{◌≡◌, ◌≢◌, ℕ, ◌+◌, ◌*◌, ◌<◌, ◌≤◌, Bool, true, false, List, [], ◌∷◌, ◌++◌, length, get_or, set, filter, sym, ◌∙◌, ap, subst, inl, inr, arith, get_or-set_same, get_or-set_other, length-set, length-append}
+use Rattle.std.proofs.Common.{◌≡◌, ◌≢◌, ℕ, ◌+◌, ◌<◌, ◌≤◌, Bool, true, false, List, [], ◌∷◌, ◌++◌, length, get_or, set, filter, sym, ◌∙◌, ap, subst, inl, inr, arith, get_or-set_same, get_or-set_other, length-set, length-append}
 use Rattle.std.specs.Prelude.{count_by}
-use Rattle.std.proofs.lemmas.Bool.{cases_eq, cases_lt, cond-true, cond-false, both_ways}
-use Rattle.std.proofs.lemmas.List.{append-nil, get_or_past}
+use Rattle.std.proofs.lemmas.Bool.{cases_eq, cond-true, cond-false, both_ways}
+use Rattle.std.proofs.lemmas.List.{append-nil}
 use Rattle.std.proofs.lemmas.List.Elements.{filter-append}
 use Rattle.std.proofs.lemmas.List.Sums.{count_by-le-length, length-filter}
 use Rattle.std.proofs.lemmas.List.FromFn.{length-range_with_len}
@@ -59,7 +59,3 @@ module _ (t : Table) (half : HalfEdgeLists) (are : AreHalfEdges t half) where
   pub listed_few : (outers of_cycle : List ℕ) (i : ℕ) → AreNumbered t half outers of_cycle i → length outers ≤ i
   listed_few outers of_cycle i so_far =
       omega (arith, ap length so_far.listed, length-filter (leads_face t (next_in half)) (numbers i), count_by-le-length (leads_face t (next_in half)) (numbers i), length-range_with_len 0 i)
-
--- where no number is given yet, all are small
-pub zeros_within : (xs : List ℕ) (count most : ℕ) → length xs ≡ 2 * count → ((h : ℕ) → h < 2 * count → get_or xs h 0 ≡ 0) → (h : ℕ) → get_or xs h 0 ≤ most
-zeros_within xs count most size zero h = (let none : get_or xs h 0 ≡ 0 = elim (cases_lt h (2 * count)) [ inl lt ↦ zero h lt | inr le ↦ get_or_past xs h 0 (omega (arith, le, size)) ] in omega (arith, none))

@@ -29,7 +29,8 @@ fn put_name<O: Sink>(
     feature: u32,
 ) -> Result<(), WriteFault>
     requires in_range { feature < length layer.now }
-    ensures { PutsText (quoted (get_or (ids_of layer.now) feature [])) (O.meaning sink.old) (O.meaning sink.new) page.old page.new result }
+    ensures { PutsText (quoted (get_or (ids_of layer.now) feature [])) (O.meaning sink.old) (O.meaning sink.new)
+        page.old page.new result }
 {
     put_quoted(page, sink, layer.feature(feature as usize).id())
 }
@@ -42,7 +43,8 @@ fn put_names<O: Sink>(
     features: &[u32],
 ) -> Result<(), WriteFault>
     requires in_range { All (λ f. f < length layer.now) features.now }
-    ensures { PutsText (ids_text (names_in layer.now features.now)) (O.meaning sink.old) (O.meaning sink.new) page.old page.new result }
+    ensures { PutsText (ids_text (names_in layer.now features.now)) (O.meaning sink.old) (O.meaning sink.new) page.old
+        page.new result }
 {
     for feature in features {
         put_name(page, sink, layer, *feature)?;
@@ -59,7 +61,8 @@ fn put_named<O: Sink>(
     features: &[u32],
 ) -> Result<(), WriteFault>
     requires in_range { All (λ f. f < length layer.now) features.now }
-    ensures { PutsText (word.now ++ ids_text (names_in layer.now features.now)) (O.meaning sink.old) (O.meaning sink.new) page.old page.new result }
+    ensures { PutsText (word.now ++ ids_text (names_in layer.now features.now)) (O.meaning sink.old)
+        (O.meaning sink.new) page.old page.new result }
 {
     page.put(sink, word)?;
     put_names(page, sink, layer, features)
@@ -74,7 +77,8 @@ fn put_lists<O: Sink>(
 ) -> Result<(), WriteFault>
     requires touching { All (λ f. f < length layer.now) lists.now.touching }
     requires covering { All (λ f. f < length layer.now) lists.now.covering }
-    ensures { PutsText (features_text (names_in layer.now lists.now.touching) (names_in layer.now lists.now.covering)) (O.meaning sink.old) (O.meaning sink.new) page.old page.new result }
+    ensures { PutsText (features_text (names_in layer.now lists.now.touching) (names_in layer.now lists.now.covering))
+        (O.meaning sink.old) (O.meaning sink.new) page.old page.new result }
 {
     if lists.touching().is_empty() {
         return put_named(page, sink, b"in", layer, lists.covering());
@@ -92,7 +96,8 @@ fn put_line<O: Sink>(
 ) -> Result<(), WriteFault>
     requires touching { All (λ f. f < length layer.now) lists.now.touching }
     requires covering { All (λ f. f < length layer.now) lists.now.covering }
-    ensures { PutsText (ended (features_text (names_in layer.now lists.now.touching) (names_in layer.now lists.now.covering))) (O.meaning sink.old) (O.meaning sink.new) page.old page.new result }
+    ensures { PutsText (ended (features_text (names_in layer.now lists.now.touching)
+        (names_in layer.now lists.now.covering))) (O.meaning sink.old) (O.meaning sink.new) page.old page.new result }
 {
     put_lists(page, sink, layer, lists)?;
     page.put(sink, b"\n")
@@ -117,7 +122,8 @@ fn put_told<O: Sink>(
 ) -> Result<(), FeedFault>
     requires touching { All (λ f. f < length layer.now) lists.now.touching }
     requires covering { All (λ f. f < length layer.now) lists.now.covering }
-    ensures { PutsAnswer (told_lists layer.now lists.now) tally.old tally.new (O.meaning sink.old) (O.meaning sink.new) page.old page.new result }
+    ensures { PutsAnswer (told_lists layer.now lists.now) tally.old tally.new (O.meaning sink.old)
+        (O.meaning sink.new) page.old page.new result }
 {
     put_line(page, sink, layer, lists)?;
     count(tally, lists);
@@ -138,7 +144,8 @@ fn answer_found<const N: usize, O: Sink, L: Ledger>(
     requires few { length parted.now.parts.items ≤ N }
     requires parted { IsParted layer.now parted.now }
     requires known { AreAt parted.now.parts.items found.now }
-    ensures puts { PutsAnswer (told_at layer.now found.now.point) tally.old tally.new (O.meaning sink.old) (O.meaning sink.new) page.old page.new result }
+    ensures puts { PutsAnswer (told_at layer.now found.now.point) tally.old tally.new (O.meaning sink.old)
+        (O.meaning sink.new) page.old page.new result }
     ensures counted { steps.old ≤ steps.new }
     ensures within { steps.new ≤ steps.old + length (layer_segments (layer_rings layer.now)) }
 {

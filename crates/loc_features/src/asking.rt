@@ -35,7 +35,9 @@ fn answer_by<const N: usize, F: Shelf, O: Sink, L: Ledger>(
     requires room { N ≤ 16 }
     requires parted { IsParted layer.now parted.now }
     requires few { length parted.now.parts.items ≤ N }
-    ensures { Follows (features_points scale points.now layer.now) (moment (F.meaning shelf.old) (O.meaning out.old) steps.old) (moment (F.meaning shelf.new) (O.meaning out.new) steps.new) (end_of result) }
+    ensures { Follows (features_points scale points.now layer.now)
+        (moment (F.meaning shelf.old) (O.meaning out.old) steps.old)
+        (moment (F.meaning shelf.new) (O.meaning out.new) steps.new) (end_of result) }
 {
     let mut batch: Batch<Found<N>> = Batch::make(alloc, scale.decimals(), MOST_TEXT as u64)?;
     let by: ByParts<N> = ByParts { parted, layer };
@@ -60,7 +62,9 @@ fn answer_points<F: Shelf, O: Sink, L: Ledger>(
     out: &mut O,
     steps: &mut Steps<L>,
 ) -> Result<(), Stop>
-    ensures { Follows (features_points scale points.now layer.now) (moment (F.meaning shelf.old) (O.meaning out.old) steps.old) (moment (F.meaning shelf.new) (O.meaning out.new) steps.new) (end_of result) }
+    ensures { Follows (features_points scale points.now layer.now)
+        (moment (F.meaning shelf.old) (O.meaning out.old) steps.old)
+        (moment (F.meaning shelf.new) (O.meaning out.new) steps.new) (end_of result) }
 {
     let parted = Parted::make(alloc, layer)?;
     let count = parted.parts.len();
@@ -85,7 +89,9 @@ pub fn features<F: Shelf, O: Sink, L: Ledger>(
     out: &mut O,
     steps: &mut Steps<L>,
 ) -> Result<(), Stop>
-    ensures { Follows (features_course (layer_file layer_name.now form scale) points_name.now) (moment (F.meaning shelf.old) (O.meaning out.old) steps.old) (moment (F.meaning shelf.new) (O.meaning out.new) steps.new) (end_of result) }
+    ensures { Follows (features_course (layer_file layer_name.now form scale) points_name.now)
+        (moment (F.meaning shelf.old) (O.meaning out.old) steps.old)
+        (moment (F.meaning shelf.new) (O.meaning out.new) steps.new) (end_of result) }
 {
     let layer = read_features_file(alloc, shelf, layer_name, form, scale)?;
     answer_points(alloc, &layer, scale, points_name, shelf, out, steps)

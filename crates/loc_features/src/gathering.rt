@@ -30,7 +30,9 @@ fn gather<L: Ledger>(left: &Left, p: Point, lists: &mut Lists, steps: &mut Steps
     requires left { (layer : List Feature) × IsLeftOf layer left.now }
     requires touching { length lists.old.touching + length left.now.numbers.items ≤ 262144 }
     requires covering { length lists.old.covering + length left.now.numbers.items ≤ 262144 }
-    ensures names { (layer : List Feature) → IsLeftOf layer left.now → NamesAll (part_of left.now.numbers.items (layer_rings layer)) left.now.boxed left.now.numbers.items p (length left.now.boxed.boxes) lists.old lists.new }
+    ensures names { (layer : List Feature) → IsLeftOf layer left.now
+        → NamesAll (part_of left.now.numbers.items (layer_rings layer)) left.now.boxed left.now.numbers.items p
+        (length left.now.boxed.boxes) lists.old lists.new }
     ensures counted { steps.old ≤ steps.new }
     ensures within { steps.new ≤ steps.old + sum_by (segment_count left.now.boxed) left.now.boxed.boxes }
 {
@@ -51,9 +53,12 @@ pub(crate) fn name_left<L: Ledger>(left: &Left, p: Point, lists: &mut Lists, ste
     requires left { (layer : List Feature) × IsLeftOf layer left.now }
     requires touching { length lists.old.touching + length left.now.numbers.items ≤ 262144 }
     requires covering { length lists.old.covering + length left.now.numbers.items ≤ 262144 }
-    ensures names { (layer : List Feature) (named : List (List ℕ)) → IsLeftOf layer left.now → Names (layer_rings layer) p named lists.old → Names (layer_rings layer) p (named ++ left.now.numbers.items ∷ []) lists.new }
+    ensures names { (layer : List Feature) (named : List (List ℕ)) → IsLeftOf layer left.now
+        → Names (layer_rings layer) p named lists.old
+        → Names (layer_rings layer) p (named ++ left.now.numbers.items ∷ []) lists.new }
     ensures counted { steps.old ≤ steps.new }
-    ensures within { (layer : List Feature) → IsLeftOf layer left.now → steps.new ≤ steps.old + sum_by (segments_at (layer_rings layer)) left.now.numbers.items }
+    ensures within { (layer : List Feature) → IsLeftOf layer left.now
+        → steps.new ≤ steps.old + sum_by (segments_at (layer_rings layer)) left.now.numbers.items }
 {
     left_law(left);
     gather(left, p, lists, steps);

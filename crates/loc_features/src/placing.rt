@@ -110,7 +110,8 @@ fn cover_others(lists: &mut Lists, numbers: &[u32], places: &[u32], touching: &[
     requires in_order { IsTrue (is_rising nat_lt touching.now) }
     requires in_range { All (λ k. k < length numbers.now) places.now }
     requires room { length lists.old.covering + length (filter (λ f. not (is_in f touching.now)) places.now) ≤ 262144 }
-    ensures covering { lists.new.covering ≡ lists.old.covering ++ by_place numbers.now (filter (λ f. not (is_in f touching.now)) places.now) }
+    ensures covering { lists.new.covering ≡ lists.old.covering
+        ++ by_place numbers.now (filter (λ f. not (is_in f touching.now)) places.now) }
     ensures touching { lists.new.touching ≡ lists.old.touching }
 {
     for place in places {
@@ -126,7 +127,9 @@ fn name_part(part: &Part, p: Point, place: Place, lists: &mut Lists)
     requires place { IsAt part.now p place }
     requires touching { length lists.old.touching + length part.now.numbers.items ≤ 262144 }
     requires covering { length lists.old.covering + length part.now.numbers.items ≤ 262144 }
-    ensures { (layer : List Feature) (named : List (List ℕ)) → IsPartOf layer part.now → Names (layer_rings layer) p named lists.old → Names (layer_rings layer) p (named ++ part.now.numbers.items ∷ []) lists.new }
+    ensures { (layer : List Feature) (named : List (List ℕ)) → IsPartOf layer part.now
+        → Names (layer_rings layer) p named lists.old
+        → Names (layer_rings layer) p (named ++ part.now.numbers.items ∷ []) lists.new }
 {
     part_law(part, p, place);
     let legend = &part.plane.legend;
@@ -141,7 +144,8 @@ pub(crate) fn name_parts<const N: usize>(parted: &Parted, found: &Found<N>, list
     requires parted { (layer : List Feature) × IsParted layer parted.now }
     requires known { AreAt parted.now.parts.items found.now }
     requires empty { lists.old ≡ no_lists }
-    ensures { (layer : List Feature) → IsParted layer parted.now → Names (layer_rings layer) found.now.point (part_numbers parted.now.parts.items) lists.new }
+    ensures { (layer : List Feature) → IsParted layer parted.now
+        → Names (layer_rings layer) found.now.point (part_numbers parted.now.parts.items) lists.new }
 {
     for (k, part) in parted.parts.iter().enumerate() {
         name_part(part, found.point, found.places[k], lists);

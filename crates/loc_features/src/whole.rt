@@ -19,10 +19,14 @@ use std::sync::ledger::Ledger;
 
 // Names those of all that is left, behind those of the parts.
 fn name_rest<L: Ledger>(parted: &Parted, p: Point, lists: &mut Lists, steps: &mut Steps<L>)
-    requires parted { (layer : List Feature) × IsParted layer parted.now × Names (layer_rings layer) p (part_numbers parted.now.parts.items) lists.old }
-    ensures names { (layer : List Feature) → IsParted layer parted.now → Names (layer_rings layer) p (part_numbers parted.now.parts.items) lists.old → Names (layer_rings layer) p (numbers_in parted.now.parts.items parted.now.left.items) lists.new }
+    requires parted { (layer : List Feature) × IsParted layer parted.now
+        × Names (layer_rings layer) p (part_numbers parted.now.parts.items) lists.old }
+    ensures names { (layer : List Feature) → IsParted layer parted.now
+        → Names (layer_rings layer) p (part_numbers parted.now.parts.items) lists.old
+        → Names (layer_rings layer) p (numbers_in parted.now.parts.items parted.now.left.items) lists.new }
     ensures counted { steps.old ≤ steps.new }
-    ensures within { (layer : List Feature) → IsParted layer parted.now → steps.new ≤ steps.old + length (layer_segments (layer_rings layer)) }
+    ensures within { (layer : List Feature) → IsParted layer parted.now
+        → steps.new ≤ steps.old + length (layer_segments (layer_rings layer)) }
 {
     for left in &parted.left {
         name_left(left, p, lists, steps);
@@ -39,10 +43,13 @@ pub(crate) fn name_at<const N: usize, L: Ledger>(
     requires few { length parted.now.parts.items ≤ N }
     requires parted { (layer : List Feature) × IsParted layer parted.now }
     requires known { AreAt parted.now.parts.items found.now }
-    ensures touching { (layer : List Feature) → IsParted layer parted.now → lists.new.touching ≡ passing (λ rings. touches rings found.now.point) (layer_rings layer) }
-    ensures covering { (layer : List Feature) → IsParted layer parted.now → lists.new.covering ≡ passing (λ rings. covers rings found.now.point) (layer_rings layer) }
+    ensures touching { (layer : List Feature) → IsParted layer parted.now
+        → lists.new.touching ≡ passing (λ rings. touches rings found.now.point) (layer_rings layer) }
+    ensures covering { (layer : List Feature) → IsParted layer parted.now
+        → lists.new.covering ≡ passing (λ rings. covers rings found.now.point) (layer_rings layer) }
     ensures counted { steps.old ≤ steps.new }
-    ensures within { (layer : List Feature) → IsParted layer parted.now → steps.new ≤ steps.old + length (layer_segments (layer_rings layer)) }
+    ensures within { (layer : List Feature) → IsParted layer parted.now
+        → steps.new ≤ steps.old + length (layer_segments (layer_rings layer)) }
 {
     lists.clear();
     name_parts(parted, found, lists);

@@ -1,5 +1,5 @@
 -- What a reader of one field finds: the field by its bytes, or what is wrong there.
-use Rattle.std.proofs.Common.{◌≡◌, ◌⊎◌, inl, inr, ℕ, ◌+◌, ◌<◌, ◌≤◌, ◌^◌, Bool, true, false, ◌&&◌, List, [], ◌∷◌, ◌++◌, length, get_or, ◌%◌, refl, sym, ◌∙◌, ap, subst, append-nil, arith, ℤ, pos, negsuc}
+use Rattle.std.proofs.Common.{◌≡◌, ℕ, ◌+◌, ◌<◌, ◌≤◌, ◌^◌, Bool, true, false, ◌&&◌, List, [], ◌∷◌, ◌++◌, length, get_or, ◌%◌, refl, sym, ◌∙◌, ap, subst, append-nil, arith, ℤ, pos, negsuc}
 use Rattle.std.specs.Prelude.{Some, nat_lt, ◌==◌, codes, unsigned_abs, FitsSigned}
 use Rattle.std.specs.Str.{bytes_eq}
 use Rattle.std.specs.Int.{w8, w32, w64, to_be_bytes, from_be_bytes, cast_signed, cast_unsigned}
@@ -12,9 +12,8 @@ use Rattle.loc_spec_index.specs.declared.IndexFault.{IndexFault}
 use Rattle.loc_spec_index.specs.declared.IndexFault.TheVariants as fault
 use Rattle.loc_spec_index.specs.declared.Part.{Part}
 use Rattle.loc_spec_index.specs.IndexFile.{Field, magic, version, is_version, number, coordinate, order, spelled, is_right, fault_at, with_bytes, unless}
-use Rattle.loc_spec_plane.specs.Points.{Point, point_at, OnGrid}
+use Rattle.loc_spec_plane.specs.Points.{OnGrid}
 use Rattle.loc_laws_index.proofs.RightFields.{unless-holds}
-use Rattle.loc_file.proofs.Steps.{read-next, read-along}
 use Rattle.loc_file.specs.Readings.{Left, IsTaken, IsShort, IsRead, IsWrong, short, wrong}
 
 -- ---- any field
@@ -69,9 +68,6 @@ pub byte-short : (bound n : ℕ) {a : Left} {f : IndexFault} → IsShort 1 a f �
 byte-short bound n s = short-at (number w8 bound n) 1 refl s
 
 -- the one byte of a list of one
-pub byte-read : (bound value : ℕ) (held : List ℕ) {a b : Left} → IsTaken 1 held a b → AreBytes held → value ≡ get_or held 0 0 → value < bound → IsRead (number w8 bound value ∷ []) a b
-byte-read bound value held t small is lt = read-at (number w8 bound value) 1 held t (one held value t.as_many small is) (unless-holds _ _ (lt-ltb value bound lt))
-
 pub byte-wrong : (bound value n offset : ℕ) (held : List ℕ) {a b : Left} → offset ≡ a.offset → IsTaken 1 held a b → value ≡ get_or held 0 0 → bound ≤ value → IsWrong (number w8 bound n) a (fault.Field offset value bound)
 byte-wrong bound value n offset held {a} o t is le =
     wrong-at (number w8 bound n) 1 held (fault.Field offset value bound) refl t
@@ -112,13 +108,6 @@ letters = codes "LOCINDEX"
 pub magic-wrong : (held : List ℕ) {a b : Left} → IsTaken 8 held a b → bytes_eq held (codes "LOCINDEX") ≡ false → IsWrong (magic (codes "LOCINDEX")) a fault.Magic
 magic-wrong held t e = wrong-at (magic letters) 8 held fault.Magic refl t (fault-is _ _ e)
 
-pub version-read : (found : ℕ) (held : List ℕ) {a b : Left} → IsTaken 4 held a b → AreBytes held → found ≡ from_be_bytes w32 held → (found ≡ 1) ⊎ (found ≡ 2) → IsRead (version found ∷ []) a b
-version-read found held t small is known = read-at (version found) 4 held t (be_bytes_4 held found t.as_many small is) (right known)
-  where
-    right : (found ≡ 1) ⊎ (found ≡ 2) → is_right (version found) ≡ true
-    right (inl one) = ap (λ v. is_right (version v)) one
-    right (inr two) = ap (λ v. is_right (version v)) two
-
 pub version-wrong : (v found : ℕ) (held : List ℕ) {a b : Left} → IsTaken 4 held a b → found ≡ from_be_bytes w32 held → (found ≡ 1 → ⊥) → (found ≡ 2 → ⊥) → IsWrong (version v) a (fault.Version found)
 version-wrong v found held t is first second =
     wrong-at (version v) 4 held (fault.Version found) refl t (ap (λ n. unless (is_version n) (fault.Version n)) (sym is) ∙ fault-is _ _ (or_from (found == 1) (found == 2) (ne_eqb found 1 first) (ne_eqb found 2 second)))
@@ -131,7 +120,3 @@ back x on = to_z-of_z w64 x (fits x on)
     fits : (x : ℤ) → OnGrid x → FitsSigned w64 x
     fits (pos n) on = let hi = on.1 in record { sfits = omega (arith, ints) }
     fits (negsuc n) on = let lo = on.0 in record { sfits = omega (arith, ints) }
-
-pub point-read : (p : Point) (x y : ℤ) {a b c : Left} → OnGrid x → OnGrid y → p ≡ point_at (cast_signed w64 (cast_unsigned w64 x)) (cast_signed w64 (cast_unsigned w64 y)) → IsRead (coordinate x ∷ []) a b → IsRead (coordinate y ∷ []) b c → IsRead (coordinate p.x ∷ coordinate p.y ∷ []) a c
-point-read p x y {a} {b} {c} on_x on_y made read_x read_y =
-    read-next _ _ (read-along coordinate (sym (ap (λ (q : Point). q.x) made ∙ back x on_x)) read_x) (read-along coordinate (sym (ap (λ (q : Point). q.y) made ∙ back y on_y)) read_y)

@@ -1,5 +1,5 @@
 -- Ids and other texts, whose bytes are one field behind their length.
-use Rattle.std.proofs.Common.{◌≡◌, ℕ, List, [], ◌∷◌, length, replicate, sym, ◌∙◌, ap}
+use Rattle.std.proofs.Common.{◌≡◌, ℕ, List, [], ◌∷◌, length, replicate, sym}
 use Rattle.std.specs.Prelude.{Result, Ok, Err, IfErr}
 use Rattle.std.specs.Int.{w8}
 use Rattle.std.proofs.lemmas.List.{length-replicate}
@@ -7,7 +7,7 @@ use Rattle.loc_spec_index.specs.declared.IndexFault.{IndexFault}
 use Rattle.loc_spec_index.specs.IndexFile.{number, text, id_fields}
 use Rattle.loc_file.specs.Readings.{Left, IsShort, IsRead, IsWrong, IsRowStop, stop}
 use Rattle.loc_file.proofs.Fields.{short-at}
-use Rattle.loc_file.proofs.Steps.{read-along, read-next, fault-first, fault-next}
+use Rattle.loc_file.proofs.Steps.{read-along, fault-first, fault-next}
 
 pub text-short : {T : Type 0} (r : Result T IndexFault) (count : ℕ) (a : Left) → IfErr r (IsShort count a) → IfErr r (λ f. (held : List ℕ) → length held ≡ count → IsWrong (text held) a f)
 text-short (Ok x) count a h = tt
@@ -18,6 +18,3 @@ pub at_id : (count : ℕ) {a b : Left} {f : IndexFault} → IsRead (number w8 20
 at_id count {f = f} read wrong =
     let l = length-replicate count 0 in
     stop (replicate count 0) f tt (fault-next _ _ (read-along (number w8 201) (sym l) read) (fault-first _ _ (wrong (replicate count 0) l)))
-
-pub id-read : (id held : List ℕ) (count : ℕ) {a b c : Left} → id ≡ held → length held ≡ count → IsRead (number w8 201 count ∷ []) a b → IsRead (text held ∷ []) b c → IsRead (id_fields id) a c
-id-read id held count e l read body = read-next _ _ (read-along (number w8 201) (sym (ap length e ∙ l)) read) (read-along text (sym e) body)

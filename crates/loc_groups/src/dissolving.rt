@@ -25,8 +25,10 @@ use std::alloc::Global;
 
 // The groups of a layer that is accepted.
 fn groups_of(alloc: Global, layer: &Layer, scale: Scale) -> Result<Dissolved, Stop>
-    ensures goes_on { (next : Course) (m : Moment) → GoesOn (pieces_course layer.now (accepted_course scale layer.now next)) m (λ _. next) m result }
-    ensures groups { IfOk result (λ groups. groups ≡ dissolved next_at face_at (table_in layer.now) (ids_of layer.now)) }
+    ensures goes_on { (next : Course) (m : Moment) → GoesOn
+        (pieces_course layer.now (accepted_course scale layer.now next)) m (λ _. next) m result }
+    ensures groups { IfOk result (λ groups. groups ≡ dissolved next_at face_at (table_in layer.now)
+        (ids_of layer.now)) }
 {
     let plane: Plane<TreeIndex> = judge_layer(alloc, layer, None, scale)?;
     let groups = loc_dissolve::dissolve(alloc, layer, &plane.table, &plane.legend);
@@ -36,7 +38,9 @@ fn groups_of(alloc: Global, layer: &Layer, scale: Scale) -> Result<Dissolved, St
 
 // Writes groups.
 fn write_groups<O: Sink>(groups: &Dissolved, scale: Scale, out: &mut O) -> Result<(), Stop>
-    ensures { (shelf : Meaning) (k : ℕ) → Follows (writes (exactly (dissolved_text scale groups.now))) (moment shelf (O.meaning out.old) k) (moment shelf (O.meaning out.new) k) (end_of result) }
+    ensures { (shelf : Meaning) (k : ℕ) → Follows (writes (exactly (dissolved_text scale groups.now)))
+        (moment shelf (O.meaning out.old) k)
+        (moment shelf (O.meaning out.new) k) (end_of result) }
 {
     match write_dissolved(groups, scale.decimals(), out) {
         Ok(()) => Ok(()),
@@ -54,7 +58,9 @@ pub fn dissolve<F: Shelf, O: Sink>(
     shelf: &mut F,
     out: &mut O,
 ) -> Result<(), Stop>
-    ensures { (k : ℕ) → Follows (dissolve_course (layer_file layer_name.now form scale)) (moment (F.meaning shelf.old) (O.meaning out.old) k) (moment (F.meaning shelf.new) (O.meaning out.new) k) (end_of result) }
+    ensures { (k : ℕ) → Follows (dissolve_course (layer_file layer_name.now form scale))
+        (moment (F.meaning shelf.old) (O.meaning out.old) k)
+        (moment (F.meaning shelf.new) (O.meaning out.new) k) (end_of result) }
 {
     let layer = read_layer_file(alloc, shelf, layer_name, form, scale)?;
     let groups = groups_of(alloc, &layer, scale)?;

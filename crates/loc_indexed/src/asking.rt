@@ -24,7 +24,9 @@ fn answer_points<F: Shelf, O: Sink, L: Ledger>(
     out: &mut O,
     steps: &mut Steps<L>,
 ) -> Result<(), Stop>
-    ensures { Follows (asked_course points.now held.now.content) (moment (F.meaning shelf.old) (O.meaning out.old) steps.old) (moment (F.meaning shelf.new) (O.meaning out.new) steps.new) (end_of result) }
+    ensures { Follows (asked_course points.now held.now.content)
+        (moment (F.meaning shelf.old) (O.meaning out.old) steps.old)
+        (moment (F.meaning shelf.new) (O.meaning out.new) steps.new) (end_of result) }
 {
     let mut batch = Batch::make(alloc, held.scale(), MOST_TEXT as u64)?;
     answer_source(
@@ -51,7 +53,9 @@ pub fn ask<F: Shelf, O: Sink, L: Ledger>(
     out: &mut O,
     steps: &mut Steps<L>,
 ) -> Result<(), Stop>
-    ensures { Follows (ask_course index_name.now points_name.now) (moment (F.meaning shelf.old) (O.meaning out.old) steps.old) (moment (F.meaning shelf.new) (O.meaning out.new) steps.new) (end_of result) }
+    ensures { Follows (ask_course index_name.now points_name.now)
+        (moment (F.meaning shelf.old) (O.meaning out.old) steps.old)
+        (moment (F.meaning shelf.new) (O.meaning out.new) steps.new) (end_of result) }
 {
     let held = read_index_file(alloc, shelf, index_name)?;
     let outcome = answer_points(alloc, &held, points_name, shelf, out, steps);

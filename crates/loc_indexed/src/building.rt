@@ -50,7 +50,8 @@ fn write_plane<F: Shelf>(
 ) -> Result<(), Stop>
     requires laid_out { (layer : List FeatureOf) × IsLaidOut layer plane.now.table plane.now.legend }
     requires swept { IsSwept plane.now.table (meaning_of plane.now.status) }
-    ensures { (layer : List FeatureOf) → IsLaidOut layer plane.now.table plane.now.legend → MakesIndex scale layer index.now (F.meaning shelf.old) (F.meaning shelf.new) (end_of result) }
+    ensures { (layer : List FeatureOf) → IsLaidOut layer plane.now.table plane.now.legend
+        → MakesIndex scale layer index.now (F.meaning shelf.old) (F.meaning shelf.new) (end_of result) }
 {
     plane.table.law();
     plane.legend.law();
@@ -80,7 +81,8 @@ fn make_index<F: Shelf>(
     index: &str,
     shelf: &mut F,
 ) -> Result<(), Stop>
-    ensures { FollowsTruly (layer_file name.now form scale) index.now (F.meaning shelf.old) (F.meaning shelf.new) (end_of result) }
+    ensures { FollowsTruly (layer_file name.now form scale) index.now (F.meaning shelf.old) (F.meaning shelf.new)
+        (end_of result) }
 {
     let layer = read_layer_file(alloc, shelf, name, form, scale)?;
     ids_are_short(&layer);
@@ -100,8 +102,12 @@ pub fn build<F: Shelf>(
     scale: Scale,
     shelf: &mut F,
 ) -> Result<(), Stop>
-    ensures follows { (o : Stream) (k : ℕ) → Follows (build_course (layer_file layer_name.now form scale) index_name.now) (moment (F.meaning shelf.old) o k) (moment (F.meaning shelf.new) o k) (end_of result) }
-    ensures built { Built (layer_file layer_name.now form scale) index_name.now (F.meaning shelf.old) (F.meaning shelf.new) (status_of (end_of result)) }
+    ensures follows { (o : Stream) (k : ℕ) → Follows
+        (build_course (layer_file layer_name.now form scale) index_name.now)
+        (moment (F.meaning shelf.old) o k)
+        (moment (F.meaning shelf.new) o k) (end_of result) }
+    ensures built { Built (layer_file layer_name.now form scale) index_name.now (F.meaning shelf.old)
+        (F.meaning shelf.new) (status_of (end_of result)) }
 {
     make_index(alloc, layer_name, form, scale, index_name, shelf)
 }

@@ -23,7 +23,8 @@ use std::alloc::Global;
 // What bytes hold.
 fn read_index_in(alloc: Global, bytes: &[u8]) -> Result<Held, Stop>
     requires { length bytes.now ≤ most_index }
-    ensures goes_on { (next : Content → Course) (m : Moment) → GoesOn (index_in (reading bytes.now) next) m (λ held. next held.content) m result }
+    ensures goes_on { (next : Content → Course) (m : Moment)
+        → GoesOn (index_in (reading bytes.now) next) m (λ held. next held.content) m result }
     ensures small { AreBytes bytes.now }
     ensures file { IfOk result (λ held. IsIndexFile held.content bytes.now) }
 {
@@ -35,7 +36,9 @@ fn read_index_in(alloc: Global, bytes: &[u8]) -> Result<Held, Stop>
 
 /// Reads an index file. Its bytes are given back when they were read.
 pub fn read_index_file<F: Shelf>(alloc: Global, shelf: &mut F, name: &str) -> Result<Held, Stop>
-    ensures goes_on { (next : Content → Course) (o : Stream) (k : ℕ) → GoesOn (index_course name.now next) (moment (F.meaning shelf.old) o k) (λ held. next held.content) (moment (F.meaning shelf.new) o k) result }
+    ensures goes_on { (next : Content → Course) (o : Stream) (k : ℕ) → GoesOn (index_course name.now next)
+        (moment (F.meaning shelf.old) o k) (λ held. next held.content)
+        (moment (F.meaning shelf.new) o k) result }
     ensures told { IfOk result (λ held. IsToldFile ((F.meaning shelf.old).told name.now) held.content) }
 {
     let bytes = read_source(alloc, shelf, name, MOST_INDEX, b"index: too long")?;

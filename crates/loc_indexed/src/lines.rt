@@ -65,7 +65,8 @@ fn version_line(found: u32) -> Line
 
 // A field is out of its bound.
 fn field_line(offset: u64, value: u64, bound: u64) -> Line
-    ensures { line_text result ≡ ended (codes "index: field at " ++ decimal offset ++ codes " holds " ++ decimal value ++ codes ", bound " ++ decimal bound) }
+    ensures { line_text result ≡ ended (codes "index: field at " ++ decimal offset ++ codes " holds " ++ decimal value
+        ++ codes ", bound " ++ decimal bound) }
 {
     Line {
         parts: [
@@ -81,7 +82,8 @@ fn field_line(offset: u64, value: u64, bound: u64) -> Line
 
 // A row is out of its order.
 fn order_line(part: Part, row: u32) -> Line
-    ensures { line_text result ≡ ended (codes "index: " ++ part_name part ++ codes " row " ++ decimal row ++ codes " not in order") }
+    ensures { line_text result ≡ ended (codes "index: " ++ part_name part ++ codes " row " ++ decimal row
+        ++ codes " not in order") }
 {
     Line {
         parts: [

@@ -49,7 +49,8 @@ fn index_line(alloc: Global, held: &Held) -> Result<Vec<u8>, AllocError>
 
 // What was read is a true index, or it is refused by its first flaw.
 fn judge_held(alloc: Global, held: &Held) -> Result<(), Stop>
-    ensures goes_on { (m : Moment) → GoesOn (judged_course held.now.content (first_flaw held.now.content)) m (λ _. writes (exactly (ended (index_text held.now.content)))) m result }
+    ensures goes_on { (m : Moment) → GoesOn (judged_course held.now.content (first_flaw held.now.content)) m
+        (λ _. writes (exactly (ended (index_text held.now.content)))) m result }
     ensures is_true { OnOk result (IsTrueIndex held.now.content) }
 {
     held.law();
@@ -61,7 +62,9 @@ fn judge_held(alloc: Global, held: &Held) -> Result<(), Stop>
 
 // The counts of an index are written.
 fn write_counts<O: Sink>(alloc: Global, held: &Held, out: &mut O) -> Result<(), Stop>
-    ensures { (shelf : Meaning) (k : ℕ) → Follows (writes (exactly (ended (index_text held.now.content)))) (moment shelf (O.meaning out.old) k) (moment shelf (O.meaning out.new) k) (end_of result) }
+    ensures { (shelf : Meaning) (k : ℕ) → Follows (writes (exactly (ended (index_text held.now.content))))
+        (moment shelf (O.meaning out.old) k)
+        (moment shelf (O.meaning out.new) k) (end_of result) }
 {
     let line = index_line(alloc, held)?;
     write_out(out, &line)
@@ -69,7 +72,9 @@ fn write_counts<O: Sink>(alloc: Global, held: &Held, out: &mut O) -> Result<(), 
 
 // What was read is judged, and its counts are written where it is true.
 fn tell<O: Sink>(alloc: Global, held: &Held, out: &mut O) -> Result<(), Stop>
-    ensures follows { (shelf : Meaning) (k : ℕ) → Follows (judged_course held.now.content (first_flaw held.now.content)) (moment shelf (O.meaning out.old) k) (moment shelf (O.meaning out.new) k) (end_of result) }
+    ensures follows { (shelf : Meaning) (k : ℕ) → Follows (judged_course held.now.content (first_flaw held.now.content))
+        (moment shelf (O.meaning out.old) k)
+        (moment shelf (O.meaning out.new) k) (end_of result) }
     ensures is_true { OnOk result (IsTrueIndex held.now.content) }
 {
     judge_held(alloc, held)?;
@@ -83,7 +88,9 @@ pub fn verify<F: Shelf, O: Sink>(
     shelf: &mut F,
     out: &mut O,
 ) -> Result<(), Stop>
-    ensures follows { (k : ℕ) → Follows (verify_course index_name.now) (moment (F.meaning shelf.old) (O.meaning out.old) k) (moment (F.meaning shelf.new) (O.meaning out.new) k) (end_of result) }
+    ensures follows { (k : ℕ) → Follows (verify_course index_name.now)
+        (moment (F.meaning shelf.old) (O.meaning out.old) k)
+        (moment (F.meaning shelf.new) (O.meaning out.new) k) (end_of result) }
     ensures judged { Judged ((F.meaning shelf.old).told index_name.now) (status_of (end_of result)) }
 {
     let held = read_index_file(alloc, shelf, index_name)?;

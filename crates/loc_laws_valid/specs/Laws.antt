@@ -1,10 +1,10 @@
 -- Laws of validity, as statements that the contracts of public functions cite. The words: `HasOneRing`, `ring_of`, `NoneTwice`, `OneRing`, `InsideByList`, `GoesThrough`, `CrossingParts`, `LowerAtEnds`,
 -- `CrossingSides`, `RingsCalm`, `NonePinched`, `NoneOutside`, `NoneNested`, `PolygonsCalm`,
 -- `ring_pieces`, `TwiceByPieces`, `ConflictsCross`, `FewerPieces`, `ByLists`, `BreachesByLists`.
-use Rattle.std.specs.Prelude.{◌≡◌, ◌⊎◌, ℕ, ◌<◌, ◌≤◌, Bool, true, false, not, ◌&&◌, List, [], ◌∷◌, length, get_or, map, count_by, find, Option, Some, None, option_map, unwrap_or, ◌==◌}
+use Rattle.std.specs.Prelude.{◌≡◌, ◌⊎◌, ℕ, ◌<◌, ◌≤◌, Bool, true, false, not, ◌&&◌, List, [], ◌∷◌, length, get_or, map, find, Option, option_map, unwrap_or, ◌==◌}
 use Rattle.std.specs.List.{flat_map, list_any}
 use Rattle.loc_spec_plane.specs.Lists.{is_in, exactly_one, odd_many}
-use Rattle.loc_spec_plane.specs.Points.{Edge, before, conflict, is_above, same_edge}
+use Rattle.loc_spec_plane.specs.Points.{Edge, before, conflict, is_above}
 use Rattle.loc_spec_plane.specs.Rings.{Rings, segments}
 use Rattle.loc_spec_plane.specs.Tables.{Table, IsTable, AllEnds, AllEven, NoConflict, cut_at, edge, edge_numbers, piece_count, lo_of, hi_of, ends_at, has, has_odd}
 use Rattle.loc_spec_plane.specs.Places.{lower, lower_of}

@@ -54,7 +54,8 @@ pub fn sweep_table<S: Status>(
     status: S,
 ) -> Result<SweptTable<S>, Stop>
     requires fresh { IsFresh (S.meaning status) }
-    ensures goes_on { (next : Course) (m : Moment) → GoesOn (apart_course scale (edges_of_table table) next) m (λ _. next) m result }
+    ensures goes_on { (next : Course) (m : Moment) → GoesOn (apart_course scale (edges_of_table table) next) m
+        (λ _. next) m result }
     ensures table { IfOk result (λ plane. plane.table ≡ table) }
     ensures apart { IfOk result (λ plane. NoConflict plane.table) }
     ensures swept { IfOk result (λ plane. IsSwept plane.table (S.meaning plane.status)) }
@@ -119,7 +120,8 @@ pub fn sweep_layer<S: FreshStatus>(
     layer: &Layer,
     scale: Scale,
 ) -> Result<SweptTable<S>, Stop>
-    ensures goes_on { (next : Course) (m : Moment) → GoesOn (pieces_course layer.now (apart_course scale (edges_of layer.now) next)) m (λ _. next) m result }
+    ensures goes_on { (next : Course) (m : Moment) → GoesOn
+        (pieces_course layer.now (apart_course scale (edges_of layer.now) next)) m (λ _. next) m result }
     ensures table { IfOk result (λ plane. IsTableOf layer.now plane.table) }
     ensures apart { IfOk result (λ plane. NoConflict plane.table) }
     ensures swept { IfOk result (λ plane. IsSwept plane.table (S.meaning plane.status)) }

@@ -1,7 +1,6 @@
 -- The first of pieces in order that stands there more than once.
-use Rattle.std.proofs.Common.{◌≡◌, ℕ, ◌+◌, ◌-◌, ◌<◌, ◌≤◌, Bool, true, false, cond, List, [], ◌∷◌, length, take, get_or, refl, sym, ◌∙◌, ap, ap₂, subst, inl, inr, arith}
+use Rattle.std.proofs.Common.{◌≡◌, ℕ, ◌+◌, ◌-◌, ◌<◌, ◌≤◌, true, false, cond, List, [], ◌∷◌, length, take, get_or, refl, sym, ◌∙◌, ap, subst, inl, inr, arith}
 use Rattle.std.specs.Prelude.{count_by, sum_by, Option, Some, None}
-use Rattle.std.specs.List.{flat_map}
 use Rattle.std.specs.Cmp.{IsStrictWeakOrder}
 use Rattle.std.specs.List.Sorted.{IsPermutation, IsSortedBy}
 use Rattle.std.proofs.lemmas.Bool.{both_ways, cases_Bool, false_from_ne_true}
@@ -17,7 +16,7 @@ use Rattle.loc_laws_order.proofs.TableOrder.{origin_point}
 use Rattle.loc_laws_order.proofs.Tests.{same_edge_decides}
 use Rattle.loc_laws_noding.proofs.Orders.{edges_by_before}
 use Rattle.loc_laws_noding.proofs.SortedSet.{from_less, less, same_from_neither}
-use Rattle.loc_edges.specs.Tagged.{segments_in, tagged_by, tagged_from}
+use Rattle.loc_edges.specs.Tagged.{segments_in, tagged_from}
 use Rattle.loc_node.specs.Pieces.{cut_tagged, layer_pieces, placed_from}
 use Rattle.loc_edges.proofs.Tagged.{segments_in-pieces}
 use Rattle.loc_node.proofs.Cutting.{cut_layer, own}

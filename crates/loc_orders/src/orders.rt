@@ -23,7 +23,8 @@ use std::alloc::Global;
 // The order that a text is.
 fn read_order_in(alloc: Global, text: &[u8], edges: u32) -> Result<Order, Stop>
     requires { length text.now ≤ most_text }
-    ensures goes_on { (next : List ℕ → Course) (m : Moment) → GoesOn (order_in (order_of edges text.now) next) m next m result }
+    ensures goes_on { (next : List ℕ → Course) (m : Moment)
+        → GoesOn (order_in (order_of edges text.now) next) m next m result }
     ensures permutation { IfOk result (IsOrder edges) }
 {
     match Order::read(alloc, text, edges) {
@@ -34,7 +35,9 @@ fn read_order_in(alloc: Global, text: &[u8], edges: u32) -> Result<Order, Stop>
 
 // Reads the file of an order of so many edges.
 fn read_order<F: Shelf>(alloc: Global, shelf: &mut F, name: &str, edges: u32) -> Result<Order, Stop>
-    ensures goes_on { (next : List ℕ → Course) (o : Stream) (k : ℕ) → GoesOn (order_course name.now edges next) (moment (F.meaning shelf.old) o k) next (moment (F.meaning shelf.new) o k) result }
+    ensures goes_on { (next : List ℕ → Course) (o : Stream) (k : ℕ) → GoesOn (order_course name.now edges next)
+        (moment (F.meaning shelf.old) o k) next
+        (moment (F.meaning shelf.new) o k) result }
     ensures permutation { IfOk result (IsOrder edges) }
 {
     let text = read_source(alloc, shelf, name, MOST_TEXT, b"order: too long")?;
@@ -48,7 +51,10 @@ pub fn read_order_file<F: Shelf>(
     order: EdgeOrder<'_>,
     edges: u32,
 ) -> Result<GivenOrder, Stop>
-    ensures goes_on { (next : GivenOrder → Course) (o : Stream) (k : ℕ) → GoesOn (asked_course (asked_order order.entry) edges next) (moment (F.meaning shelf.old) o k) next (moment (F.meaning shelf.new) o k) result }
+    ensures goes_on { (next : GivenOrder → Course) (o : Stream) (k : ℕ)
+        → GoesOn (asked_course (asked_order order.entry) edges next)
+        (moment (F.meaning shelf.old) o k) next
+        (moment (F.meaning shelf.new) o k) result }
     ensures permutation { IfOk result (IsGivenOrder edges) }
 {
     match order {

@@ -18,13 +18,18 @@ use loc_spec_plane::Place;
 /// cover it.
 pub fn part_law(part: &Part, p: Point, place: Place)
     requires { IsPlace part.now.plane.table p place }
-    ensures touching { (layer : List Feature) → IsPartOf layer part.now → by_place part.now.numbers.items (touching_at part.now.plane.legend place) ≡ filter (λ n. touches (get_or (layer_rings layer) n []) p) part.now.numbers.items }
-    ensures covering { (layer : List Feature) → IsPartOf layer part.now → by_place part.now.numbers.items (covering_at part.now.plane.legend place) ≡ filter (λ n. covers (get_or (layer_rings layer) n []) p) part.now.numbers.items }
+    ensures touching { (layer : List Feature) → IsPartOf layer part.now
+        → by_place part.now.numbers.items (touching_at part.now.plane.legend place)
+        ≡ filter (λ n. touches (get_or (layer_rings layer) n []) p) part.now.numbers.items }
+    ensures covering { (layer : List Feature) → IsPartOf layer part.now
+        → by_place part.now.numbers.items (covering_at part.now.plane.legend place)
+        ≡ filter (λ n. covers (get_or (layer_rings layer) n []) p) part.now.numbers.items }
 {
     part.plane.legend.law();
 }
 
 /// The boxes of what is left are about the features of the layer with these numbers.
 pub fn left_law(left: &Left)
-    ensures { (layer : List Feature) → IsLeftOf layer left.now → IsBoxed (part_of left.now.numbers.items (layer_rings layer)) left.now.boxed }
+    ensures { (layer : List Feature) → IsLeftOf layer left.now
+        → IsBoxed (part_of left.now.numbers.items (layer_rings layer)) left.now.boxed }
 {}

@@ -81,8 +81,11 @@ fn pass(
 ) -> Result<(Rest, usize), AllocError>
     requires { length rest.numbers.items ≡ length rest.features }
     ensures few { IfOk result (λ _. length parts.new.items ≤ length parts.old.items + 1) }
-    ensures rest { (layer : List Feature) → IsRestOf layer rest.numbers.items rest.features → IfOk result (λ later. IsRestOf layer later.0.numbers.items later.0.features) }
-    ensures parted { (layer : List Feature) (rests : List (List ℕ)) → IsRestOf layer rest.numbers.items rest.features → IsPartedBut layer (rest.numbers.items ∷ rests) parts.old.items left.old.items → IfOk result (λ later. IsPartedBut layer (later.0.numbers.items ∷ rests) parts.new.items left.new.items) }
+    ensures rest { (layer : List Feature) → IsRestOf layer rest.numbers.items rest.features
+        → IfOk result (λ later. IsRestOf layer later.0.numbers.items later.0.features) }
+    ensures parted { (layer : List Feature) (rests : List (List ℕ)) → IsRestOf layer rest.numbers.items rest.features
+        → IsPartedBut layer (rest.numbers.items ∷ rests) parts.old.items left.old.items
+        → IfOk result (λ later. IsPartedBut layer (later.0.numbers.items ∷ rests) parts.new.items left.new.items) }
 {
     let fates = aside(alloc, &rest.features, noded)?;
     let keep = with_fate(alloc, &fates, Fate::Kept)?;

@@ -13,7 +13,10 @@ use std::alloc::{AllocError, Global};
 
 /// Leaves features in no part.
 pub(crate) fn leave(alloc: Global, left: &mut Vec<Left>, rest: Rest) -> Result<(), AllocError>
-    ensures { (layer : List Feature) (rests : List (List ℕ)) (parts : List Part) → IsRestOf layer rest.numbers.items rest.features → IsPartedBut layer (rest.numbers.items ∷ rests) parts left.old.items → OnOk result (IsPartedBut layer rests parts left.new.items) }
+    ensures { (layer : List Feature) (rests : List (List ℕ)) (parts : List Part)
+        → IsRestOf layer rest.numbers.items rest.features
+        → IsPartedBut layer (rest.numbers.items ∷ rests) parts left.old.items
+        → OnOk result (IsPartedBut layer rests parts left.new.items) }
 {
     if rest.numbers.is_empty() {
         return Ok(());
@@ -34,7 +37,9 @@ pub(crate) fn settle(
     rest: Rest,
 ) -> Result<(), AllocError>
     ensures few { OnOk result (length parts.new.items ≤ length parts.old.items + 1) }
-    ensures settled { (layer : List Feature) (rests : List (List ℕ)) → IsRestOf layer rest.numbers.items rest.features → IsPartedBut layer (rest.numbers.items ∷ rests) parts.old.items left.old.items → OnOk result (IsPartedBut layer rests parts.new.items left.new.items) }
+    ensures settled { (layer : List Feature) (rests : List (List ℕ)) → IsRestOf layer rest.numbers.items rest.features
+        → IsPartedBut layer (rest.numbers.items ∷ rests) parts.old.items left.old.items
+        → OnOk result (IsPartedBut layer rests parts.new.items left.new.items) }
 {
     if rest.numbers.is_empty() {
         return Ok(());

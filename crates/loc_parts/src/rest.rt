@@ -43,12 +43,16 @@ impl Rest {
     pub(crate) fn parted(self, alloc: Global, keep: &[bool]) -> Result<(Rest, Rest), AllocError>
         requires as_many { length keep.now ≡ length self.features }
         requires numbered { length self.numbers.items ≡ length self.features }
-        ensures kept { (layer : List Feature) → IsRestOf layer self.numbers.items self.features → IfOk result (λ both. IsRestOf layer both.0.numbers.items both.0.features) }
-        ensures others { (layer : List Feature) → IsRestOf layer self.numbers.items self.features → IfOk result (λ both. IsRestOf layer both.1.numbers.items both.1.features) }
+        ensures kept { (layer : List Feature) → IsRestOf layer self.numbers.items self.features
+            → IfOk result (λ both. IsRestOf layer both.0.numbers.items both.0.features) }
+        ensures others { (layer : List Feature) → IsRestOf layer self.numbers.items self.features
+            → IfOk result (λ both. IsRestOf layer both.1.numbers.items both.1.features) }
         ensures numbers { IfOk result (λ both. both.1.numbers.items ≡ unflagged keep.now self.numbers.items) }
         ensures others_numbered { IfOk result (λ both. length both.1.numbers.items ≡ length both.1.features) }
-        ensures once { IfOk result (λ both. (f : ℕ → ℕ) → sum_by f both.0.numbers.items + sum_by f both.1.numbers.items ≡ sum_by f self.numbers.items) }
-        ensures all { IfOk result (λ both. (n : ℕ) → (is_in n both.0.numbers.items || is_in n both.1.numbers.items) ≡ is_in n self.numbers.items) }
+        ensures once { IfOk result (λ both. (f : ℕ → ℕ)
+            → sum_by f both.0.numbers.items + sum_by f both.1.numbers.items ≡ sum_by f self.numbers.items) }
+        ensures all { IfOk result (λ both. (n : ℕ) → (is_in n both.0.numbers.items || is_in n both.1.numbers.items)
+            ≡ is_in n self.numbers.items) }
     {
         let (kept_numbers, other_numbers) = parted_by(alloc, &self.numbers, keep)?;
         let (kept, others) = self.features.parted(alloc, keep)?;

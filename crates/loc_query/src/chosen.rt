@@ -174,7 +174,8 @@ pub fn choose(
 ) -> Result<Plane<Chosen>, Stop>
     requires table { IfSome table (IsTableOf layer) }
     requires permutation { IsGivenOrder (length (table_in layer).ends) order }
-    ensures goes_on { (next : Course) (m : Moment) → GoesOn (pieces_course layer (accepted_course scale layer next)) m (λ _. next) m result }
+    ensures goes_on { (next : Course) (m : Moment) → GoesOn (pieces_course layer (accepted_course scale layer next)) m
+        (λ _. next) m result }
     ensures map { IfOk result (λ plane. IsMapOf layer plane.table plane.legend) }
     ensures floors { IfOk result (λ plane. AreFloors plane.table plane.floors) }
     ensures asked { IfOk result (λ plane. index_of plane.status ≡ index) }

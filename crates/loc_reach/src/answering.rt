@@ -42,7 +42,8 @@ fn put_edges<O: Sink, L: Ledger>(
 ) -> Result<(), WriteFault>
     requires stands { AreVersionsOf views.now index.now }
     requires span { IsSpan low high }
-    ensures written { PutsText (ended (met_text (met_at views.now low high))) (O.meaning sink.old) (O.meaning sink.new) page.old page.new result }
+    ensures written { PutsText (ended (met_text (met_at views.now low high))) (O.meaning sink.old)
+        (O.meaning sink.new) page.old page.new result }
     ensures counted { steps.old ≤ steps.new }
     ensures within { steps.new ≤ steps.old + span_steps views.now (low, high) }
 {
@@ -62,7 +63,8 @@ fn put_answer<O: Sink, L: Ledger>(
     steps: &mut Steps<L>,
 ) -> Result<(), WriteFault>
     requires stands { AreVersionsOf views.now index.now }
-    ensures written { PutsText (ended (line_answer scale views.now line.now)) (O.meaning sink.old) (O.meaning sink.new) page.old page.new result }
+    ensures written { PutsText (ended (line_answer scale views.now line.now)) (O.meaning sink.old)
+        (O.meaning sink.new) page.old page.new result }
     ensures counted { steps.old ≤ steps.new }
     ensures within { steps.new ≤ steps.old + line_steps scale views.now line.now }
 {
@@ -83,7 +85,8 @@ fn put_answers<O: Sink, L: Ledger>(
     steps: &mut Steps<L>,
 ) -> Result<(), WriteFault>
     requires stands { AreVersionsOf views.now index.now }
-    ensures written { PutsText (met_output scale views.now text.now) (O.meaning sink.old) (O.meaning sink.new) page.old page.new result }
+    ensures written { PutsText (met_output scale views.now text.now) (O.meaning sink.old) (O.meaning sink.new)
+        page.old page.new result }
     ensures counted { steps.old ≤ steps.new }
     ensures within { steps.new ≤ steps.old + text_steps scale views.now text.now }
 {

@@ -27,7 +27,9 @@ fn write_spans<O: Sink, L: Ledger>(
     steps: &mut Steps<L>,
 ) -> Result<(), Stop>
     requires stands { AreVersionsOf plane.now.table plane.now.status }
-    ensures { (shelf : Meaning) → Follows (answered_course scale plane.now.table text.now) (moment shelf (O.meaning out.old) steps.old) (moment shelf (O.meaning out.new) steps.new) (end_of result) }
+    ensures { (shelf : Meaning) → Follows (answered_course scale plane.now.table text.now)
+        (moment shelf (O.meaning out.old) steps.old)
+        (moment shelf (O.meaning out.new) steps.new) (end_of result) }
 {
     let views = plane.table.views();
     match write_answers(&plane.status, &views, text, scale, out, steps) {
@@ -47,7 +49,9 @@ fn answer_spans<F: Shelf, O: Sink, L: Ledger>(
     steps: &mut Steps<L>,
 ) -> Result<(), Stop>
     requires stands { AreVersionsOf plane.now.table plane.now.status }
-    ensures follows { Follows (spans_course scale plane.now.table spans_name.now) (moment (F.meaning shelf.old) (O.meaning out.old) steps.old) (moment (F.meaning shelf.new) (O.meaning out.new) steps.new) (end_of result) }
+    ensures follows { Follows (spans_course scale plane.now.table spans_name.now)
+        (moment (F.meaning shelf.old) (O.meaning out.old) steps.old)
+        (moment (F.meaning shelf.new) (O.meaning out.new) steps.new) (end_of result) }
 {
     let text = read_source(alloc, shelf, spans_name, MOST_TEXT, b"spans: too long")?;
     write_spans(plane, &text, scale, out, steps)
@@ -65,7 +69,9 @@ pub fn stab<F: Shelf, O: Sink, L: Ledger>(
     out: &mut O,
     steps: &mut Steps<L>,
 ) -> Result<(), Stop>
-    ensures { Follows (stab_course (layer_file layer_name.now form scale) spans_name.now) (moment (F.meaning shelf.old) (O.meaning out.old) steps.old) (moment (F.meaning shelf.new) (O.meaning out.new) steps.new) (end_of result) }
+    ensures { Follows (stab_course (layer_file layer_name.now form scale) spans_name.now)
+        (moment (F.meaning shelf.old) (O.meaning out.old) steps.old)
+        (moment (F.meaning shelf.new) (O.meaning out.new) steps.new) (end_of result) }
 {
     let layer = read_layer_file(alloc, shelf, layer_name, form, scale)?;
     let plane: SweptTable<TreeIndex> = sweep_layer(alloc, &layer, scale)?;

@@ -1,7 +1,8 @@
 -- The ray against one segment, by the side of the point.
-use Rattle.std.proofs.Common.{◌≡◌, Bool, true, false, ◌&&◌, ◌||◌, [], ◌∷◌, Some, refl, sym, ◌∙◌, ap, subst, arith, pos, int_lt, int_le, inl, inr}
+use Rattle.std.proofs.Common.{◌≡◌, Bool, true, false, ◌&&◌, ◌||◌, [], ◌∷◌, Some, refl, sym, ◌∙◌, ap, ap₂, subst, arith, pos, int_lt, int_le, inl, inr}
+use Rattle.std.proofs.Math.Bool.{and-true, or-false}
 use Rattle.std.proofs.lemmas.Int.{ints}
-use Rattle.std.proofs.lemmas.Bool.{cases_Bool, cond-false, false_from_ne_true, both_ways, or_from, not_from_false}
+use Rattle.std.proofs.lemmas.Bool.{and_right, cases_Bool, cond-false, false_from_ne_true, both_ways, or_from, not_from_false}
 use Rattle.loc_spec_plane.specs.Points.{Point, Edge, turn, same_point, is_above, is_on, is_below, lies_on}
 use Rattle.loc_spec_plane.specs.Rays.{crosses_right}
 use Rattle.loc_spec_plane.specs.Rings.{ring_segments, segment_between}
@@ -25,24 +26,15 @@ by_sides s p = ap (λ b. (int_le s.lo.y p.y && int_lt p.y s.hi.y && is_above s p
 
 -- of two that may hold, the one that is chosen
 choice : (rises falls above below : Bool) → above ≡ true → below ≡ false → rises ≡ ((rises && above) || (falls && below))
-choice true true a b h k = cc
-choice true false a b h k = cc
-choice false true a b h k = cc
-choice false false a b h k = cc
+choice rises falls above below a b = sym (ap₂ (λ x y. x || y) (ap (λ t. rises && t) a ∙ and-true rises) (and_right falls below b) ∙ or-false rises)
 
 -- the other one
 other_choice : (rises falls above below : Bool) → above ≡ false → below ≡ true → falls ≡ ((rises && above) || (falls && below))
-other_choice true true a b h k = cc
-other_choice true false a b h k = cc
-other_choice false true a b h k = cc
-other_choice false false a b h k = cc
+other_choice rises falls above below a b = sym (ap₂ (λ x y. x || y) (and_right rises above a) (ap (λ t. falls && t) b ∙ and-true falls))
 
 -- neither
 no_choice : (rises falls above below : Bool) → above ≡ false → below ≡ false → false ≡ ((rises && above) || (falls && below))
-no_choice true true a b h k = cc
-no_choice true false a b h k = cc
-no_choice false true a b h k = cc
-no_choice false false a b h k = cc
+no_choice rises falls above below a b = sym (or_from (rises && above) (falls && below) (and_right rises above a) (and_right falls below b))
 
 -- with the point above
 pub when_above : (s : Edge) (p : Point) (rises : Bool) → rises ≡ (int_le s.lo.y p.y && int_lt p.y s.hi.y) → is_above s p ≡ true → rises ≡ crosses_right s p

@@ -1,10 +1,13 @@
 -- Rings that are cut into polygons at the numbers of their first rings.
-use Rattle.std.proofs.Common.{◌≡◌, ℕ, zero, suc, ◌+◌, ◌-◌, ◌<◌, ◌≤◌, List, [], ◌∷◌, ◌++◌, length, take, drop, get_or, refl, sym, ◌∙◌, ap, ap₂, arith, append-nil, length-append}
-use Rattle.std.proofs.lemmas.List.{drop-append-le, drop-drop, drop_all, length-drop, length-take-le, take-append-drop, take-append-le, take_all}
+use Rattle.std.proofs.Common.{◌≡◌, ℕ, zero, suc, ◌+◌, ◌-◌, ◌^◌, ◌<◌, ◌≤◌, List, [], ◌∷◌, ◌++◌, length, take, drop, get_or, All, refl, sym, ◌∙◌, ap, ap₂, subst, arith, append-nil, length-append}
+use Rattle.std.proofs.lemmas.List.{drop-append-le, drop-drop, drop_all, length-drop, length-take-le, nil_from_length, take-append-drop, take-append-le, take_all}
+use Rattle.std.proofs.lemmas.List.Concat.{length-flat_map}
+use Rattle.std.proofs.lemmas.List.Elements.{All-push}
+use Rattle.std.proofs.lemmas.List.Sums.{sum_by-take-le}
 use Rattle.loc_spec_plane.specs.Rings.{Ring, Rings}
 use Rattle.loc_spec_text.specs.Reading.{Polygons, all_rings}
-use Rattle.loc_rings.specs.Kept.{BeginAtZero, RiseTo}
-use Rattle.loc_rings.specs.Values.{cut_into, rings_before, with_ring}
+use Rattle.loc_rings.specs.Kept.{AreKept, BeginAtZero, RiseTo}
+use Rattle.loc_rings.specs.Values.{IsRing, cut_into, rings_before, with_ring}
 
 -- a further ring of the last polygon
 pub with_ring-last : (before : Polygons) (rings : Rings) (ring : Ring) → with_ring (before ++ rings ∷ []) ring ≡ before ++ (rings ++ ring ∷ []) ∷ []
@@ -28,13 +31,9 @@ rings_from : (start : ℕ) (starts : List ℕ) (rings : Rings) → RiseTo start 
 rings_from start [] rings rise = append-nil (drop start rings)
 rings_from start (next ∷ starts) rings rise = ap (λ rs. take (next - start) (drop start rings) ++ rs) (rings_from next starts rings rise.1) ∙ drop_to start next rings rise.0
 
-no_rings : (rings : Rings) → length rings ≡ 0 → [] ≡ rings
-no_rings [] e = refl
-no_rings (ring ∷ rings) e = absurd (omega arith)
-
 -- cut into polygons they are the same rings
 pub all_rings-cut : (starts : List ℕ) (rings : Rings) → BeginAtZero starts (length rings) → all_rings (cut_into starts rings) ≡ rings
-all_rings-cut [] rings begin = no_rings rings begin
+all_rings-cut [] rings begin = sym (nil_from_length rings begin)
 all_rings-cut (start ∷ starts) rings begin = rings_from start starts rings begin.1 ∙ ap (λ n. drop n rings) begin.0
 
 -- there are as many polygons as numbers of first rings
@@ -107,47 +106,64 @@ before-cut (start ∷ starts) rings n d below begin = let e = before_from start 
 pub before-all : (starts : List ℕ) (rings : Rings) (n : ℕ) → length starts ≤ n → BeginAtZero starts (length rings) → rings_before (cut_into starts rings) n ≡ length rings
 before-all starts rings n all begin = ap (λ ps. length (all_rings ps)) (take_all n (cut_into starts rings) (omega (arith, length-cut starts rings))) ∙ ap length (all_rings-cut starts rings begin)
 
-rise_at : (first : ℕ) (starts : List ℕ) (count n d : ℕ) → n + 1 < length starts + 1 → RiseTo first starts count → get_or (first ∷ starts) n d ≤ get_or (first ∷ starts) (suc n) d
-rise_at first [] count n d below rise = absurd (omega arith)
-rise_at first (start ∷ starts) count zero d below rise = rise.0
-rise_at first (start ∷ starts) count (suc n) d below rise = rise_at start starts count n d (omega arith) rise.1
+-- more of the first polygons have no fewer rings
+pub before-rises : (polygons : Polygons) (n m : ℕ) → n ≤ m → rings_before polygons n ≤ rings_before polygons m
+before-rises polygons zero m le = omega arith
+before-rises [] (suc n) m le = omega arith
+before-rises (rings ∷ polygons) (suc n) zero le = absurd (omega arith)
+before-rises (rings ∷ polygons) (suc n) (suc m) le = omega (arith, before-rises polygons n m (omega arith), length-append rings (all_rings (take n polygons)), length-append rings (all_rings (take m polygons)))
 
-within_at : (first : ℕ) (starts : List ℕ) (count n d : ℕ) → n < length starts + 1 → RiseTo first starts count → get_or (first ∷ starts) n d ≤ count
-within_at first starts count zero d below rise = first_within first starts count rise
-within_at first [] count (suc n) d below rise = absurd (omega arith)
-within_at first (start ∷ starts) count (suc n) d below rise = within_at start starts count n d (omega arith) rise.1
-
--- polygon n begins at most where the next one does
-pub rises-at : (starts : List ℕ) (count n d : ℕ) → n + 1 < length starts → BeginAtZero starts count → get_or starts n d ≤ get_or starts (suc n) d
-rises-at [] count n d below begin = absurd (omega arith)
-rises-at (start ∷ starts) count n d below begin = rise_at start starts count n d (omega arith) begin.1
-
--- and at most where the rings end
-pub within-at : (starts : List ℕ) (count n d : ℕ) → n < length starts → BeginAtZero starts count → get_or starts n d ≤ count
-within-at [] count n d below begin = absurd (omega arith)
-within-at (start ∷ starts) count n d below begin = within_at start starts count n d (omega arith) begin.1
+-- the first polygons have at most all rings
+pub before-within : (polygons : Polygons) (n : ℕ) → rings_before polygons n ≤ length (all_rings polygons)
+before-within polygons n = omega (arith, length-flat_map (λ rings. rings) (take n polygons), length-flat_map (λ rings. rings) polygons, sum_by-take-le length polygons n)
 
 -- What is kept of polygons, as they are seen.
-module _ (starts : List ℕ) (rings : Rings) (polygons : Polygons) (seen : cut_into starts rings ≡ polygons) (begin : BeginAtZero starts (length rings)) where
+module _ {starts : List ℕ} {rings : Rings} {polygons : Polygons} (kept : AreKept starts rings) (seen : cut_into starts rings ≡ polygons) where
   -- their rings
   pub seen-rings : all_rings polygons ≡ rings
-  seen-rings = ap all_rings (sym seen) ∙ all_rings-cut starts rings begin
+  seen-rings = ap all_rings (sym seen) ∙ all_rings-cut starts rings kept.begin
 
   -- how many there are
   pub seen-length : length polygons ≡ length starts
   seen-length = ap length (sym seen) ∙ length-cut starts rings
 
-  -- the number of the first ring of polygon n, and that behind its last ring
-  pub seen-first : (n d : ℕ) → n < length starts → get_or starts n d ≡ rings_before polygons n
-  seen-first n d below = sym (before-cut starts rings n d below begin) ∙ ap (λ ps. rings_before ps n) seen
+  -- the number of the first ring of polygon n, as it is read, and that behind the last ring
+  pub seen-first : (n first : ℕ) → n < length polygons → first ≡ get_or starts n first → first ≡ rings_before polygons n
+  seen-first n first below at = at ∙ (sym (before-cut starts rings n first (omega (arith, seen-length)) kept.begin) ∙ ap (λ ps. rings_before ps n) seen)
 
-  pub seen-past : (n : ℕ) → length starts ≤ n → length rings ≡ rings_before polygons n
-  seen-past n all = sym (before-all starts rings n all begin) ∙ ap (λ ps. rings_before ps n) seen
+  pub seen-next : (n past : ℕ) (ns : List ℕ) → ns ≡ starts → (n < length ns) × ((d : ℕ) → past ≡ get_or ns n d) → past ≡ rings_before polygons n
+  seen-next n past ns same found = seen-first n past (omega (arith, found.0, ap length same, seen-length)) (found.1 past ∙ ap (λ ms. get_or ms n past) same)
+
+  pub seen-past : (n : ℕ) (ns : List ℕ) → ns ≡ starts → length ns ≤ n → length rings ≡ rings_before polygons n
+  seen-past n ns same all = sym (before-all starts rings n (omega (arith, ap length same)) kept.begin) ∙ ap (λ ps. rings_before ps n) seen
 
   -- with a further polygon
-  pub seen-start : cut_into (starts ++ length rings ∷ []) rings ≡ polygons ++ [] ∷ []
-  seen-start = cut-start starts rings begin ∙ ap (λ ps. ps ++ [] ∷ []) seen
+  module _ {more : List ℕ} (count : ℕ) (counted : count ≡ length rings) (pushed : more ≡ starts ++ count ∷ []) where
+    behind_all : more ≡ starts ++ length rings ∷ []
+    behind_all = pushed ∙ ap (λ n. starts ++ n ∷ []) counted
+
+    pub kept-start : length polygons < 2 ^ 28 → AreKept more rings
+    kept-start room = record {
+      each = kept.each;
+      few_rings = kept.few_rings;
+      few = omega (arith, ap length pushed, length-append starts (count ∷ []), room, seen-length);
+      begin = subst (λ ns. BeginAtZero ns (length rings)) (sym behind_all) (begin-start starts (length rings) kept.begin);
+    }
+
+    pub seen-start : cut_into more rings ≡ polygons ++ [] ∷ []
+    seen-start = ap (λ ns. cut_into ns rings) behind_all ∙ (cut-start starts rings kept.begin ∙ ap (λ ps. ps ++ [] ∷ []) seen)
 
   -- with a further ring
-  pub seen-ring : (ring : Ring) → 0 < length polygons → cut_into starts (rings ++ ring ∷ []) ≡ with_ring polygons ring
-  seen-ring ring some = cut-ring starts rings ring (omega (arith, seen-length)) begin ∙ ap (λ ps. with_ring ps ring) seen
+  module _ {more : Rings} (ring : Ring) (pushed : more ≡ rings ++ ring ∷ []) (some : 0 < length polygons) where
+    pub kept-ring : IsRing ring → length (all_rings polygons) < 2 ^ 28 → AreKept starts more
+    kept-ring closed room =
+        let count : length more ≡ length rings + 1 = ap length pushed ∙ length-append rings (ring ∷ []) in
+        record {
+          each = subst (All IsRing) (sym pushed) (All-push IsRing rings ring kept.each closed);
+          few_rings = omega (arith, count, room, ap length seen-rings);
+          few = kept.few;
+          begin = subst (BeginAtZero starts) (sym count) (begin-more starts (length rings) (omega (arith, some, seen-length)) kept.begin);
+        }
+
+    pub seen-ring : cut_into starts more ≡ with_ring polygons ring
+    seen-ring = ap (cut_into starts) pushed ∙ (cut-ring starts rings ring (omega (arith, some, seen-length)) kept.begin ∙ ap (λ ps. with_ring ps ring) seen)

@@ -1,6 +1,7 @@
 -- Lists of members by flags: one member more, and what both lists have together.
-use Rattle.std.proofs.Common.{◌≡◌, ℕ, ◌+◌, ◌<◌, ◌≤◌, Bool, true, false, cond, List, [], ◌∷◌, ◌++◌, length, map, filter, get_or, refl, sym, ◌∙◌, ap, arith, length-append}
+use Rattle.std.proofs.Common.{◌≡◌, ℕ, ◌+◌, ◌<◌, ◌≤◌, Bool, true, false, not, cond, List, [], ◌∷◌, ◌++◌, length, map, filter, get_or, refl, sym, ◌∙◌, ap, arith, append-nil, append_assoc, length-append}
 use Rattle.std.specs.List.{sum_by, zip}
+use Rattle.std.proofs.lemmas.List.{nil_from_length}
 use Rattle.std.proofs.lemmas.List.Sums.{sum_by-append, sum_by-cons}
 use Rattle.loc_rings.specs.Flags.{flagged, unflagged}
 
@@ -51,23 +52,6 @@ flags-length (flag ∷ flags) [] le = refl
 flags-length (true ∷ flags) (x ∷ xs) le = omega (arith, flags-length flags xs (omega arith))
 flags-length (false ∷ flags) (x ∷ xs) le = omega (arith, flags-length flags xs (omega arith))
 
--- a list cut before a member: both lists of those before it are as long as its place, which has a flag
-pub flags-place : {X : Type 0} (flags : List Bool) (xs : List X) (x : X) (rest whole kept others : List X) → xs ++ x ∷ rest ≡ whole → length flags ≡ length whole → kept ≡ flagged flags xs → others ≡ unflagged flags xs
-    → (length kept + length others ≡ length xs) × (length xs < length flags)
-flags-place flags xs x rest whole kept others all as_many is_kept is_others =
-    let split : length xs + length (x ∷ rest) ≡ length whole = sym (length-append xs (x ∷ rest)) ∙ ap length all in
-    let within : length xs < length flags = omega arith in
-    let both : length kept + length others ≡ length xs = omega (arith, ap length is_kept, ap length is_others, flags-length flags xs (omega arith)) in
-    (both, within)
-
--- both lists of those before it have together no more than all, with the member
-pub flags-fit : {X : Type 0} (f : X → ℕ) (flags : List Bool) (xs : List X) (x : X) (rest whole kept others : List X) → xs ++ x ∷ rest ≡ whole → length flags ≡ length whole → kept ≡ flagged flags xs → others ≡ unflagged flags xs
-    → sum_by f kept + sum_by f others + f x ≤ sum_by f whole
-flags-fit f flags xs x rest whole kept others all as_many is_kept is_others =
-    let place = flags-place flags xs x rest whole kept others all as_many is_kept is_others in
-    let split : sum_by f xs + sum_by f (x ∷ rest) ≡ sum_by f whole = sym (sum_by-append f xs (x ∷ rest)) ∙ ap (sum_by f) all in
-    omega (arith, split, sum_by-cons f x rest, ap (sum_by f) is_kept, ap (sum_by f) is_others, flags-sum f flags xs (omega (arith, place.1)))
-
 -- one member more, where its flag is known
 pub flags-more : {X : Type 0} (test : Bool → Bool) (flags : List Bool) (xs : List X) (x : X) (flag passes : Bool) (made more : List X) → length xs < length flags → flag ≡ get_or flags (length xs) false → test flag ≡ passes → made ≡ chosen test flags xs
     → more ≡ made ++ cond passes (x ∷ []) [] → more ≡ chosen test flags (xs ++ x ∷ [])
@@ -76,3 +60,46 @@ flags-more test flags xs x flag passes made more lt is_flag tested is_made is_mo
     ∙ (ap (λ ys. ys ++ cond passes (x ∷ []) []) is_made
     ∙ (ap (λ b. chosen test flags xs ++ cond b (x ∷ []) []) (sym tested ∙ ap test is_flag)
     ∙ sym (chosen-more test flags xs x lt)))
+
+-- members that are parted by their flags so far, and those that are left
+pub record IsParted {X : Type 0} (flags : List Bool) (xs left whole ks os : List X) : Type 0 where
+  pub kept : ks ≡ flagged flags xs
+  pub others : os ≡ unflagged flags xs
+  pub all : xs ++ left ≡ whole
+
+-- where none is left
+pub parted-all : {X : Type 0} {flags : List Bool} {xs left whole kept others : List X} → IsParted flags xs left whole kept others → length left ≡ 0 → (kept ≡ flagged flags whole) × (others ≡ unflagged flags whole)
+parted-all {X} {flags} {xs} {left} parted none_left =
+    let same = sym (append-nil xs) ∙ (ap (λ ys. xs ++ ys) (sym (nil_from_length left none_left)) ∙ parted.all) in
+    (parted.kept ∙ ap (flagged flags) same, parted.others ∙ ap (unflagged flags) same)
+
+-- where there is a next one
+module _ {X : Type 0} {flags : List Bool} {xs left whole kept others rest : List X} {x : X} (parted : IsParted flags xs left whole kept others) (next : left ≡ x ∷ rest) (as_many : length flags ≡ length whole) where
+  split : xs ++ x ∷ rest ≡ whole
+  split = ap (λ ys. xs ++ ys) (sym next) ∙ parted.all
+
+  within : length xs < length flags
+  within = omega (arith, length-append xs (x ∷ rest), ap length split, as_many)
+
+  place : length kept + length others ≡ length xs
+  place = omega (arith, ap length parted.kept, ap length parted.others, flags-length flags xs (omega (arith, within)))
+
+  -- both lists are together as long as its place, which has a flag
+  pub parted-place : length kept + length others < length flags
+  parted-place = omega (arith, place, within)
+
+  -- both lists have together no more than all, with it
+  pub parted-fit : (f : X → ℕ) → sum_by f kept + sum_by f others + f x ≤ sum_by f whole
+  parted-fit f =
+      let sum : sum_by f xs + sum_by f (x ∷ rest) ≡ sum_by f whole = sym (sum_by-append f xs (x ∷ rest)) ∙ ap (sum_by f) split in
+      omega (arith, sum, sum_by-cons f x rest, ap (sum_by f) parted.kept, ap (sum_by f) parted.others, flags-sum f flags xs (omega (arith, within)))
+
+  -- it is parted too
+  pub parted-more : {ks os : List X} (flag : Bool) (n : ℕ) → n ≡ length kept + length others → get_or flags n false ≡ flag → ks ≡ kept ++ cond flag (x ∷ []) [] → os ≡ others ++ cond (not flag) (x ∷ []) [] → IsParted flags (xs ++ x ∷ []) rest whole ks os
+  parted-more {ks} {os} flag n here is_flag is_kept is_others =
+      let there : flag ≡ get_or flags (length xs) false = sym is_flag ∙ ap (λ m. get_or flags m false) (here ∙ place) in
+      record {
+        kept = flags-more (λ b. b) flags xs x flag flag kept ks within there refl parted.kept is_kept;
+        others = flags-more not flags xs x flag (not flag) others os within there refl parted.others is_others;
+        all = append_assoc xs (x ∷ []) rest ∙ split;
+      }

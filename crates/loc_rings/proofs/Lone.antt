@@ -1,7 +1,7 @@
 -- Rings of a feature taken one by one, and those of one polygon.
 use Rattle.std.proofs.Common.{◌≡◌, ℕ, zero, suc, ◌+◌, ◌-◌, ◌<◌, ◌≤◌, List, [], ◌∷◌, ◌++◌, length, take, drop, get_or, map, slice_get, slice_range, Some, refl, ◌∙◌, ap, ap₂, arith}
 use Rattle.std.specs.List.{sum_by}
-use Rattle.std.proofs.lemmas.List.{append-nil, get_or-drop, length-append, length-drop, take_more}
+use Rattle.std.proofs.lemmas.List.{append-nil, get_or-drop, length-append, length-drop, map_more, take_more}
 use Rattle.std.proofs.Math.Seq.{drop-append-add, take-append_seam}
 use Rattle.std.proofs.lemmas.List.Sums.{sum_by-cons, sum_by-take-le, sum_by-take-drop}
 use Rattle.std.proofs.lemmas.Option.{get_or_from_slice_get, slice_get_within}
@@ -24,7 +24,11 @@ range_more rings first n ring le at =
 abbrev pub lone_rings : Rings → List Feature
 lone_rings rings = map (λ ring. unnamed (ring ∷ [])) rings
 
--- has their points
+-- has one ring more
+pub lone_more : (rings : Rings) (n : ℕ) (ring : Ring) → slice_get rings n ≡ Some ring → lone_rings (take (n + 1) rings) ≡ lone_rings (take n rings) ++ unnamed (ring ∷ []) ∷ []
+lone_more rings n ring at = map_more (λ r. unnamed (r ∷ [])) rings n ring (slice_get_within rings n ring at) ∙ ap (λ r. lone_rings (take n rings) ++ unnamed (r ∷ []) ∷ []) (get_or_from_slice_get rings n ring ring at)
+
+-- and has their points
 pub lone_points : (rings : Rings) → layer_points (lone_rings rings) ≡ sum_by length rings
 lone_points [] = refl
 lone_points (ring ∷ rings) =

@@ -1,8 +1,8 @@
 //! Rows of runs: words, files, and what `run` leaves of them. The files of data/ have the rows, a step a line; what each step leaves is printed
 //! behind it, and has to be what the file `stdout` beside src/ has.
 //!
-//! `row NAME` begins a row, over a shelf without files. The steps of `making` and `shapes` make files, those of `playing`, `trips` and `failing`
-//! run words: behind `|` stands what is left on out, behind `!` what is left on notes. A line without a step, or that begins with `#`, is a remark.
+//! `row NAME` begins a row, over a shelf without files. The steps of `making` and `shapes` make files, those of `playing` and `failing` run words:
+//! behind `|` stands what is left on out, behind `!` what is left on notes. A line without a step, or that begins with `#`, is a remark.
 #![tactic(auto)]
 
 mod escapes;
@@ -14,7 +14,6 @@ mod runs;
 mod shapes;
 mod stage;
 mod stop;
-mod trips;
 mod watched;
 
 use crate::failing::{failing, pieces};
@@ -23,7 +22,6 @@ use crate::playing::{brief, copies, equal, run, same};
 use crate::runs::words_of;
 use crate::stage::Stage;
 use crate::stop::Stop;
-use crate::trips::{orders, refused, shuffles, trip};
 use loc_top::{answer, status_of};
 use std::alloc::Global;
 use std::process::ExitCode;
@@ -57,13 +55,6 @@ fn play(page: &mut String, stage: &mut Stage, verb: &str, rest: &str) -> Result<
         "brief" => brief(page, stage, rest),
         "copies" => copies(page, stage, rest),
         "equal" => equal(page, stage, rest),
-        "trip" => trip(page, stage, rest),
-        "refused" => refused(page, stage, rest),
-        "orders" => {
-            let (edges, count) = cut(rest);
-            orders(page, stage, edges, count)
-        }
-        "shuffles" => shuffles(page, stage, rest),
         "failing" => failing(page, stage, rest),
         "pieces" => pieces(page, stage, rest),
         _ => make(stage, verb, rest),

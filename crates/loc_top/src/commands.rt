@@ -68,7 +68,8 @@ pub(crate) fn run_command<F: Shelf, O: Sink, L: Ledger>(
     ensures follows { Follows (course_by (asked_by command.entry))
         (moment (F.meaning shelf.old) (O.meaning out.old) steps.old)
         (moment (F.meaning shelf.new) (O.meaning out.new) steps.new) (end_of result) }
-    ensures beside { BesideCourse (asked_by command.entry) (F.meaning shelf.old) (F.meaning shelf.new) (status_of (end_of result)) }
+    ensures beside { BesideCourse (asked_by command.entry) (F.meaning shelf.old) (F.meaning shelf.new)
+        (status_of (end_of result)) }
 {
     match command {
         Command::Query(asked) => run_query(alloc, asked, shelf, out, steps),

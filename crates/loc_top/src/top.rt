@@ -36,7 +36,8 @@ fn run_course<F: Shelf, O: Sink, N: Sink, L: Ledger>(
     ensures ran { Ran (course_of (map string_bytes words.now))
         (moment (F.meaning shelf.old) (O.meaning out.old) steps.old)
         (moment (F.meaning shelf.new) (O.meaning out.new) steps.new) (N.meaning notes.old) (N.meaning notes.new) result }
-    ensures beside { IfSome (command_of (map string_bytes words.now)) (λ asked. BesideCourse asked (F.meaning shelf.old) (F.meaning shelf.new) result) }
+    ensures beside { IfSome (command_of (map string_bytes words.now))
+        (λ asked. BesideCourse asked (F.meaning shelf.old) (F.meaning shelf.new) result) }
     ensures notes_in_time { InTime (N.meaning notes.old) (N.meaning notes.new) }
 {
     match command_of(alloc, words) {

@@ -1,5 +1,5 @@
 -- Where a walk down the present tree has come, and where it ends: `IsDescent`, `HangsBetween`, `IsWay`, `IsEnd`, `IsPlaceFor` and `IsNode`.
-use Rattle.std.specs.Prelude.{◌≡◌, ◌≢◌, ℕ, ◌-◌, ◌<◌, Bool, true, false, List, ◌∷◌, ◌++◌, length, Option, None, Some, IfSome, slice_get}
+use Rattle.std.specs.Prelude.{◌≡◌, ◌≢◌, ℕ, Bool, true, false, List, ◌∷◌, ◌++◌, Option, Some, IfSome, slice_get}
 use Rattle.loc_pool.specs.declared.Link.{Link}
 use Rattle.loc_pool.specs.declared.Turn.{Turn}
 use Rattle.loc_rb.specs.Trees.{before, after}

@@ -73,31 +73,14 @@ pair_unbroken x y rest small_x small_y more =
 body_unbroken : (r : Rectangle) → IsSmall r → IsUnbroken (body r)
 body_unbroken r small = all_append (λ b. (b == 10) ≡ false) (codes "POLYGON ((") (corners_text r)
     (refl, (refl, (refl, (refl, (refl, (refl, (refl, (refl, (refl, (refl, tt))))))))))
-    (pair_unbroken r.left r.low _ small.left small.low (
-      refl,
-      (
-        refl,
-        pair_unbroken r.right r.low _ small.right small.low (
-          refl,
-          (
-            refl,
-            pair_unbroken r.right r.high _ small.right small.high (
-              refl,
-              (
-                refl,
-                pair_unbroken r.left r.high _ small.left small.high (
-                  refl,
-                  (
-                    refl,
-                    pair_unbroken r.left r.low (41 ∷ 41 ∷ []) small.left small.low (refl, (refl, tt)),
-                  ),
-                ),
-              ),
-            ),
-          ),
-        ),
-      ),
-    ))
+    (next r.left r.low _ small.left small.low
+    (next r.right r.low _ small.right small.low
+    (next r.right r.high _ small.right small.high
+    (next r.left r.high _ small.left small.high
+    (pair_unbroken r.left r.low (41 ∷ 41 ∷ []) small.left small.low (refl, (refl, tt)))))))
+  where
+    next : (x y : ℕ) (rest : List ℕ) → x < 1048576 → y < 1048576 → IsUnbroken rest → IsUnbroken (decimal x ++ 32 ∷ (decimal y ++ 44 ∷ 32 ∷ rest))
+    next x y rest small_x small_y more = pair_unbroken x y (44 ∷ 32 ∷ rest) small_x small_y (refl, (refl, more))
 
 -- the lines of a layer's text
 lines_are : (rs : List Rectangle) → AllByRecursion IsSmall rs → lines (flat_map feature_text rs) ≡ map body rs

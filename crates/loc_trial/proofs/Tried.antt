@@ -72,31 +72,25 @@ ids_few test (f ∷ layer) = by (test (rings_of f)) (ids_few test layer)
     by false few = omega (arith, few)
 
 -- the lists of an answer to a point are no longer than the layer
-touching_few : (layer : List Feature) (p : Point) → length (touching_ids (located false layer p)) ≤ length layer
+lists_few : (layer : List Feature) (p : Point) → (length (touching_ids (located false layer p)) ≤ length layer) × (length (covering_ids (located false layer p)) ≤ length layer)
 unfolding located
-touching_few layer p = by (place_at (table_in layer) p)
+lists_few layer p = by (place_at (table_in layer) p)
   where
-    by : (place : Place) → length (touching_ids (answer_at (shown_at false (table_in layer)) place (ids_where (λ rings. touches rings p) layer) (ids_where (λ rings. covers rings p) layer))) ≤ length layer
-    by (Corner c) = ids_few (λ rings. touches rings p) layer
-    by (Border e) = ids_few (λ rings. touches rings p) layer
-    by (Area floor) = omega arith
+    here : Place → Answer
+    here place = answer_at (shown_at false (table_in layer)) place (ids_where (λ rings. touches rings p) layer) (ids_where (λ rings. covers rings p) layer)
 
-covering_few : (layer : List Feature) (p : Point) → length (covering_ids (located false layer p)) ≤ length layer
-unfolding located
-covering_few layer p = by (place_at (table_in layer) p)
-  where
-    by : (place : Place) → length (covering_ids (answer_at (shown_at false (table_in layer)) place (ids_where (λ rings. touches rings p) layer) (ids_where (λ rings. covers rings p) layer))) ≤ length layer
-    by (Corner c) = ids_few (λ rings. covers rings p) layer
-    by (Border e) = ids_few (λ rings. covers rings p) layer
-    by (Area floor) = ids_few (λ rings. covers rings p) layer
+    by : (place : Place) → (length (touching_ids (here place)) ≤ length layer) × (length (covering_ids (here place)) ≤ length layer)
+    by (Corner c) = (ids_few (λ rings. touches rings p) layer, ids_few (λ rings. covers rings p) layer)
+    by (Border e) = (ids_few (λ rings. touches rings p) layer, ids_few (λ rings. covers rings p) layer)
+    by (Area floor) = (omega arith, ids_few (λ rings. covers rings p) layer)
 
 few_answers : (layer : List Feature) (n shift : ℕ) → n ≤ 131072 → length layer ≤ 131072 → AreFew (answers_of layer n shift)
 few_answers layer n shift few features =
     let most : n * length layer ≤ 131072 * 131072 = mul-le n (length layer) 131072 131072 few features in
     record {
       few = omega (arith, few, length-map-range_with_len (λ t. located false layer (point_number n shift t)) 0 n);
-      touching = omega (arith, most, range_few (λ a. length (touching_ids a)) (λ t. located false layer (point_number n shift t)) (length layer) 0 n (λ t. touching_few layer (point_number n shift t)));
-      covering = omega (arith, most, range_few (λ a. length (covering_ids a)) (λ t. located false layer (point_number n shift t)) (length layer) 0 n (λ t. covering_few layer (point_number n shift t)));
+      touching = omega (arith, most, range_few (λ a. length (touching_ids a)) (λ t. located false layer (point_number n shift t)) (length layer) 0 n (λ t. (lists_few layer (point_number n shift t)).0));
+      covering = omega (arith, most, range_few (λ a. length (covering_ids a)) (λ t. located false layer (point_number n shift t)) (length layer) 0 n (λ t. (lists_few layer (point_number n shift t)).1));
     }
 
 module _ (layer : List Feature) (t : Table) (rows : LegendRows) (sound : IsSound rows) (m : IsMapOf layer t rows) where

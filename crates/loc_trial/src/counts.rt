@@ -84,7 +84,8 @@ pub(crate) fn line_of(
     tally: Tally,
     nodes: Option<u32>,
 ) -> Result<Vec<u8>, AllocError>
-    ensures { IfOk result (λ line. line.items ≡ ended (sizes_text kind n shift corners edges ++ tally_text tally ++ nodes_text nodes)) }
+    ensures { IfOk result (λ line. line.items ≡ ended
+        (sizes_text kind n shift corners edges ++ tally_text tally ++ nodes_text nodes)) }
 {
     let mut line = Vec::new(alloc);
     push_sizes(&mut line, kind, n, shift, corners, edges)?;

@@ -19,15 +19,19 @@ ghost use Rattle.loc_trial.specs.TrialCourses.{gen_course, past_text, trial_cour
 /// The text of a generated layer reads as its rectangles, numbered from 1, and the line of a point reads as that point. The call does
 /// nothing: its contract is the law.
 pub fn generated_law()
-    ensures layers { (kind : Kind) (n shift : ℕ) → n ≤ limit_of kind → layer_of Lines 0 (layer_text kind n shift) ≡ Ok (generated kind n shift) }
-    ensures points { (n shift t : ℕ) → t < n → n ≤ 131072 → point_of 0 (point_line n shift t) ≡ Some (point_number n shift t) }
+    ensures layers { (kind : Kind) (n shift : ℕ) → n ≤ limit_of kind
+        → layer_of Lines 0 (layer_text kind n shift) ≡ Ok (generated kind n shift) }
+    ensures points { (n shift t : ℕ) → t < n → n ≤ 131072
+        → point_of 0 (point_line n shift t) ≡ Some (point_number n shift t) }
 {}
 
 /// Generating a layer comes to its text, or to the line that its size is past the limit. It writes at once, makes no file and searches
 /// nothing. The call does nothing: its contract is the law.
 pub fn gen_law()
-    ensures within { (told : Text → Told) (kind : Kind) (n shift : ℕ) → n ≤ limit_of kind → outcome told (gen_course kind n shift) ≡ output (exactly (layer_text kind n shift)) }
-    ensures past { (told : Text → Told) (kind : Kind) (n shift : ℕ) → limit_of kind < n → outcome told (gen_course kind n shift) ≡ refusal (exactly (ended (past_text n (limit_of kind)))) }
+    ensures within { (told : Text → Told) (kind : Kind) (n shift : ℕ) → n ≤ limit_of kind
+        → outcome told (gen_course kind n shift) ≡ output (exactly (layer_text kind n shift)) }
+    ensures past { (told : Text → Told) (kind : Kind) (n shift : ℕ) → limit_of kind < n
+        → outcome told (gen_course kind n shift) ≡ refusal (exactly (ended (past_text n (limit_of kind)))) }
     ensures plain { (kind : Kind) (n shift : ℕ) → IsPlain (gen_course kind n shift) }
     ensures searches_nothing { (kind : Kind) (n shift : ℕ) → SearchesNothing (gen_course kind n shift) }
 {}
@@ -35,7 +39,9 @@ pub fn gen_law()
 /// A trial past the limit is refused by its line. It writes at once and makes no file, and counts at most the steps of an answer for each
 /// point. The call does nothing: its contract is the law.
 pub fn trial_law()
-    ensures past { (told : Text → Told) (index : IndexOf) (kind : Kind) (n shift : ℕ) → limit_of kind < n → outcome told (trial_course index kind n shift) ≡ refusal (exactly (ended (past_text n (limit_of kind)))) }
+    ensures past { (told : Text → Told) (index : IndexOf) (kind : Kind) (n shift : ℕ) → limit_of kind < n
+        → outcome told (trial_course index kind n shift) ≡ refusal (exactly (ended (past_text n (limit_of kind)))) }
     ensures plain { (index : IndexOf) (kind : Kind) (n shift : ℕ) → IsPlain (trial_course index kind n shift) }
-    ensures steps { (told : Text → Told) (index : IndexOf) (kind : Kind) (n shift : ℕ) → WithinSteps told (trial_course index kind n shift) (n * steps_by index (table_in (generated kind n shift))) }
+    ensures steps { (told : Text → Told) (index : IndexOf) (kind : Kind) (n shift : ℕ)
+        → WithinSteps told (trial_course index kind n shift) (n * steps_by index (table_in (generated kind n shift))) }
 {}

@@ -20,7 +20,9 @@ use std::alloc::Global;
 
 /// Writes the text of a generated layer, feature by feature. It takes no memory.
 pub fn generate<O: Sink>(kind: Kind, n: u64, shift: u64, out: &mut O) -> Result<(), Stop>
-    ensures { (shelf : Meaning) (k : ℕ) → Follows (gen_course kind n shift) (moment shelf (O.meaning out.old) k) (moment shelf (O.meaning out.new) k) (end_of result) }
+    ensures { (shelf : Meaning) (k : ℕ) → Follows (gen_course kind n shift)
+        (moment shelf (O.meaning out.old) k)
+        (moment shelf (O.meaning out.new) k) (end_of result) }
 {
     match gen_layer(kind, n, shift, out) {
         Ok(()) => Ok(()),

@@ -52,7 +52,9 @@ fn tally_of<I: Locator, L: Ledger>(
     requires fits { I.fits index.now table.now }
     requires legend { FitsTable table.now legend.now }
     requires always { AnswersAll (answer_by 0 (I.finds index.now table.now) unnumbered legend.now) }
-    ensures tally { IfOk result (λ t. t ≡ tally_of_answers no_tally (answered (answer_by 0 (I.finds index.now table.now) unnumbered legend.now) (map (point_line n shift) (numbers n))).answers) }
+    ensures tally { IfOk result (λ t. t ≡ tally_of_answers no_tally
+        (answered (answer_by 0 (I.finds index.now table.now) unnumbered legend.now)
+        (map (point_line n shift) (numbers n))).answers) }
     ensures counted { steps.old ≤ steps.new }
     ensures within { steps.new ≤ steps.old + n * I.most index.now table.now }
 {
@@ -88,7 +90,10 @@ fn try_points<I: Locator, O: Sink, L: Ledger>(
     requires fits { I.fits index.now table.now }
     requires legend { FitsTable table.now legend.now }
     requires always { AnswersAll (answer_by 0 (I.finds index.now table.now) unnumbered legend.now) }
-    ensures { (shelf : Meaning) → Follows (counted_course (I.most index.now table.now) (answer_by 0 (I.finds index.now table.now) unnumbered legend.now) kind n shift table.now nodes) (moment shelf (O.meaning out.old) steps.old) (moment shelf (O.meaning out.new) steps.new) (end_of result) }
+    ensures { (shelf : Meaning) → Follows (counted_course (I.most index.now table.now)
+        (answer_by 0 (I.finds index.now table.now) unnumbered legend.now) kind n shift table.now nodes)
+        (moment shelf (O.meaning out.old) steps.old)
+        (moment shelf (O.meaning out.new) steps.new) (end_of result) }
 {
     let tally = tally_of(alloc, index, table, legend, n, shift, steps)?;
     let corners = table.corner_count();
@@ -110,7 +115,10 @@ fn try_layer<O: Sink, L: Ledger>(
 ) -> Result<(), Stop>
     requires size { n ≤ 131072 }
     requires features { length layer ≤ 131072 }
-    ensures { (shelf : Meaning) → Follows (pieces_course layer (accepted_course 0 layer (tried_course index kind n shift layer))) (moment shelf (O.meaning out.old) steps.old) (moment shelf (O.meaning out.new) steps.new) (end_of result) }
+    ensures { (shelf : Meaning) → Follows (pieces_course layer
+        (accepted_course 0 layer (tried_course index kind n shift layer)))
+        (moment shelf (O.meaning out.old) steps.old)
+        (moment shelf (O.meaning out.new) steps.new) (end_of result) }
 {
     let order = GivenOrder::Shuffled(SHUFFLE);
     let plane = choose(alloc, index, order, layer, None, Scale::new(0))?;
@@ -143,7 +151,9 @@ pub fn trial<O: Sink, L: Ledger>(
     out: &mut O,
     steps: &mut Steps<L>,
 ) -> Result<(), Stop>
-    ensures { (shelf : Meaning) → Follows (trial_course index kind n shift) (moment shelf (O.meaning out.old) steps.old) (moment shelf (O.meaning out.new) steps.new) (end_of result) }
+    ensures { (shelf : Meaning) → Follows (trial_course index kind n shift)
+        (moment shelf (O.meaning out.old) steps.old)
+        (moment shelf (O.meaning out.new) steps.new) (end_of result) }
 {
     let layer = read_back(alloc, kind, n, shift)?;
     try_layer(alloc, index, layer, kind, n, shift, out, steps)

@@ -24,8 +24,11 @@ ghost use Rattle.loc_upgrade.specs.Upgrades.{IsUpgradeOf, Upgraded, Upgrades};
 /// may differ. No file but the new one is made, nothing is written on an output, and no steps are counted. The call does nothing: its contract is
 /// the law.
 pub fn upgrade_law()
-    ensures is_upgrade { (bytes : Text) (c : Content) → AreBytes bytes → IsIndexFile c bytes → IsUpgradeOf bytes (bytes_of 2 c) }
-    ensures upgrades { (old new : Text) (from to : Moment) (n n' : Stream) (status : ℕ) → Ended (upgrade_course old new) from to n n' status → Upgraded old new from.shelf to.shelf status → Upgrades old new from to n n' status }
+    ensures is_upgrade { (bytes : Text) (c : Content) → AreBytes bytes → IsIndexFile c bytes
+        → IsUpgradeOf bytes (bytes_of 2 c) }
+    ensures upgrades { (old new : Text) (from to : Moment) (n n' : Stream) (status : ℕ)
+        → Ended (upgrade_course old new) from to n n' status → Upgraded old new from.shelf to.shelf status
+        → Upgrades old new from to n n' status }
     ensures asked { (bytes made old new points text : Text) (r s : Run) → IsUpgradeOf bytes made → RanWell (ask_course old points) r → RanWell (ask_course new points) s
         → r.old.shelf.told old ≡ holds bytes → s.old.shelf.told new ≡ holds made → r.old.shelf.told points ≡ holds text → s.old.shelf.told points ≡ holds text → GaveSame r s × NotedSame r s }
     ensures judged { (bytes made old new : Text) (r s : Run) (is : IsUpgradeOf bytes made) → RanWell (verify_course old) r → RanWell (verify_course new) s
@@ -38,7 +41,9 @@ pub fn upgrade_law()
 /// What the edges of an index file tell, from the course that was followed and from what was told. The course writes at once, makes no file and
 /// searches nothing. The call does nothing: its contract is the law.
 pub fn edges_law()
-    ensures tells { (index : Text) (old new : Moment) (n n' : Stream) (status : ℕ) → Sentences (edges_course index) old new n n' status → Listed (old.shelf.told index) status → TellsEdges index old new n n' status }
+    ensures tells { (index : Text) (old new : Moment) (n n' : Stream) (status : ℕ)
+        → Sentences (edges_course index) old new n n' status → Listed (old.shelf.told index) status
+        → TellsEdges index old new n n' status }
     ensures plain { (index : Text) → IsPlain (edges_course index) }
     ensures searches_nothing { (index : Text) → SearchesNothing (edges_course index) }
 {}

@@ -55,7 +55,8 @@ fn put_pair<O: Sink>(
 ) -> Result<(), WriteFault>
     requires goes_up { pair.0 < pair.1 }
     requires in_range { pair.1 < length table.now.corners }
-    ensures { PutsText (pair_text scale table.now pair) (O.meaning sink.old) (O.meaning sink.new) page.old page.new result }
+    ensures { PutsText (pair_text scale table.now pair) (O.meaning sink.old) (O.meaning sink.new) page.old page.new
+        result }
 {
     put_position(page, sink, table.corner(pair.0), scale)?;
     page.put(sink, b", ")?;
@@ -71,7 +72,9 @@ fn put_source<O: Sink>(
     scale: Scale,
 ) -> Result<(), WriteFault>
     requires in_range { edge < length table.now.ends }
-    ensures { PutsText (pair_text scale table.now (ends_in table.now edge) ++ (codes " of " ++ (pair_text scale table.now (source_of table.now edge) ++ codes "\n"))) (O.meaning sink.old) (O.meaning sink.new) page.old page.new result }
+    ensures { PutsText (pair_text scale table.now (ends_in table.now edge)
+        ++ (codes " of " ++ (pair_text scale table.now (source_of table.now edge) ++ codes "\n")))
+        (O.meaning sink.old) (O.meaning sink.new) page.old page.new result }
 {
     put_pair(page, sink, table, table.ends(edge), scale)?;
     page.put(sink, b" of ")?;
@@ -88,7 +91,8 @@ fn put_edge<O: Sink>(
     scale: Scale,
 ) -> Result<(), WriteFault>
     requires in_range { edge < length table.now.ends }
-    ensures { PutsText (edge_line scale table.now edge) (O.meaning sink.old) (O.meaning sink.new) page.old page.new result }
+    ensures { PutsText (edge_line scale table.now edge) (O.meaning sink.old) (O.meaning sink.new) page.old page.new
+        result }
 {
     page.put(sink, b"edge ")?;
     page.put_number(sink, edge)?;

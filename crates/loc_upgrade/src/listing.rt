@@ -21,7 +21,9 @@ use std::alloc::Global;
 
 // Writes the lines of the edges of what is held.
 fn write_held_edges<O: Sink>(held: &Held, out: &mut O) -> Result<(), Stop>
-    ensures { (shelf : Meaning) (k : ℕ) → Follows (writes (exactly (edges_text held.now.content))) (moment shelf (O.meaning out.old) k) (moment shelf (O.meaning out.new) k) (end_of result) }
+    ensures { (shelf : Meaning) (k : ℕ) → Follows (writes (exactly (edges_text held.now.content)))
+        (moment shelf (O.meaning out.old) k)
+        (moment shelf (O.meaning out.new) k) (end_of result) }
 {
     match write_edges(held.table(), Scale::new(held.scale()), out) {
         Ok(()) => Ok(()),
@@ -37,7 +39,9 @@ pub fn edges<F: Shelf, O: Sink>(
     shelf: &mut F,
     out: &mut O,
 ) -> Result<(), Stop>
-    ensures follows { (k : ℕ) → Follows (edges_course index_name.now) (moment (F.meaning shelf.old) (O.meaning out.old) k) (moment (F.meaning shelf.new) (O.meaning out.new) k) (end_of result) }
+    ensures follows { (k : ℕ) → Follows (edges_course index_name.now)
+        (moment (F.meaning shelf.old) (O.meaning out.old) k)
+        (moment (F.meaning shelf.new) (O.meaning out.new) k) (end_of result) }
     ensures listed { Listed ((F.meaning shelf.old).told index_name.now) (status_of (end_of result)) }
 {
     let held = read_index_file(alloc, shelf, index_name)?;

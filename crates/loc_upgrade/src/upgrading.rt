@@ -17,7 +17,8 @@ use std::alloc::Global;
 
 // Makes the file of the second version of what is held.
 fn make_upgrade<F: Shelf>(shelf: &mut F, name: &str, held: &Held) -> Result<(), Stop>
-    ensures { MakesFile name.now (bytes_of 2 held.now.content) (F.meaning shelf.old) (F.meaning shelf.new) (end_of result) }
+    ensures { MakesFile name.now (bytes_of 2 held.now.content) (F.meaning shelf.old) (F.meaning shelf.new)
+        (end_of result) }
 {
     match write_held(shelf, name, held) {
         Ok(()) => Ok(()),
@@ -33,8 +34,11 @@ pub fn upgrade<F: Shelf>(
     new_name: &str,
     shelf: &mut F,
 ) -> Result<(), Stop>
-    ensures follows { (o : Stream) (k : ℕ) → Follows (upgrade_course old_name.now new_name.now) (moment (F.meaning shelf.old) o k) (moment (F.meaning shelf.new) o k) (end_of result) }
-    ensures upgraded { Upgraded old_name.now new_name.now (F.meaning shelf.old) (F.meaning shelf.new) (status_of (end_of result)) }
+    ensures follows { (o : Stream) (k : ℕ) → Follows (upgrade_course old_name.now new_name.now)
+        (moment (F.meaning shelf.old) o k)
+        (moment (F.meaning shelf.new) o k) (end_of result) }
+    ensures upgraded { Upgraded old_name.now new_name.now (F.meaning shelf.old) (F.meaning shelf.new)
+        (status_of (end_of result)) }
 {
     let held = read_index_file(alloc, shelf, old_name)?;
     let outcome = make_upgrade(shelf, new_name, &held);

@@ -7,15 +7,3 @@ above_of-requires c = record { in_range = λ e n is. subst (λ k. n < k) (sym (a
 
 pub returns-clause-above : goal.returns-clause-above
 returns-clause-above c = λ e n is. subst (λ k. IsAt (lists_of c.args.store.now) (get_or c.args.store.now.rows n []) k) (sym (c.in_ok-above.ensures.each e n is ∙ ap (λ xs. get_or xs n 0) c.deref.ensures.value)) (c.in_ok-places.ensures.each n (c.requires.in_range e n is))
-
-pub lists-requires : goal.lists-requires
-lists-requires c = record { stands = c.requires.stands }
-
-pub places-requires : goal.places-requires
-places-requires c = record { stands = c.requires.stands }
-
-pub returns-clause-lists : goal.returns-clause-lists
-returns-clause-lists c = c.in_ok-lists.ensures
-
-pub returns-clause-as_many : goal.returns-clause-as_many
-returns-clause-as_many c = c.in_ok-above.ensures.as_many

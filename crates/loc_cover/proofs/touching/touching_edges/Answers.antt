@@ -1,4 +1,4 @@
-use Rattle.std.proofs.Common.{◌==◌, [], sym, subst, arith}
+use Rattle.std.proofs.Common.{◌==◌, [], sym, subst}
 use Rattle.std.specs.Prelude.{nat_lt}
 use Rattle.std.specs.List.{list_any}
 use Rattle.std.proofs.lemmas.Option.{get_or_from_slice_get}
@@ -15,9 +15,3 @@ loop-edge-preserved c =
     let marks = get_or_from_slice_get t.marks c.loop-edge.edge c.marks.result.now [] c.marks.ensures.value in
     let more = row_more (λ e. IsRisingListOf nat_lt (λ f. has t f e)) rows c.push.new.self c.deref.result.now c.loop-edge.edge c.loop-edge.invariant.as_many c.loop-edge.invariant.each (subst (IsRisingListOf nat_lt (λ f. has t f c.loop-edge.edge)) (sym c.deref.ensures.value) (subst (λ ms. IsRisingListOf nat_lt (λ f. list_any (λ (m : Mark). m.feature == f) ms) c.put_features.new.row.items) (sym marks) c.in_ok-put_features.ensures)) c.in_ok-push.ensures in
     record { as_many = more.0; each = more.1 }
-
-pub marks-requires : goal.marks-requires
-marks-requires c = omega (arith, c.loop-edge-test.true, c.edge_count-edge-end.ensures.value)
-
-pub put_features-requires : goal.put_features-requires
-put_features-requires c = record { in_order = c.marks.ensures.in_order }

@@ -6,9 +6,6 @@ use Rattle.loc_edges.proofs.EdgeRows.{IsGrouped, edges_left, grouped_more}
 use Rattle.loc_edges.proofs.grouped.feature_rows.Goals as goal
 use Rattle.loc_edges.proofs.grouped.feature_rows.Goals.{In_ok-extend, then-is_new+in_ok-start, else-is_new}
 
-pub overflow_add-len : goal.overflow_add-len
-overflow_add-len c = omega (arith, c.len.ensures, c.loop-n.invariant.few, c.loop-n-test.true)
-
 pub extend-requires : goal.extend-requires
 extend-requires c = elim c.if-is_new.branch [
   | then-is_new+in_ok-start w ↦ (let one : (w.len.result + 1) - length c.loop-n.rows ≡ 1 = omega (arith, w.len.ensures) in let rows : c.if-is_new.rows ≡ c.loop-n.rows ++ [] ∷ [] = w.rows-is ∙ (w.in_ok-start.ensures ∙ ap (λ k. c.loop-n.rows ++ replicate k []) one) in omega (arith, ap length rows, length-append c.loop-n.rows ([] ∷ [])))
@@ -50,9 +47,3 @@ loop-n-preserved c =
 
 pub returns : goal.returns
 returns c = (let all = take_all c.loop-n.n c.args.tagged.now c.loop-n-test.false in subst (λ ts. IsGrouped ts c.loop-n.rows) all c.loop-n.invariant.grouped) ∙ ap (map (features_of c.args.tagged.now)) (edges_left c.args.tagged.now c.requires.in_order)
-
-pub loop-n-init : goal.loop-n-init
-loop-n-init c = (let none : length c.new-rows.result ≡ 0 = ap length c.new-rows.ensures in record { grouped = c.new-rows.ensures; few = omega (arith, none); some = λ lt. absurd (omega (arith, lt)) })
-
-pub start-requires : goal.start-requires
-start-requires c = omega (arith, c.len.ensures)

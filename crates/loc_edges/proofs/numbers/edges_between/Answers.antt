@@ -1,6 +1,6 @@
 use Rattle.std.proofs.Common.{◌≡◌, ℕ, true, ◌++◌, ◌∷◌, [], List, length, get_or, take, map, sym, ◌∙◌, ap, arith, Vec, Global}
 use Rattle.std.proofs.lemmas.Bool.{both_ways, cond-true}
-use Rattle.std.proofs.lemmas.List.{take_all, take_more, get_or_default, map-append}
+use Rattle.std.proofs.lemmas.List.{take_more, get_or_default, map-append}
 use Rattle.loc_spec_plane.specs.Points.{Point, Edge, before}
 use Rattle.loc_spec_plane.specs.Lists.{is_rising}
 use Rattle.loc_spec_plane.specs.Rings.{segment_between}
@@ -43,15 +43,3 @@ loop-pair-preserved c =
           ∙ sym (ap (map (edge_of_pair corners)) (take_more ends k (0, 0) c.loop-pair-test.true) ∙ map-append (edge_of_pair corners) (take k ends) (pair ∷ [])))))
       | in_default w ↦ absurd (both_ways _ (before-differ a b (in_order corners c.requires.in_order pair goes_up a b c.index-corners-pair.is c.index-corners-pair-in-loop-pair.is)) w.in_default.ensures.one_point)
     ]
-
-pub loop-pair-init : goal.loop-pair-init
-loop-pair-init c = c.in_ok-edges.ensures.items
-
-pub bounds-corners-pair : goal.bounds-corners-pair
-bounds-corners-pair c = (let goes_up = c.requires.go_up c.loop-pair.pair-index (0, 0) c.loop-pair-test.true in omega (arith, goes_up.0, goes_up.1))
-
-pub bounds-corners-pair-in-loop-pair : goal.bounds-corners-pair-in-loop-pair
-bounds-corners-pair-in-loop-pair c = (c.requires.go_up c.loop-pair.pair-index (0, 0) c.loop-pair-test.true).1
-
-pub returns : goal.returns
-returns c = c.loop-pair.invariant ∙ ap (map (edge_of_pair c.args.corners.now)) (take_all c.loop-pair.pair-index c.args.ends.now c.loop-pair-test.false)

@@ -1,5 +1,5 @@
-use Rattle.std.proofs.Common.{◌≡◌, ℕ, ◌+◌, ◌++◌, ◌∷◌, [], List, take, map, sym, ◌∙◌, ap, arith}
-use Rattle.std.proofs.lemmas.List.{map_push, take_all, take_more}
+use Rattle.std.proofs.Common.{◌≡◌, ℕ, ◌+◌, ◌++◌, ◌∷◌, [], List, take, map, sym, ◌∙◌, ap}
+use Rattle.std.proofs.lemmas.List.{map_push, take_more}
 use Rattle.loc_spec_plane.specs.Points.{Edge}
 use Rattle.loc_spec_plane.specs.Tables.{number_of}
 use Rattle.loc_edges.proofs.numbers.numbered_ends.Goals as goal
@@ -22,12 +22,3 @@ loop-edge-preserved c =
           ∙ (sym (map_push numbered (take k edges) edge) ∙ ap (map numbered) (sym more))))),
       c.corner_number_near-lo.ensures.within,
     )
-
-pub loop-edge-init : goal.loop-edge-init
-loop-edge-init c = (c.in_ok-ends.ensures.items, omega arith)
-
-pub corner_number_near-lo-requires-clause-near_few : goal.corner_number_near-lo-requires-clause-near_few
-corner_number_near-lo-requires-clause-near_few c = c.loop-edge.invariant.1
-
-pub returns : goal.returns
-returns c = c.loop-edge.invariant.0 ∙ ap (map (λ (e : Edge). (number_of c.args.corners.now e.lo, number_of c.args.corners.now e.hi))) (take_all c.loop-edge.edge-index c.args.edges.now c.loop-edge-test.false)

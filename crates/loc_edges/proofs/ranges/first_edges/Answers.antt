@@ -1,6 +1,6 @@
-use Rattle.std.proofs.Common.{◌≡◌, ◌+◌, ◌-◌, ◌<◌, ◌++◌, length, take, replicate, ap, sym, subst, ◌∙◌, arith}
+use Rattle.std.proofs.Common.{◌≡◌, ◌+◌, ◌-◌, ◌<◌, ◌++◌, length, take, replicate, ap, ◌∙◌, arith}
 use Rattle.std.specs.Vec.{vec_len}
-use Rattle.loc_edges.proofs.Firsts.{AreCounted, none_counted, counted_more, counted_all}
+use Rattle.loc_edges.proofs.Firsts.{counted_more, counted_all}
 use Rattle.loc_edges.proofs.ranges.first_edges.Goals as goal
 
 pub loop-n-preserved : goal.loop-n-preserved
@@ -8,18 +8,3 @@ loop-n-preserved c = let fits : c.loop-n.n < length c.args.ends.now = omega arit
 
 pub returns : goal.returns
 returns c = let all : length c.args.ends.now ≡ c.loop-n.n = omega arith in counted_all c.args.ends.now c.args.corners c.loop-n.n c.loop-n.firsts.items (vec_len c.loop-n.firsts) (omega arith) c.loop-n.invariant c.resize-2.new.self.items (omega arith) (c.in_ok-resize-2.ensures.items ∙ ap (λ n. take (c.args.corners + 1) c.loop-n.firsts.items ++ replicate (c.args.corners + 1 - vec_len c.loop-n.firsts) n) all)
-
-pub overflow_add-corners : goal.overflow_add-corners
-overflow_add-corners c = omega (arith, c.ranges.corners.fits)
-
-pub loop-n-init : goal.loop-n-init
-loop-n-init c = subst (AreCounted c.args.ends.now c.args.corners 0) (sym c.in_ok-firsts.ensures.items) (none_counted c.args.ends.now c.args.corners)
-
-pub overflow_add-pair : goal.overflow_add-pair
-overflow_add-pair c = omega (arith, c.requires.in_range c.loop-n.n c.loop-n-test.true, c.ranges.corners.fits)
-
-pub overflow_cast-n : goal.overflow_cast-n
-overflow_cast-n c = omega (arith, c.loop-n-test.true, c.requires.few)
-
-pub overflow_cast-ends : goal.overflow_cast-ends
-overflow_cast-ends c = omega (arith, c.requires.few)

@@ -1,7 +1,7 @@
 use Rattle.loc_spec_text.specs.Reading.{all_rings}
 use Rattle.std.proofs.Common.{◌≡◌, ◌+◌, List, [], ◌∷◌, ◌++◌, take, get_or, sym, ◌∙◌, ap, subst, inl, inr, arith}
 use Rattle.std.proofs.lemmas.Bool.{cases_lt}
-use Rattle.std.proofs.lemmas.List.{append-nil, append_assoc, map-append, take_all, take_more, flat_map_more}
+use Rattle.std.proofs.lemmas.List.{append_assoc, map-append, take_more, flat_map_more}
 use Rattle.std.proofs.lemmas.Option.{get_or_from_slice_get, slice_get_within}
 use Rattle.loc_rings.specs.Values.{IsRing}
 use Rattle.loc_spec_plane.specs.Rings.{Ring, ring_segments, segments}
@@ -24,15 +24,3 @@ loop-n-preserved c =
         | inr not_before ↦ (let same : k ≡ c.loop-n.n = omega arith in subst IsRing (sym (ap (λ n. get_or rings n d) same ∙ get_or_from_slice_get rings c.loop-n.n ring d c.ring.ensures.value)) c.ring.ensures.closed)
       ]),
     )
-
-pub loop-n-init : goal.loop-n-init
-loop-n-init c = (sym (append-nil c.args.tagged.now.items), λ k d lt. absurd (omega (arith, lt)))
-
-pub ring-requires : goal.ring-requires
-ring-requires c = omega (arith, c.loop-n-test.true, c.len-n-end.ensures)
-
-pub returns-clause-added : goal.returns-clause-added
-returns-clause-added c = c.loop-n.invariant.0 ∙ ap (λ rings. c.args.tagged.now.items ++ tagged_by c.args.feature (segments rings)) (take_all c.loop-n.n (all_rings c.args.rings.now) (omega (arith, c.loop-n-test.false, c.len-n-end.ensures)))
-
-pub returns-clause-closed : goal.returns-clause-closed
-returns-clause-closed c = λ k d lt. c.loop-n.invariant.1 k d (omega (arith, lt, c.loop-n-test.false, c.len-n-end.ensures))

@@ -1,6 +1,6 @@
 use Rattle.std.proofs.Common.{◌≡◌, ◌+◌, ◌++◌, [], ◌∷◌, length, take, sym, ◌∙◌, ap, subst, arith}
 use Rattle.std.specs.Prelude.{All}
-use Rattle.std.proofs.lemmas.List.{length-map, length-take-le, map_more, take_all}
+use Rattle.std.proofs.lemmas.List.{length-map, length-take-le, map_more}
 use Rattle.std.proofs.lemmas.List.Elements.{All-push}
 use Rattle.loc_spec_plane.specs.Rings.{segments}
 use Rattle.loc_spec_text.specs.Reading.{all_rings}
@@ -25,12 +25,3 @@ loop-n-preserved c =
           ∙ (ap (λ k. tagged_from 0 before ++ tagged_by k (segments (rings_of feature))) (sym count)
           ∙ (sym (tagged_more 0 before (rings_of feature)) ∙ ap (tagged_from 0) (sym more))))),
     )
-
-pub loop-n-init : goal.loop-n-init
-loop-n-init c = (λ k d lt. absurd (omega (arith, lt)), c.new-tagged.ensures.items)
-
-pub returns-clause-value : goal.returns-clause-value
-returns-clause-value c = c.loop-n.invariant.1 ∙ ap (λ features. tagged_from 0 (layer_rings features)) (take_all c.loop-n.n c.args.features.now c.loop-n-test.false)
-
-pub returns-clause-closed : goal.returns-clause-closed
-returns-clause-closed c = subst (λ features. All (All IsRing) (layer_rings features)) (take_all c.loop-n.n c.args.features.now c.loop-n-test.false) c.loop-n.invariant.0

@@ -1,6 +1,6 @@
-use Rattle.std.proofs.Common.{◌≡◌, ℕ, ◌+◌, ◌++◌, ◌∷◌, [], List, length, length-append, set, refl, sym, ◌∙◌, ap, subst, arith}
+use Rattle.std.proofs.Common.{◌≡◌, ℕ, ◌+◌, ◌++◌, ◌∷◌, [], List, length, length-append, set, sym, ◌∙◌, ap, subst, arith}
 use Rattle.loc_faces.specs.Cycles.{AreNumbered}
-use Rattle.loc_faces.proofs.Numbering.{number_more, number_passed, listed_few, zeros_within}
+use Rattle.loc_faces.proofs.Numbering.{number_more, number_passed, listed_few}
 use Rattle.loc_faces.proofs.cycles.number_outer.Goals as goal
 use Rattle.loc_faces.proofs.cycles.number_outer.Goals.{then-leads_outer+in_ok-push, else-leads_outer}
 
@@ -25,23 +25,3 @@ loop-h-preserved c = elim c.if-leads_outer.branch [
 
 pub returns : goal.returns
 returns c = subst (AreNumbered c.args.table.now c.args.half.now c.loop-h.outers.items c.loop-h.of_cycle.items) (omega arith) c.loop-h.invariant
-
-pub leads_outer-requires-clause-half : goal.leads_outer-requires-clause-half
-leads_outer-requires-clause-half c = c.requires.half
-
-pub leads_outer-requires-clause-hanging : goal.leads_outer-requires-clause-hanging
-leads_outer-requires-clause-hanging c = c.requires.hanging
-
-pub leads_outer-requires-clause-in_range : goal.leads_outer-requires-clause-in_range
-leads_outer-requires-clause-in_range c = omega (arith, c.loop-h-test.true, c.edge_count-count.ensures.value)
-
-pub index_mut-requires : goal.index_mut-requires
-index_mut-requires c = omega (arith, c.loop-h-test.true, c.edge_count-count.ensures.value, c.loop-h.invariant.as_many, c.loop-h.of_cycle.ok.0)
-
-pub loop-h-init : goal.loop-h-init
-loop-h-init c = record {
-  as_many = omega (arith, c.in_ok-resize.ensures.len, c.resize.new.self.ok.0, c.edge_count-count.ensures.value);
-  listed = c.new-outers.ensures.items;
-  numbered = λ h less leads. absurd (omega (arith, less));
-  within = zeros_within c.resize.new.self.items c.edge_count-count.result (length c.new-outers.result.items) (omega (arith, c.in_ok-resize.ensures.len, c.resize.new.self.ok.0, c.edge_count-count.ensures.value)) (λ h lt. c.in_ok-resize.ensures.by_index.1 h 0 refl (omega (arith, c.new-of_cycle.ensures.len)) (omega (arith, lt)));
-}

@@ -1,4 +1,4 @@
-use Rattle.std.proofs.Common.{[], ◌∷◌, ◌++◌, sym, append_assoc}
+use Rattle.std.proofs.Common.{[], ◌∷◌, sym, append_assoc}
 use Rattle.std.proofs.lemmas.Result.{err_from_is_err_and}
 use Rattle.loc_half.specs.HalfEdgeLists.{next_in}
 use Rattle.loc_faces.specs.FaceTexts.{cycle_text}

@@ -4,11 +4,8 @@ use Rattle.loc_spec_index.specs.IndexFile.{cover_row}
 use Rattle.loc_file.proofs.Steps.{handed, unheld, stop-along, row-along}
 use Rattle.std.specs.List.{last_or}
 use Rattle.std.proofs.lemmas.List.{map-append}
-use Rattle.loc_file.proofs.CoverRows.{covers-none, covers-more, covers-stop, covers-all}
+use Rattle.loc_file.proofs.CoverRows.{covers-more, covers-stop}
 use Rattle.loc_file.proofs.covers.read_covers.Goals as goal
-
-pub loop-row-init : goal.loop-row-init
-loop-row-init c = covers-none c.args.features _ _ (ap (map (λ v. v.items)) c.new-lists.ensures.items)
 
 pub returns-in_err-list-clause-err : goal.returns-in_err-list-clause-err
 returns-in_err-list-clause-err c =
@@ -23,6 +20,3 @@ loop-row-preserved c =
     covers-more c.args.features _ _ _ _ _ _ (omega (arith, c.in_ok-list.list.ok.0, c.len.ensures)) c.loop-row.invariant
     (row-along (λ last. cover_row c.args.features c.loop-row.members c.loop-row.row last c.in_ok-list.list.items) (ap (λ ls. last_or None (map (λ v. v.items) ls)) c.as_slice.ensures.value) c.in_ok-list.ensures.ok)
     c.in_ok-list.ensures.few (ap (map (λ v. v.items)) c.in_ok-keep.ensures.ok ∙ map-append _ _ _)
-
-pub returns-clause-ok : goal.returns-clause-ok
-returns-clause-ok c = covers-all c.args.features _ _ _ _ c.loop-row.invariant (omega arith)

@@ -1,17 +1,14 @@
-use Rattle.std.proofs.Common.{rules, ap, ◌∙◌, arith}
+use Rattle.std.proofs.Common.{ap, ◌∙◌}
 use Rattle.std.specs.Prelude.{None}
 use Rattle.std.specs.Int.{w32}
 use Rattle.loc_spec_index.specs.IndexFile.{number}
 use Rattle.loc_file.specs.Readings.{stop, one}
 use Rattle.loc_file.proofs.Steps.{handed, unheld, fault-first}
-use Rattle.loc_file.proofs.Loops.{alone-more, alone-stop, alone-all, alone-none}
+use Rattle.loc_file.proofs.Loops.{alone-more, alone-stop}
 use Rattle.std.specs.List.{last_or}
 use Rattle.loc_laws_index.proofs.RightRows.{last-is}
 use Rattle.loc_file.proofs.Orders.{rising-more}
 use Rattle.loc_file.proofs.covers.read_members.Goals as goal
-
-pub loop-row-init : goal.loop-row-init
-loop-row-init c = record { rows = alone-none (one (number w32 c.args.features)) _ _ c.new-members.ensures.items; last_is = search rules; rising = search rules }
 
 pub returns-in_err-member-clause-err : goal.returns-in_err-member-clause-err
 returns-in_err-member-clause-err c = handed c.from_residual.result _ _ c.from_residual.ensures.1 (alone-stop (one (number w32 c.args.features)) _ _ _ c.loop-row.invariant.rows c.loop-row-test.true (stop 0 _ tt (fault-first _ _ (c.in_err-member.ensures.err 0))))
@@ -25,6 +22,3 @@ loop-row-preserved c = record {
   last_is = ap (last_or None) c.in_ok-keep.ensures.ok ∙ last-is None c.loop-row.members.items c.in_ok-member.member;
   rising = rising-more c.in_ok-member.member c.loop-row.members.items _ _ _ _ c.loop-row.invariant.last_is c.loop-row.invariant.rising c.is_still-rises.ensures c.in_ok-keep.ensures.ok;
 }
-
-pub returns-clause-ok : goal.returns-clause-ok
-returns-clause-ok c = alone-all (one (number w32 c.args.features)) _ _ _ c.loop-row.invariant.rows (omega arith)

@@ -4,7 +4,6 @@ use Rattle.std.proofs.lemmas.Bool.{ne_eqb}
 use Rattle.loc_spec_index.specs.declared.IndexFault.{IndexFault}
 use Rattle.loc_spec_index.specs.IndexFile.{source_fields}
 use Rattle.loc_file.specs.Readings.{Left, IsRead, IsFaultIn, IsRowStop, stop, no_memory, two}
-use Rattle.loc_file.proofs.Steps.{read-none}
 use Rattle.loc_file.proofs.edges.next_source.Goals as goal
 
 -- the version names sources
@@ -27,12 +26,6 @@ named-ok v corners a b (Err f) other read = tt
 named-err : (v corners : ℕ) (a : Left) (r : Result (ℕ × ℕ) IndexFault) → (v ≡ 1 → ⊥) → IfErr r (IsRowStop (two corners corners) a) → IfErr r (IsRowStop (source_fields v corners) a)
 named-err v corners a (Ok source) other wrong = tt
 named-err v corners a (Err f) other wrong = named-stop v corners a f other wrong
-
-pub returns-then-version-eq1-clause-ok : goal.returns-then-version-eq1-clause-ok
-returns-then-version-eq1-clause-ok c = subst (λ v. IsRead (source_fields v c.args.corners c.args.ends) c.args.cursor.now c.args.cursor.now) (sym c.if-version-eq1.true) (read-none c.args.cursor.now)
-
-pub returns-else-version-eq1-clause-ok : goal.returns-else-version-eq1-clause-ok
-returns-else-version-eq1-clause-ok c = named-ok c.args.version c.args.corners _ _ c.two_numbers.result c.if-version-eq1.false c.two_numbers.ensures.ok
 
 pub returns-else-version-eq1-clause-err : goal.returns-else-version-eq1-clause-err
 returns-else-version-eq1-clause-err c = named-err c.args.version c.args.corners _ c.two_numbers.result c.if-version-eq1.false c.two_numbers.ensures.err

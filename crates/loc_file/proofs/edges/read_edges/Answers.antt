@@ -1,11 +1,7 @@
-use Rattle.std.proofs.Common.{arith}
 use Rattle.loc_file.specs.Told.{told_row}
 use Rattle.loc_file.proofs.Steps.{handed, unheld}
-use Rattle.loc_file.proofs.Loops.{kept-more, kept-stop, kept-all, kept-none}
+use Rattle.loc_file.proofs.Loops.{kept-more, kept-stop}
 use Rattle.loc_file.proofs.edges.read_edges.Goals as goal
-
-pub loop-row-init : goal.loop-row-init
-loop-row-init c = kept-none (told_row c.args.version c.args.corners c.args.covers) _ _ c.new-edges.ensures.items
 
 pub returns-in_err-edge-clause-err : goal.returns-in_err-edge-clause-err
 returns-in_err-edge-clause-err c = handed c.from_residual.result _ _ c.from_residual.ensures.1 (kept-stop (told_row c.args.version c.args.corners c.args.covers) _ _ _ _ c.loop-row.invariant c.loop-row-test.true c.in_err-edge.ensures.err)
@@ -15,6 +11,3 @@ returns-in_err-keep-clause-err c = unheld _ _ _ c.from_residual-in_err-keep.resu
 
 pub loop-row-preserved : goal.loop-row-preserved
 loop-row-preserved c = kept-more (told_row c.args.version c.args.corners c.args.covers) _ _ _ _ _ c.loop-row.invariant c.in_ok-edge.ensures.ok c.in_ok-keep.ensures.ok
-
-pub returns-clause-ok : goal.returns-clause-ok
-returns-clause-ok c = kept-all (told_row c.args.version c.args.corners c.args.covers) _ _ _ _ c.loop-row.invariant (omega arith)

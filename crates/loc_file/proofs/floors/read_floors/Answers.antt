@@ -1,12 +1,8 @@
-use Rattle.std.proofs.Common.{arith}
 use Rattle.loc_spec_index.specs.IndexFile.{floor_field}
 use Rattle.loc_file.specs.Readings.{one}
 use Rattle.loc_file.proofs.Steps.{handed, unheld}
-use Rattle.loc_file.proofs.Loops.{alone-more, alone-stop, alone-all, alone-none}
+use Rattle.loc_file.proofs.Loops.{alone-more, alone-stop}
 use Rattle.loc_file.proofs.floors.read_floors.Goals as goal
-
-pub loop-row-init : goal.loop-row-init
-loop-row-init c = alone-none (one (floor_field c.args.edges)) _ _ (c.new-floors.ensures.items)
 
 pub returns-in_err-floor-clause-err : goal.returns-in_err-floor-clause-err
 returns-in_err-floor-clause-err c = handed c.from_residual.result _ _ c.from_residual.ensures.1 (alone-stop (one (floor_field c.args.edges)) _ _ _ c.loop-row.invariant c.loop-row-test.true (c.in_err-floor.ensures.err))
@@ -16,6 +12,3 @@ returns-in_err-keep-clause-err c = unheld _ _ _ c.from_residual-in_err-keep.resu
 
 pub loop-row-preserved : goal.loop-row-preserved
 loop-row-preserved c = alone-more (one (floor_field c.args.edges)) _ _ _ _ c.loop-row.invariant c.in_ok-floor.ensures.ok (c.in_ok-keep.ensures.ok)
-
-pub returns-clause-ok : goal.returns-clause-ok
-returns-clause-ok c = alone-all (one (floor_field c.args.edges)) _ _ _ c.loop-row.invariant (omega arith)

@@ -4,7 +4,7 @@ use Rattle.loc_spec_index.specs.IndexFile.{IsFileOf}
 use Rattle.loc_file.specs.Keeping.{FileOf}
 use Rattle.loc_file.specs.Refused.{IsRefused, unheld}
 use Rattle.loc_file.proofs.Steps.{handed}
-use Rattle.loc_file.proofs.Refusals.{refused, refused-long, file-front, file-whole}
+use Rattle.loc_file.proofs.Refusals.{refused, refused-long, file-whole}
 use Rattle.loc_file.proofs.held.read_index.Goals as goal
 
 pub returns-in_err-parts-clause-err : goal.returns-in_err-parts-clause-err
@@ -14,9 +14,6 @@ pub returns-then-rest-gt-MOST_LEFT-clause-err : goal.returns-then-rest-gt-MOST_L
 returns-then-rest-gt-MOST_LEFT-clause-err c =
     subst (λ n. IsRefused c.args.bytes.now (fault.Long n)) (sym c.len-rest.ensures)
     (refused-long c.args.bytes.now c.new-cursor.result c.new-cursor.ensures.rest c.new-cursor.ensures.offset c.in_ok-parts.parts.version _ _ c.in_ok-parts.ensures.shaped c.in_ok-parts.ensures.ok (omega (arith, c.len-rest.ensures, c.if-rest-gt-MOST_LEFT.true)))
-
-pub hold-requires : goal.hold-requires
-hold-requires c = file-front c.args.bytes.now c.new-cursor.result c.new-cursor.ensures.rest c.new-cursor.ensures.offset c.in_ok-parts.parts.version _ _ c.in_ok-parts.ensures.shaped c.in_ok-parts.ensures.ok
 
 pub returns-in-Ok-clause-ok : goal.returns-in-Ok-clause-ok
 returns-in-Ok-clause-ok c =

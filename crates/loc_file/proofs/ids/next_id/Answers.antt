@@ -1,7 +1,7 @@
 use Rattle.std.proofs.Common.{[]}
 use Rattle.loc_file.specs.Readings.{stop, no_memory}
 use Rattle.loc_file.proofs.Steps.{handed, fault-first}
-use Rattle.loc_file.proofs.Texts.{at_id, id-read}
+use Rattle.loc_file.proofs.Texts.{at_id}
 use Rattle.loc_file.proofs.ids.next_id.Goals as goal
 
 pub returns-in_err-count-clause-err : goal.returns-in_err-count-clause-err
@@ -12,6 +12,3 @@ returns-in_err-bytes-clause-err c = handed c.from_residual-in_err-bytes.result _
 
 pub returns-in-Err-clause-err : goal.returns-in-Err-clause-err
 returns-in-Err-clause-err c = no_memory
-
-pub returns-in-Ok-clause-ok : goal.returns-in-Ok-clause-ok
-returns-in-Ok-clause-ok c = id-read c.in-Ok.id.items c.in_ok-bytes.bytes.now c.in_ok-count.count c.in-Ok.ensures.items c.in_ok-bytes.ensures.as_many c.in_ok-count.ensures.ok c.in_ok-bytes.ensures.ok

@@ -1,12 +1,9 @@
-use Rattle.std.proofs.Common.{map, ap, ◌∙◌, arith}
+use Rattle.std.proofs.Common.{map, ap, ◌∙◌}
 use Rattle.loc_spec_index.specs.IndexFile.{id_fields}
 use Rattle.loc_file.proofs.Steps.{handed, unheld}
 use Rattle.std.proofs.lemmas.List.{map-append}
-use Rattle.loc_file.proofs.Loops.{alone-more, alone-stop, alone-all, alone-none}
+use Rattle.loc_file.proofs.Loops.{alone-more, alone-stop}
 use Rattle.loc_file.proofs.ids.read_ids.Goals as goal
-
-pub loop-row-init : goal.loop-row-init
-loop-row-init c = alone-none (id_fields) _ _ (ap (map (λ v. v.items)) c.new-ids.ensures.items)
 
 pub returns-in_err-id-clause-err : goal.returns-in_err-id-clause-err
 returns-in_err-id-clause-err c = handed c.from_residual.result _ _ c.from_residual.ensures.1 (alone-stop (id_fields) _ _ _ c.loop-row.invariant c.loop-row-test.true (c.in_err-id.ensures.err))
@@ -16,6 +13,3 @@ returns-in_err-keep-clause-err c = unheld _ _ _ c.from_residual-in_err-keep.resu
 
 pub loop-row-preserved : goal.loop-row-preserved
 loop-row-preserved c = alone-more (id_fields) _ _ _ _ c.loop-row.invariant c.in_ok-id.ensures.ok (ap (map (λ v. v.items)) c.in_ok-keep.ensures.ok ∙ map-append _ _ _)
-
-pub returns-clause-ok : goal.returns-clause-ok
-returns-clause-ok c = alone-all (id_fields) _ _ _ c.loop-row.invariant (omega arith)

@@ -2,7 +2,7 @@ use Rattle.std.proofs.Common.{[], false, refl}
 use Rattle.loc_spec_index.specs.declared.Part.TheVariants.{Marks}
 use Rattle.loc_spec_index.specs.IndexFile.{mark_row, order}
 use Rattle.loc_file.specs.Readings.{stop, two}
-use Rattle.loc_file.proofs.Steps.{handed, stop-within, wrong-along, read-along, read-none, read-append, read-next, fault-behind, fault-first, fault-next}
+use Rattle.loc_file.proofs.Steps.{handed, stop-within, wrong-along, read-none, fault-behind, fault-first, fault-next}
 use Rattle.loc_file.proofs.marks.next_mark.Goals as goal
 
 pub returns-in_err-edge-clause-err : goal.returns-in_err-edge-clause-err
@@ -22,8 +22,3 @@ returns-in_err-in_order-clause-err c =
     (stop (c.in_ok-edge.edge, record { feature = c.in_ok-edge.feature; odd = c.in_ok-odd.odd }) _ tt
     (fault-behind (two c.args.edges c.args.features (c.in_ok-edge.edge, c.in_ok-edge.feature)) _ c.in_ok-edge.ensures.ok
     (fault-next _ _ c.in_ok-odd.ensures.ok (fault-first _ _ (wrong-along (order Marks c.args.row) c.follows.ensures c.in_err-in_order.ensures.err)))))
-
-pub returns-clause-ok : goal.returns-clause-ok
-returns-clause-ok c =
-    read-append (two c.args.edges c.args.features (c.in_ok-edge.edge, c.in_ok-edge.feature)) _ c.in_ok-edge.ensures.ok
-    (read-next _ _ c.in_ok-odd.ensures.ok (read-along (order Marks c.args.row) c.follows.ensures c.in_ok-in_order.ensures.ok))

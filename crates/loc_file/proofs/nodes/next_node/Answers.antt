@@ -3,7 +3,7 @@ use Rattle.std.specs.Int.{w8}
 use Rattle.loc_spec_index.specs.declared.IndexFault.{IndexFault}
 use Rattle.loc_spec_index.specs.IndexFile.{number, node_fields}
 use Rattle.loc_file.specs.Readings.{Left, IsRead, IsRowStop, stop, two, three}
-use Rattle.loc_file.proofs.Steps.{handed, stop-within, row-along, stop-along, read-none, read-append, read-next, fault-first, fault-behind}
+use Rattle.loc_file.proofs.Steps.{handed, stop-within, row-along, stop-along, read-none, read-append, fault-first, fault-behind}
 use Rattle.loc_file.proofs.nodes.next_node.Goals as goal
 
 pub returns-in_err-item-clause-err : goal.returns-in_err-item-clause-err
@@ -31,8 +31,3 @@ returns-in_err-stamp-clause-err c =
     (λ ns. record { item = c.in_ok-item.item; left = c.in_ok-item.left; right = c.in_ok-item.right; side = c.in_ok-side.side; stamp = ns.0; extra = ns.1 }) (λ ns. []) (λ ns. refl)
     (read-append (three c.args.edges (c.args.nodes + 1) (c.args.nodes + 1) (c.in_ok-item.item, c.in_ok-item.left, c.in_ok-item.right)) _ c.in_ok-item.ensures.ok c.in_ok-side.ensures.ok)
     (two-stop _ _ _ _ c.bound_at.ensures c.bound_at-2.ensures c.in_err-stamp.ensures.err))
-
-pub returns-clause-ok : goal.returns-clause-ok
-returns-clause-ok c =
-    read-append (three c.args.edges (c.args.nodes + 1) (c.args.nodes + 1) (c.in_ok-item.item, c.in_ok-item.left, c.in_ok-item.right)) _ c.in_ok-item.ensures.ok
-    (read-next _ _ c.in_ok-side.ensures.ok (two-read _ _ _ _ (c.in_ok-stamp.stamp, c.in_ok-stamp.extra) c.bound_at.ensures c.bound_at-2.ensures c.in_ok-stamp.ensures.ok))

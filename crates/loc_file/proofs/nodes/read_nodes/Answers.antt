@@ -1,11 +1,7 @@
-use Rattle.std.proofs.Common.{arith}
 use Rattle.loc_spec_index.specs.IndexFile.{node_fields}
 use Rattle.loc_file.proofs.Steps.{handed, unheld}
-use Rattle.loc_file.proofs.Loops.{alone-more, alone-stop, alone-all, alone-none}
+use Rattle.loc_file.proofs.Loops.{alone-more, alone-stop}
 use Rattle.loc_file.proofs.nodes.read_nodes.Goals as goal
-
-pub loop-row-init : goal.loop-row-init
-loop-row-init c = alone-none (node_fields c.args.edges c.args.corners c.args.count) _ _ (c.new-nodes.ensures.items)
 
 pub returns-in_err-node-clause-err : goal.returns-in_err-node-clause-err
 returns-in_err-node-clause-err c = handed c.from_residual.result _ _ c.from_residual.ensures.1 (alone-stop (node_fields c.args.edges c.args.corners c.args.count) _ _ _ c.loop-row.invariant c.loop-row-test.true (c.in_err-node.ensures.err))
@@ -15,6 +11,3 @@ returns-in_err-keep-clause-err c = unheld _ _ _ c.from_residual-in_err-keep.resu
 
 pub loop-row-preserved : goal.loop-row-preserved
 loop-row-preserved c = alone-more (node_fields c.args.edges c.args.corners c.args.count) _ _ _ _ c.loop-row.invariant c.in_ok-node.ensures.ok (c.in_ok-keep.ensures.ok)
-
-pub returns-clause-ok : goal.returns-clause-ok
-returns-clause-ok c = alone-all (node_fields c.args.edges c.args.corners c.args.count) _ _ _ c.loop-row.invariant (omega arith)

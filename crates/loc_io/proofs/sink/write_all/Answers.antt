@@ -28,15 +28,14 @@ pub returns-in_err-n : goal.returns-in_err-n
 returns-in_err-n g c =
     let m = g.O.Sink.meaning in
     let before = c.loop-rest.invariant in
-    let fault = c.in_err-n.ensures in
     let p = err_from_is_err_and c.from_residual.result c.from_residual.ensures.1 in
     rw (p.1, p.2) (record {
       ok = tt;
-      err = (before.wrote.front, c.loop-rest.rest.now, before.wrote.split, Appends-kept _ _ _ _ before.wrote.bytes fault.bytes);
+      err = (before.wrote.front, c.loop-rest.rest.now, before.wrote.split, Appends-kept _ _ _ _ before.wrote.bytes c.in_err-n.ensures.bytes);
       cause = record {
-        later = subst (λ n. n ≤ (m c.write.new.self).faults) before.steady fault.cause.later;
-        failed = subst (λ n. Rose n (m c.write.new.self).faults) before.steady fault.cause.failed;
+        later = subst (λ n. n ≤ (m c.write.new.self).faults) before.steady c.in_err-n.ensures.cause.later;
+        failed = subst (λ n. Rose n (m c.write.new.self).faults) before.steady c.in_err-n.ensures.cause.failed;
         steady = tt;
       };
-      in_time = in_time_after (m c.args.sink.now) (m c.loop-rest.sink) (m c.write.new.self) before.in_time before.steady (in_time_by (m c.loop-rest.sink) (m c.write.new.self) fault.late);
+      in_time = in_time_after (m c.args.sink.now) (m c.loop-rest.sink) (m c.write.new.self) before.in_time before.steady (in_time_by (m c.loop-rest.sink) (m c.write.new.self) c.write.ensures.late);
     })

@@ -1,4 +1,4 @@
-use Rattle.std.proofs.Common.{ℕ, ◌≤◌, take}
+use Rattle.std.proofs.Common.{◌≤◌, take}
 use Rattle.std.specs.Prelude.{count_by}
 use Rattle.loc_spec_plane.specs.Points.{Edge, same_edge}
 use Rattle.loc_edges.specs.Tagged.{segments_in}

@@ -1,5 +1,4 @@
 -- The near nephew rises twice.
-use Rattle.std.proofs.Common.{ap, length, length-append, ◌∷◌, [], arith}
 use Rattle.loc_rb.proofs.OneChange.{has-row}
 use Rattle.loc_rb.proofs.ReadCalls.{colour-is}
 use Rattle.loc_rb.proofs.Balanced.{red-shape}
@@ -25,15 +24,3 @@ returns-clause-tree g c L s t =
 
 pub returns-clause-within : goal.returns-clause-within
 returns-clause-within g c = within-trans 0 3 0 3 _ _ _ c.rotate.ensures.within c.rotate-2.ensures.within
-
-pub rotate-requires-clause-room : goal.rotate-requires-clause-room
-rotate-requires-clause-room g c = omega (arith, c.requires.room)
-
-pub rotate-requires-clause-short : goal.rotate-requires-clause-short
-rotate-requires-clause-short g c = omega (arith, c.requires.short, ap length c.push.ensures, length-append c.args.path.now.items ((c.args.fork.at, c.other_side.result) ∷ []), ap length c.push-2.ensures, length-append c.push.new.path.items ((c.args.fork.sibling, c.args.fork.turn) ∷ []))
-
-pub rotate-requires-2-clause-room : goal.rotate-requires-2-clause-room
-rotate-requires-2-clause-room g c = omega (arith, c.requires.room, c.rotate.ensures.within.spare)
-
-pub rotate-requires-2-clause-short : goal.rotate-requires-2-clause-short
-rotate-requires-2-clause-short g c = omega (arith, c.requires.short, c.rotate.ensures.length, ap length c.push.ensures, length-append c.args.path.now.items ((c.args.fork.at, c.other_side.result) ∷ []), ap length c.push-2.ensures, length-append c.push.new.path.items ((c.args.fork.sibling, c.args.fork.turn) ∷ []))

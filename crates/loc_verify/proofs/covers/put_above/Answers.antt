@@ -1,7 +1,7 @@
 use Rattle.std.proofs.Common.{◌∙◌, List, [], sym, ap, subst}
 use Rattle.std.specs.Prelude.{nat_lt}
 use Rattle.std.proofs.lemmas.Option.{get_or_from_slice_get}
-use Rattle.std.proofs.lemmas.Result.{on_ok_weaker, IfOk-from_err}
+use Rattle.std.proofs.lemmas.Result.{on_ok_weaker}
 use Rattle.loc_spec_plane.specs.declared.Mark.{Mark}
 use Rattle.loc_spec_plane.specs.Lists.{exactly_one, is_in, is_rising, IsRisingListOf}
 use Rattle.loc_spec_plane.specs.Covers.{cover_of_floor}
@@ -27,21 +27,3 @@ returns c =
     (λ made. list_is t c.law.ensures.in_order c.requires.even.all_ends c.requires.even.all_even c.requires.even.apart c.args.edge c.requires.in_range c.args.below c.exchange_odd.new.list.items c.requires.just_below
     (subst (λ (ms : List Mark). IsRisingListOf nat_lt (λ f. exactly_one (is_marked_odd ms f) (is_in f (cover_of_floor t c.args.below))) c.exchange_odd.new.list.items) (sym marks) (subst (λ xs. IsRisingListOf nat_lt (λ f. exactly_one (is_marked_odd c.marks.result.now f) (is_in f xs)) c.exchange_odd.new.list.items) c.in_ok-put_under.ensures made)))
     c.exchange_odd.ensures
-
-pub ends-requires : goal.ends-requires
-ends-requires c = c.requires.in_range
-
-pub put_under-requires-clause-as_many : goal.put_under-requires-clause-as_many
-put_under-requires-clause-as_many c = c.requires.as_many
-
-pub put_under-requires-clause-earlier : goal.put_under-requires-clause-earlier
-put_under-requires-clause-earlier c = rw c.ends.ensures.lower c.requires.earlier
-
-pub put_under-requires-clause-there : goal.put_under-requires-clause-there
-put_under-requires-clause-there c = rw c.ends.ensures.lower c.requires.there
-
-pub returns-in_err-put_under : goal.returns-in_err-put_under
-returns-in_err-put_under c = IfOk-from_err _ _ c.from_residual.ensures.0
-
-pub marks-requires : goal.marks-requires
-marks-requires c = c.requires.in_range

@@ -1,11 +1,9 @@
 use Rattle.std.proofs.Common.{◌≡◌, ◌∙◌, length, ap, sym, subst}
 use Rattle.std.specs.Prelude.{None, Some}
-use Rattle.std.proofs.lemmas.Result.{IfOk-from_err}
 use Rattle.std.proofs.lemmas.List.{length-map}
-use Rattle.loc_cover.specs.Numbered.{IsEven, AreBelow}
 use Rattle.loc_spec_plane.specs.Tables.{Table}
 use Rattle.loc_spec_plane.specs.Covers.{cover_above}
-use Rattle.loc_spec_index.specs.Content.{EdgeRow, table_in}
+use Rattle.loc_spec_index.specs.Content.{EdgeRow}
 use Rattle.loc_cover.specs.Legends.{list_above}
 use Rattle.loc_laws_index.proofs.FlawKinds.{as_many}
 use Rattle.loc_verify.specs.Least.{IsLeastFailing}
@@ -22,12 +20,3 @@ returns-in-None-clause-ok c = covers_right c.args.held.now.content c.legend.resu
 pub returns-in-Some-clause-fault : goal.returns-in-Some-clause-fault
 returns-in-Some-clause-fault c = cover_there c.args.held.now.content c.legend.result.now.lists c.legend.result.now.above c.legend.ensures.covers c.legend.ensures.cover_of _ c.law.ensures c.in-Some.edge
     (subst (λ (t : Table). IsLeastFailing (length t.ends) (λ e. list_above c.legend.result.now e ≡ cover_above t e) (Some c.in-Some.edge)) c.table.ensures (subst (IsLeastFailing (length c.table.result.now.ends) (λ e. list_above c.legend.result.now e ≡ cover_above c.table.result.now e)) c.in-Some.is c.in_ok-least_wrong_cover.ensures))
-
-pub least_wrong_cover-requires-clause-even : goal.least_wrong_cover-requires-clause-even
-least_wrong_cover-requires-clause-even c = subst IsEven (sym c.table.ensures) c.requires.even
-
-pub returns-in_err-least_wrong_cover-clause-ok : goal.returns-in_err-least_wrong_cover-clause-ok
-returns-in_err-least_wrong_cover-clause-ok c = IfOk-from_err _ _ c.from_residual.ensures.0
-
-pub least_wrong_cover-requires-clause-below : goal.least_wrong_cover-requires-clause-below
-least_wrong_cover-requires-clause-below c = subst (λ t. AreBelow t c.of_edge.result.now) (sym c.table.ensures) (subst (AreBelow (table_in c.args.held.now.content)) (sym c.of_edge.ensures) (record { as_many = c.requires.floors.as_many_edges; are = c.requires.floors.of_edge }))

@@ -1,4 +1,4 @@
-use Rattle.std.proofs.Common.{◌<◌, ◌≢◌, ◌∙◌, get_or, false, refl, sym, ap, inl, inr, arith}
+use Rattle.std.proofs.Common.{◌≢◌, ◌∙◌, get_or, false, refl, sym, ap, inl, inr, arith}
 use Rattle.std.proofs.lemmas.Bool.{cases_eq, true≢false}
 use Rattle.loc_verify.proofs.LevelSteps.{flag_within}
 use Rattle.loc_verify.proofs.levels.is_some_node.Goals as goal

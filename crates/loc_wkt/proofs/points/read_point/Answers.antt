@@ -1,6 +1,6 @@
 use Rattle.std.proofs.Common.{◌≡◌, length, Bool, true, false, ◌&&◌, Some, None, sym, refl, ◌∙◌, ap, option_and_then}
 use Rattle.std.specs.Prelude.{if◌then◌else◌, nat_le, ℤ}
-use Rattle.std.proofs.lemmas.Bool.{le-leb, lt-leb}
+use Rattle.std.proofs.lemmas.Bool.{le-leb}
 use Rattle.loc_spec_text.specs.Limits.{most_line}
 use Rattle.loc_spec_text.specs.Number.{grid_value}
 use Rattle.loc_spec_text.specs.Points.{is_grid_number, point_on_grid}
@@ -29,12 +29,3 @@ pub returns-in_err-grid_value-2 : goal.returns-in_err-grid_value-2
 returns-in_err-grid_value-2 c = let le : nat_le (length c.args.text.now) most_line ≡ true = le-leb (length c.args.text.now) most_line c.if-text-gt-MOST_LINE.false in
     let x = text_of c.in_ok-x.x in let y = text_of c.in_ok-x.y in
     c.from_residual-in_err-grid_value-2.ensures ∙ sym (rw le (ap (option_and_then (point_on_grid c.args.scale)) c.in_ok-x.ensures.found ∙ off_second (is_grid_number c.args.scale x) (is_grid_number c.args.scale y) (grid_value c.args.scale y) _ c.in_err-grid_value-2.ensures.value))
-
-pub grid_value-requires : goal.grid_value-requires
-grid_value-requires c = c.requires
-
-pub grid_value-requires-2 : goal.grid_value-requires-2
-grid_value-requires-2 c = c.requires
-
-pub returns-then-text-gt-MOST_LINE : goal.returns-then-text-gt-MOST_LINE
-returns-then-text-gt-MOST_LINE c = rw (lt-leb (length c.args.text.now) most_line c.if-text-gt-MOST_LINE.true) refl

@@ -20,18 +20,3 @@ returns-clause-put g c =
     put-same (file-text c.args.scale c.args.table.now c.args.legend.now c.args.roots.now c.args.nodes.now _ refl c.requires.in_order.sources_fit (c.requires.sound.as_many_above ∙ c.requires.fits.as_many_edges) refl)
     (both c.in_ok-put_head.was c.put_head.ensures.put
     (both c.in_ok-put_numbers.was c.put_numbers.ensures.put c.put_node_rows.ensures.put))
-
-pub returns-in_err-put_head-clause-making : goal.returns-in_err-put_head-clause-making
-returns-in_err-put_head-clause-making g c = let p = err_from_is_err_and c.from_residual.result c.from_residual.ensures.1 in rw p.1 tt
-
-pub returns-in_err-put_numbers-clause-making : goal.returns-in_err-put_numbers-clause-making
-returns-in_err-put_numbers-clause-making g c = let p = err_from_is_err_and c.from_residual-in_err-put_numbers.result c.from_residual-in_err-put_numbers.ensures.1 in rw p.1 tt
-
-pub returns-clause-making : goal.returns-clause-making
-returns-clause-making g c = c.put_node_rows.ensures.making
-
-pub put_numbers-requires : goal.put_numbers-requires
-put_numbers-requires g c = record { making = c.in_ok-put_head.ensures.making }
-
-pub put_node_rows-requires : goal.put_node_rows-requires
-put_node_rows-requires g c = record { making = c.in_ok-put_numbers.ensures.making }

@@ -18,15 +18,3 @@ loop-list-preserved g c = record {
 
 pub returns-clause-put : goal.returns-clause-put
 returns-clause-put g c = goes-end _ _ _ _ c.loop-list.invariant.making (cut-end cover_bytes c.args.legend.now.lists c.loop-list.list (omega arith)) c.loop-list.invariant.goes
-
-pub returns-in_err-put_cover-clause-making : goal.returns-in_err-put_cover-clause-making
-returns-in_err-put_cover-clause-making g c = let p = err_from_is_err_and c.from_residual.result c.from_residual.ensures.1 in rw p.1 tt
-
-pub put_cover-requires-clause-making : goal.put_cover-requires-clause-making
-put_cover-requires-clause-making g c = c.loop-list.invariant.making
-
-pub loop-list-init : goal.loop-list-init
-loop-list-init g c = record { making = c.requires.making; goes = λ _ _ _ put. put }
-
-pub returns-clause-making : goal.returns-clause-making
-returns-clause-making g c = c.loop-list.invariant.making

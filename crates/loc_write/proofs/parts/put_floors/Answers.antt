@@ -19,15 +19,3 @@ loop-corner-preserved g c = record {
 
 pub returns-clause-put : goal.returns-clause-put
 returns-clause-put g c = goes-end _ _ _ _ c.loop-corner.invariant.making (cut-end (λ floor. number_bytes (none_or_next floor)) c.args.legend.now.floors c.loop-corner.corner (omega arith)) c.loop-corner.invariant.goes
-
-pub returns-in_err-put-clause-making : goal.returns-in_err-put-clause-making
-returns-in_err-put-clause-making g c = let p = err_from_is_err_and c.from_residual.result c.from_residual.ensures.1 in rw p.1 tt
-
-pub put-requires : goal.put-requires
-put-requires g c = record { making = c.loop-corner.invariant.making }
-
-pub loop-corner-init : goal.loop-corner-init
-loop-corner-init g c = record { making = c.requires.making; goes = λ _ _ _ put. put }
-
-pub returns-clause-making : goal.returns-clause-making
-returns-clause-making g c = c.loop-corner.invariant.making

@@ -20,18 +20,3 @@ returns-clause-put g c =
     put-same (header-text c.args.scale c.args.table.now c.args.legend.now c.args.nodes c.features.ensures c.corner_count.ensures.value c.edge_count.ensures.value c.count_marks.ensures c.covers.ensures)
     (both c.in_ok-put.was (put-same (c.as_slice.ensures.value ∙ c.header_row-header.ensures) c.put.ensures.put)
     (both c.in_ok-put_front.was c.put_front.ensures.put c.put_lists.ensures.put))
-
-pub returns-in_err-put-clause-making : goal.returns-in_err-put-clause-making
-returns-in_err-put-clause-making g c = let p = err_from_is_err_and c.from_residual.result c.from_residual.ensures.1 in rw p.1 tt
-
-pub returns-in_err-put_front-clause-making : goal.returns-in_err-put_front-clause-making
-returns-in_err-put_front-clause-making g c = let p = err_from_is_err_and c.from_residual-in_err-put_front.result c.from_residual-in_err-put_front.ensures.1 in rw p.1 tt
-
-pub returns-clause-making : goal.returns-clause-making
-returns-clause-making g c = c.put_lists.ensures.making
-
-pub put_front-requires-clause-making : goal.put_front-requires-clause-making
-put_front-requires-clause-making g c = c.in_ok-put.ensures.making
-
-pub put_lists-requires-clause-making : goal.put_lists-requires-clause-making
-put_lists-requires-clause-making g c = c.in_ok-put_front.ensures.making

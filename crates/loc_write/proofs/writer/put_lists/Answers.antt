@@ -14,12 +14,3 @@ returns-in_err-put_covers-clause-put g c =
 pub returns-clause-put : goal.returns-clause-put
 returns-clause-put g c =
     both c.in_ok-put_covers.was c.put_covers.ensures.put c.put_floors.ensures.put
-
-pub returns-in_err-put_covers-clause-making : goal.returns-in_err-put_covers-clause-making
-returns-in_err-put_covers-clause-making g c = let p = err_from_is_err_and c.from_residual.result c.from_residual.ensures.1 in rw p.1 tt
-
-pub returns-clause-making : goal.returns-clause-making
-returns-clause-making g c = c.put_floors.ensures.making
-
-pub put_floors-requires-clause-making : goal.put_floors-requires-clause-making
-put_floors-requires-clause-making g c = c.in_ok-put_covers.ensures.making

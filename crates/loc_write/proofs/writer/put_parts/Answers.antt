@@ -20,18 +20,3 @@ returns-clause-put g c k is =
     put-same (file-text c.args.scale c.args.table.now c.args.legend.now k.roots k.nodes k is.parts c.requires.in_order.sources_fit (c.requires.sound.as_many_above ∙ c.requires.fits.as_many_edges) (c.nodes.ensures.count ∙ sym is.nodes.as_many))
     (both c.in_ok-put_head.was c.put_head.ensures.put
     (both c.in_ok-put_roots.was (c.put_roots.ensures.put k.roots is.roots is.as_many) (c.put_nodes.ensures.put k.nodes is.nodes)))
-
-pub returns-in_err-put_head-clause-making : goal.returns-in_err-put_head-clause-making
-returns-in_err-put_head-clause-making g c = let p = err_from_is_err_and c.from_residual.result c.from_residual.ensures.1 in rw p.1 tt
-
-pub returns-in_err-put_roots-clause-making : goal.returns-in_err-put_roots-clause-making
-returns-in_err-put_roots-clause-making g c = let p = err_from_is_err_and c.from_residual-in_err-put_roots.result c.from_residual-in_err-put_roots.ensures.1 in rw p.1 tt
-
-pub returns-clause-making : goal.returns-clause-making
-returns-clause-making g c = c.put_nodes.ensures.making
-
-pub put_roots-requires : goal.put_roots-requires
-put_roots-requires g c = record { making = c.in_ok-put_head.ensures.making }
-
-pub put_nodes-requires : goal.put_nodes-requires
-put_nodes-requires g c = record { making = c.in_ok-put_roots.ensures.making }

@@ -1,8 +1,8 @@
-use Rattle.std.proofs.Common.{◌≡◌, ℕ, ◌<◌, ◌≤◌, [], length, get_or, refl, sym, ◌∙◌, ap, subst, arith}
+use Rattle.std.proofs.Common.{◌≡◌, ℕ, ◌<◌, [], length, get_or, refl, sym, ◌∙◌, subst, arith}
 use Rattle.std.specs.Prelude.{All, IsTrue, nat_lt}
 use Rattle.loc_spec_plane.specs.Lists.{IsRisingListOf, is_rising}
 use Rattle.loc_spec_plane.specs.Tables.{edge_numbers, has}
-use Rattle.loc_spec_plane.specs.Covers.{feature_count, has_at}
+use Rattle.loc_spec_plane.specs.Covers.{has_at}
 use Rattle.loc_laws_rays.proofs.Members.{feature_below}
 use Rattle.loc_cover.specs.Legends.{AreLists}
 use Rattle.loc_cover.proofs.Sound.{each_row, floor_there, marked_there, named_by, none_named}
@@ -33,23 +33,3 @@ invariant_of-result c =
       edges_rise = each_row (λ n fs. IsRisingListOf nat_lt (λ f. has t f n) fs) (λ fs. IsTrue (is_rising nat_lt fs)) edge_rows (λ n fs are. are.rising) refl marked_rows;
       lists_named = each_row (λ n fs. All (λ f. f < most) fs) (All (λ f. f < most)) lists (λ n fs are. are) (none_named most) (λ n fits. c.requires.lists_named n [] fits);
     }
-
-pub returns-clause-ids : goal.returns-clause-ids
-returns-clause-ids c = refl
-
-pub returns-clause-lists : goal.returns-clause-lists
-returns-clause-lists c = refl
-
-pub returns-clause-above : goal.returns-clause-above
-returns-clause-above c = refl
-
-pub returns-clause-floors : goal.returns-clause-floors
-returns-clause-floors c = refl
-
-pub returns-clause-fits : goal.returns-clause-fits
-returns-clause-fits c = record {
-  as_many_corners = c.in_ok-on_corner.ensures.as_many;
-  on_corner = c.in_ok-on_corner.ensures.each;
-  as_many_edges = c.in_ok-on_edge.ensures.as_many;
-  on_edge = c.in_ok-on_edge.ensures.each;
-}

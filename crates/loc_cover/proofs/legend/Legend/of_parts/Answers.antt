@@ -1,4 +1,4 @@
-use Rattle.std.proofs.Common.{◌≡◌, ◌<◌, ◌≤◌, ◌∙◌, ℕ, List, Vec, Global, length, map, ap, sym, subst}
+use Rattle.std.proofs.Common.{◌≡◌, ◌<◌, ◌≤◌, ◌∙◌, ℕ, Vec, Global, length, map, ap, sym, subst}
 use Rattle.std.specs.Prelude.{IfOk}
 use Rattle.std.specs.List.{All}
 use Rattle.std.proofs.lemmas.List.{length-map}
@@ -40,18 +40,3 @@ returns-clause-ids c = subst (λ ids. IfOk c.assemble.result (λ rows. rows.ids 
 
 pub returns-clause-covers : goal.returns-clause-covers
 returns-clause-covers c = subst (λ lists. IfOk c.assemble.result (λ rows. rows.lists ≡ lists)) c.in_ok-lists.ensures c.assemble.ensures.lists
-
-pub assemble-requires-clause-as_many_edges : goal.assemble-requires-clause-as_many_edges
-assemble-requires-clause-as_many_edges c = c.requires.as_many_edges
-
-pub assemble-requires-clause-as_many_corners : goal.assemble-requires-clause-as_many_corners
-assemble-requires-clause-as_many_corners c = c.requires.as_many_corners
-
-pub returns-clause-cover_of : goal.returns-clause-cover_of
-returns-clause-cover_of c = c.assemble.ensures.above
-
-pub returns-clause-floors : goal.returns-clause-floors
-returns-clause-floors c = c.assemble.ensures.floors
-
-pub returns-clause-fits : goal.returns-clause-fits
-returns-clause-fits c = c.assemble.ensures.fits

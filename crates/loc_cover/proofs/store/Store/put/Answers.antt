@@ -44,17 +44,3 @@ returns-clause-stands c =
     let put = c.in_ok-insert.ensures.entries ∙ ap (insert_entry (λ x y. slice_cmp nat_cmp x.now y.now) c.self.inside.numbers.entries key) number in
     subst IsStore (sym (ap (λ xs. stored (λ r. r.now) xs entries (c.self.inside.members + length c.args.list.now)) rows ∙ (ap (λ es. stored (λ r. r.now) (old ++ key.now ∷ []) es (c.self.inside.members + length c.args.list.now)) put ∙ ap (stored (λ r. r.now) (old ++ key.now ∷ []) (insert_entry (λ x y. slice_cmp nat_cmp x.now y.now) c.self.inside.numbers.entries key (length old))) members)))
     (entry_stands (λ r. r.now) key old c.self.inside.numbers.entries c.self.inside.members stands new room)
-
-pub overflow_add-self : goal.overflow_add-self
-overflow_add-self c = (let same = ap (λ (s : StoreRows). s.members) c.self.view_is in omega (arith, same, c.requires.room))
-
-pub returns-clause-number : goal.returns-clause-number
-returns-clause-number c =
-    let same : map (λ row. row.now) c.self.inside.rows.items ≡ c.args.self.now.rows = ap (λ (s : StoreRows). s.rows) c.self.view_is in
-    omega (arith, length-map c.self.inside.rows.items (λ row. row.now), ap length same, c.len-number.ensures)
-
-pub returns-clause-rows : goal.returns-clause-rows
-returns-clause-rows c =
-    let key : Bor (List ℕ) = record { ref_ptr = c.in_ok-row.field-0.ref_ptr; now = c.in_ok-row.field-0.now } in
-    let same : map (λ row. row.now) c.self.inside.rows.items ≡ c.args.self.now.rows = ap (λ (s : StoreRows). s.rows) c.self.view_is in
-    ap (map (λ row. row.now)) c.in_ok-push.ensures.items ∙ (map_push (λ row. row.now) c.self.inside.rows.items key ∙ (ap (λ xs. xs ++ key.now ∷ []) same ∙ ap (λ x. c.args.self.now.rows ++ x ∷ []) c.in_ok-row.ensures))

@@ -1,4 +1,4 @@
-use Rattle.std.proofs.Common.{◌≡◌, ◌∙◌, Bool, ap, sym, subst}
+use Rattle.std.proofs.Common.{◌≡◌, ◌∙◌, Bool, ap, subst}
 use Rattle.std.specs.Prelude.{if◌then◌else◌}
 use Rattle.loc_spec_plane.specs.Points.{Edge, same_point, is_above}
 use Rattle.loc_spec_plane.specs.Places.{lower}

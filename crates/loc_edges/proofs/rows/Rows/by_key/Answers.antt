@@ -42,11 +42,3 @@ loop-pair-init g c =
       next = λ j d le lt. omega (arith, no_rows);
       within = omega (arith, no_rows);
     }
-
-pub start-requires : goal.start-requires
-start-requires g c =
-    let pair : ℕ × g.row.T.Denot = c.pair-item.result in
-    omega (arith, ap (λ (p : ℕ × g.row.T.Denot). p.0) c.pair-item.is, c.loop-pair.invariant.next c.loop-pair.pair-index pair (omega arith) c.loop-pair-test.true)
-
-pub start-requires-2 : goal.start-requires-2
-start-requires-2 g c = c.loop-pair.invariant.within

@@ -3,7 +3,7 @@ use Rattle.std.specs.Prelude.{All, IfOk}
 use Rattle.std.specs.List.Sorted.{IsSortedBy}
 use Rattle.loc_spec_plane.specs.Points.{Point, Edge, before, edge_before}
 use Rattle.loc_spec_plane.specs.Lists.{is_rising, sorted_set}
-use Rattle.loc_spec_plane.specs.Tables.{IsTable, AllEnds, AllEven, table_by, table_of, layer_corners, number_of, pieces_of, whole, touches_by_marks, covers_by_marks}
+use Rattle.loc_spec_plane.specs.Tables.{AllEnds, AllEven, table_by, table_of, layer_corners, number_of, pieces_of, whole, touches_by_marks, covers_by_marks}
 use Rattle.loc_laws_noding.proofs.Layers.{corners_rise}
 use Rattle.loc_laws_noding.proofs.Noded.{cutting_whole}
 use Rattle.loc_laws_noding.proofs.Sources.{plain_sources}
@@ -11,7 +11,7 @@ use Rattle.loc_laws_noding.proofs.Tables.{all_ends, all_even}
 use Rattle.loc_edges.specs.Layers.{AreOfLayer, layer_rings}
 use Rattle.loc_edges.specs.Tagged.{features_of, segments_in, tagged_from}
 use Rattle.loc_edges.proofs.Even.{closed_even}
-use Rattle.loc_edges.proofs.Ordered.{few_of_layer, table_of-is_table}
+use Rattle.loc_edges.proofs.Ordered.{few_of_layer}
 use Rattle.loc_edges.proofs.RingMarks.{touches_is, covers_is, table_of-features}
 use Rattle.loc_edges.proofs.SmallLayers.{few_written_points}
 use Rattle.loc_edges.proofs.Tagged.{tagged_pieces-whole}
@@ -76,21 +76,12 @@ of_marks-requires-clause-few_edges c =
     let features = c.features-features.result.now in
     omega (arith, ap length (lists c).edges_are, (few_of_layer (layer_rings features) (few_written_points features c.features-features.ensures.within)).1)
 
-pub edge_marks-requires-clause-few : goal.edge_marks-requires-clause-few
-edge_marks-requires-clause-few c = λ k d lt. omega (arith, c.in_ok-tagged.ensures.few k d lt, c.features-features.ensures.within.few_features)
-
-pub edge_marks-requires-clause-in_order : goal.edge_marks-requires-clause-in_order
-edge_marks-requires-clause-in_order c = c.in_ok-tagged.ensures.in_order
-
 -- what is made is the plain table
 is_plain : (c : After-of_marks) → IfOk c.of_marks.result (λ t. t ≡ table_of (layer_rings c.args.layer.now))
 is_plain c = IfOk-weaker c.of_marks.result _ (λ t. t ≡ table_of (layer_rings c.args.layer.now)) (λ t is. is whole (layer_rings c.features-features.result.now) c.in_ok-tagged.tagged.items (lists c.before) c.in_ok-marks.ensures ∙ ap (λ features. table_of (layer_rings features)) c.features-features.ensures.value) c.of_marks.ensures
 
 pub returns-clause-ok : goal.returns-clause-ok
 returns-clause-ok c = is_plain c
-
-pub returns-clause-in_order : goal.returns-clause-in_order
-returns-clause-in_order c = IfOk-weaker c.of_marks.result _ IsTable (λ t is. subst IsTable (sym is) (table_of-is_table (layer_rings c.args.layer.now))) (is_plain c)
 
 pub returns-clause-all_ends : goal.returns-clause-all_ends
 returns-clause-all_ends c = let layer = layer_rings c.args.layer.now in IfOk-weaker c.of_marks.result _ AllEnds (λ t is. subst AllEnds (sym is) (all_ends whole layer (cutting_whole layer))) (is_plain c)

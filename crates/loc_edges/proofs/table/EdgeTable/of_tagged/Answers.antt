@@ -6,9 +6,6 @@ use Rattle.loc_spec_plane.specs.Tables.{table_by}
 use Rattle.loc_edges.specs.Layers.{AreOfLayer}
 use Rattle.loc_edges.proofs.table.EdgeTable.of_tagged.Goals as goal
 
-pub edge_marks-requires-clause-in_order : goal.edge_marks-requires-clause-in_order
-edge_marks-requires-clause-in_order c = c.requires.of_layer.1.1.in_order
-
 pub of_marks-requires-clause-of_layer : goal.of_marks-requires-clause-of_layer
 of_marks-requires-clause-of_layer c = let of = c.requires.of_layer in (of.0, (of.1.0, (c.args.tagged.items, (of.1.1, c.in_ok-marks.ensures))))
 

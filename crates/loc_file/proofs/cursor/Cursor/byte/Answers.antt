@@ -1,6 +1,6 @@
-use Rattle.std.proofs.Common.{rules, refl}
+use Rattle.std.proofs.Common.{refl}
 use Rattle.loc_file.proofs.Steps.{handed}
-use Rattle.loc_file.proofs.Fields.{byte-short, byte-wrong, byte-read}
+use Rattle.loc_file.proofs.Fields.{byte-short, byte-wrong}
 use Rattle.loc_file.proofs.cursor.Cursor.byte.Goals as goal
 
 pub returns-in_err-held-clause-err : goal.returns-in_err-held-clause-err
@@ -8,6 +8,3 @@ returns-in_err-held-clause-err c = handed c.from_residual.result _ _ c.from_resi
 
 pub returns-then-value-bound-clause-err : goal.returns-then-value-bound-clause-err
 returns-then-value-bound-clause-err c = λ n. byte-wrong c.args.bound _ n _ c.in_ok-held.held.now c.offset-offset.ensures c.in_ok-held.ensures.ok refl c.if-value-bound.true
-
-pub returns-clause-ok : goal.returns-clause-ok
-returns-clause-ok c = byte-read c.args.bound _ c.in_ok-held.held.now c.in_ok-held.ensures.ok (search rules) refl c.if-value-bound.false

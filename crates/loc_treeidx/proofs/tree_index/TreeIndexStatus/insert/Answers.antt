@@ -12,9 +12,6 @@ insert_at-requires-clause-small c =
     let t = c.args.ranks.now in
     omega (arith, chain_has_room t (corner t (lo_of t c.args.edge)) c.args.self.now.list c.args.edge c.requires.chain (not-true _ c.requires.is_new) c.requires.in_range, ap (λ (m : VersionsMeaning). length m.list) c.self.view_is, c.law.ensures.small.few_edges)
 
-pub insert_at-requires-clause-place : goal.insert_at-requires-clause-place
-insert_at-requires-clause-place c = let end = c.in_ok-beside.ensures.ok.end in (end.front, end.back, end.leads)
-
 pub returns-clause-beside : goal.returns-clause-beside
 returns-clause-beside c = elim c.match-insert_at.branch [
   | in-Err w ↦ rw w.result-is tt

@@ -1,4 +1,4 @@
-use Rattle.std.proofs.Common.{arith, ◌∙◌, ◌∷◌, sym, ap, ap₂, refl, length, length-drop}
+use Rattle.std.proofs.Common.{arith, ◌∙◌, ◌∷◌, sym, ap, ap₂, refl}
 use Rattle.std.proofs.lemmas.List.{take_rest}
 use Rattle.loc_spec_text.specs.Geometry.{symbols, symbol_of}
 use Rattle.loc_wkt.proofs.FirstSymbol.{no_symbol, symbols_behind}
@@ -13,18 +13,3 @@ symbol_length-requires-clause-no_white c = turn_starts c.args.text.now c.white_l
 
 pub returns-clause-found : goal.returns-clause-found
 returns-clause-found c = symbols_behind c.args.text.now c.white_length-white.result c.white_length-white.ensures.front ∙ ap symbols (sym (take_rest c.args.text.now c.white_length-white.result)) ∙ c.symbol_length.ensures.cut ∙ ap₂ (λ x y. symbol_of x ∷ symbols y) (sym c.split_at.ensures.front) (sym c.split_at.ensures.back)
-
-pub slice_bounds-text-count : goal.slice_bounds-text-count
-slice_bounds-text-count c = c.white_length-white.ensures.within
-
-pub symbol_length-requires-clause-some : goal.symbol_length-requires-clause-some
-symbol_length-requires-clause-some c = omega (arith, ap length (take_rest c.args.text.now c.white_length-white.result), length-drop c.white_length-white.result c.args.text.now, c.white_length-white.ensures.within, c.if-white-text.false)
-
-pub split_at-requires : goal.split_at-requires
-split_at-requires c = c.symbol_length.ensures.within
-
-pub returns-clause-shorter : goal.returns-clause-shorter
-returns-clause-shorter c = omega (arith, c.split_at.ensures.back_len, c.symbol_length.ensures.some, c.symbol_length.ensures.within, ap length (take_rest c.args.text.now c.white_length-white.result), length-drop c.white_length-white.result c.args.text.now)
-
-pub returns-clause-within : goal.returns-clause-within
-returns-clause-within c = omega (arith, c.split_at.ensures.front_len, c.symbol_length.ensures.within, ap length (take_rest c.args.text.now c.white_length-white.result), length-drop c.white_length-white.result c.args.text.now)

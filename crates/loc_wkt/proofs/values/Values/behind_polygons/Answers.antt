@@ -3,7 +3,7 @@ use Rattle.loc_spec_text.specs.Geometry.{symbols}
 use Rattle.loc_wkt.specs.Lists.{wide_polygon_at}
 use Rattle.loc_wkt.specs.Passes.{after_polygon}
 use Rattle.loc_wkt.proofs.ListLemmas.{polygon_takes}
-use Rattle.loc_wkt.proofs.LoopLemmas.{list_begins, list_breaks, list_ends, list_goes_on}
+use Rattle.loc_wkt.proofs.LoopLemmas.{list_breaks, list_ends, list_goes_on}
 use Rattle.loc_wkt.proofs.PassLemmas.{less_room}
 use Rattle.loc_wkt.proofs.values.Values.behind_polygons.Goals as goal
 
@@ -16,9 +16,6 @@ returns-in_default-clause-err c = λ h. (
 pub returns-then-not-goes_on-clause-ok : goal.returns-then-not-goes_on-clause-ok
 returns-then-not-goes_on-clause-ok c = list_ends wide_polygon_at after_polygon c.args.self.now c.loop-more.self c.args.text.now c.loop-more.rest.now c.loop-more.invariant c.behind_polygon.new.self c.in_ok-more.more.now c.in_ok-more.ensures.ok polygon_takes c.in-Some.behind.now
     (c.in-Some.ensures.found ∙ ap (λ b. Some (b, symbols c.in-Some.behind.now)) c.if-not-goes_on.true)
-
-pub loop-more-init : goal.loop-more-init
-loop-more-init c = list_begins wide_polygon_at after_polygon c.args.self.now c.args.self.now c.args.text.now c.args.text.now c.requires.room
 
 pub loop-more-preserved : goal.loop-more-preserved
 loop-more-preserved c = list_goes_on wide_polygon_at after_polygon c.args.self.now c.loop-more.self c.args.text.now c.loop-more.rest.now c.loop-more.invariant c.behind_polygon.new.self c.in_ok-more.more.now c.in_ok-more.ensures.ok polygon_takes c.in-Some.behind.now

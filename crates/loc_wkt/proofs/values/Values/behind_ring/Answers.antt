@@ -1,10 +1,9 @@
 use Rattle.std.proofs.Common.{◌∙◌, refl, arith, ap, length, sym}
-use Rattle.std.proofs.lemmas.Result.{IfOk-from_err}
 use Rattle.loc_spec_text.specs.Geometry.{symbols}
 use Rattle.loc_spec_text.specs.Reader.{wide_point_at}
 use Rattle.loc_wkt.specs.Lists.{listed_at, wide_ring_at}
 use Rattle.loc_wkt.proofs.ListLemmas.{enclosed_none, enclosed_open}
-use Rattle.loc_wkt.proofs.PassLemmas.{points_keep, points_keep_rings, ring_kept, ring_room, ring_started, unread_handed, less_room, not_err}
+use Rattle.loc_wkt.proofs.PassLemmas.{points_keep, points_keep_rings, ring_kept, ring_room, ring_started, unread_handed, not_err}
 use Rattle.loc_wkt.proofs.values.Values.behind_ring.Goals as goal
 
 pub returns-in_default-clause-err : goal.returns-in_default-clause-err
@@ -40,30 +39,3 @@ returns-clause-started c = let read = c.in_ok-points.ensures.ok in
       ap (λ v. length v.built) read.meaning.1,
       ap length (points_keep c.args.self.now read.member),
     )
-
-pub points-requires : goal.points-requires
-points-requires c = record { room = less_room c.args.self.now c.args.text.now c.in-Some.inside.now c.requires.room (omega (arith, c.in-Some.ensures.shorter)) }
-
-pub returns-in_err-points-clause-ok : goal.returns-in_err-points-clause-ok
-returns-in_err-points-clause-ok c = IfOk-from_err _ _ c.from_residual.ensures.0
-
-pub returns-in_err-points-clause-room : goal.returns-in_err-points-clause-room
-returns-in_err-points-clause-room c = IfOk-from_err _ _ c.from_residual.ensures.0
-
-pub returns-in_err-points-clause-started : goal.returns-in_err-points-clause-started
-returns-in_err-points-clause-started c = IfOk-from_err _ _ c.from_residual.ensures.0
-
-pub returns-in_err-points-clause-shorter : goal.returns-in_err-points-clause-shorter
-returns-in_err-points-clause-shorter c = IfOk-from_err _ _ c.from_residual.ensures.0
-
-pub keep-requires-clause-rings : goal.keep-requires-clause-rings
-keep-requires-clause-rings c = omega (arith, c.in_ok-points.ensures.room.rings)
-
-pub keep-requires-clause-room : goal.keep-requires-clause-room
-keep-requires-clause-room c = c.in_ok-points.ensures.room.kept
-
-pub returns-then-is_err-clause-err : goal.returns-then-is_err-clause-err
-returns-then-is_err-clause-err c = λ other. absurd (other refl)
-
-pub returns-clause-shorter : goal.returns-clause-shorter
-returns-clause-shorter c = omega (arith, c.in_ok-points.ensures.shorter, c.in-Some.ensures.shorter)

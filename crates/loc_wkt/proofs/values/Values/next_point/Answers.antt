@@ -2,7 +2,7 @@ use Rattle.std.proofs.Common.{rules, arith, refl, ◌∙◌}
 use Rattle.loc_spec_text.specs.Geometry.{symbols, two}
 use Rattle.loc_wkt.specs.NumberTexts.{text_of}
 use Rattle.loc_wkt.proofs.FrontLemmas.{at_none}
-use Rattle.loc_wkt.proofs.PassLemmas.{both_numbers, no_first, no_second, number_room, point_kept, point_made, point_room, wide_point_kept, wide_room, less_room}
+use Rattle.loc_wkt.proofs.PassLemmas.{both_numbers, no_first, no_second, number_room, point_kept, point_made, point_room, wide_point_kept, wide_room}
 use Rattle.loc_wkt.proofs.values.Values.next_point.Goals as goal
 
 pub returns-in_err-x-clause-read : goal.returns-in_err-x-clause-read
@@ -42,42 +42,3 @@ pub returns-in-Some-clause-room : goal.returns-in-Some-clause-room
 returns-in-Some-clause-room c = wide_room c.value-2.new.self c.in_ok-y.rest.now c.in-Some.behind.now
     (point_room c.args.self.now c.value.new.self c.value-2.new.self (text_of c.in_ok-x.x) (text_of c.in_ok-y.y) c.value.ensures.counted c.value-2.ensures.counted
     c.args.text.now c.in_ok-y.rest.now c.requires.room (omega (arith, c.in_ok-x.ensures.shorter, c.in_ok-y.ensures.shorter))) (omega (arith, c.in-Some.ensures.shorter))
-
-pub returns-in_err-x-clause-room : goal.returns-in_err-x-clause-room
-returns-in_err-x-clause-room c = rw c.from_residual.ensures tt
-
-pub returns-in_err-x-clause-shorter : goal.returns-in_err-x-clause-shorter
-returns-in_err-x-clause-shorter c = rw c.from_residual.ensures tt
-
-pub returns-in_err-y-clause-room : goal.returns-in_err-y-clause-room
-returns-in_err-y-clause-room c = rw c.from_residual-in_err-y.ensures tt
-
-pub returns-in_err-y-clause-shorter : goal.returns-in_err-y-clause-shorter
-returns-in_err-y-clause-shorter c = rw c.from_residual-in_err-y.ensures tt
-
-pub value-requires-clause-scale : goal.value-requires-clause-scale
-value-requires-clause-scale c = c.requires.room.scale
-
-pub value-requires-clause-room : goal.value-requires-clause-room
-value-requires-clause-room c = omega (arith, c.requires.room.numbers)
-
-pub value-requires-2-clause-scale : goal.value-requires-2-clause-scale
-value-requires-2-clause-scale c = rw c.value.ensures.counted c.requires.room.scale
-
-pub value-requires-clause-length : goal.value-requires-clause-length
-value-requires-clause-length c = omega (arith, c.in_ok-x.ensures.within, c.requires.room.numbers)
-
-pub value-requires-2-clause-length : goal.value-requires-2-clause-length
-value-requires-2-clause-length c = omega (arith, c.in_ok-y.ensures.within, c.in_ok-x.ensures.shorter, c.requires.room.numbers)
-
-pub returns-in_err-point-clause-room : goal.returns-in_err-point-clause-room
-returns-in_err-point-clause-room c = rw c.from_residual-in_err-point.ensures tt
-
-pub returns-in_err-point-clause-shorter : goal.returns-in_err-point-clause-shorter
-returns-in_err-point-clause-shorter c = rw c.from_residual-in_err-point.ensures tt
-
-pub returns-in-None-clause-shorter : goal.returns-in-None-clause-shorter
-returns-in-None-clause-shorter c = omega (arith, c.in_ok-x.ensures.shorter, c.in_ok-y.ensures.shorter)
-
-pub returns-in-Some-clause-shorter : goal.returns-in-Some-clause-shorter
-returns-in-Some-clause-shorter c = omega (arith, c.in_ok-x.ensures.shorter, c.in_ok-y.ensures.shorter, c.in-Some.ensures.shorter)
