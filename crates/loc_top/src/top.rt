@@ -35,7 +35,8 @@ fn run_course<F: Shelf, O: Sink, N: Sink, L: Ledger>(
 ) -> u8
     ensures ran { Ran (course_of (map string_bytes words.now))
         (moment (F.meaning shelf.old) (O.meaning out.old) steps.old)
-        (moment (F.meaning shelf.new) (O.meaning out.new) steps.new) (N.meaning notes.old) (N.meaning notes.new) result }
+        (moment (F.meaning shelf.new) (O.meaning out.new) steps.new)
+        (N.meaning notes.old) (N.meaning notes.new) result }
     ensures beside { IfSome (command_of (map string_bytes words.now))
         (λ asked. BesideCourse asked (F.meaning shelf.old) (F.meaning shelf.new) result) }
     ensures notes_in_time { InTime (N.meaning notes.old) (N.meaning notes.new) }
@@ -65,52 +66,65 @@ pub fn run<F: Shelf, O: Sink, N: Sink, L: Ledger>(
     ensures headline { (asked : AskedQuery) → command_of (map string_bytes words.now) ≡ Some (query asked)
         → Headline asked.index asked.order asked.faces (file_of asked.layer) asked.points
         (moment (F.meaning shelf.old) (O.meaning out.old) steps.old)
-        (moment (F.meaning shelf.new) (O.meaning out.new) steps.new) (N.meaning notes.old) (N.meaning notes.new) result }
+        (moment (F.meaning shelf.new) (O.meaning out.new) steps.new)
+        (N.meaning notes.old) (N.meaning notes.new) result }
     ensures features { (asked : AskedFeatures) → command_of (map string_bytes words.now) ≡ Some (features asked)
         → FeaturesTold (file_of asked.layer) asked.points
         (moment (F.meaning shelf.old) (O.meaning out.old) steps.old)
-        (moment (F.meaning shelf.new) (O.meaning out.new) steps.new) (N.meaning notes.old) (N.meaning notes.new) result }
+        (moment (F.meaning shelf.new) (O.meaning out.new) steps.new)
+        (N.meaning notes.old) (N.meaning notes.new) result }
     ensures asks { (asked : AskedAsk) → command_of (map string_bytes words.now) ≡ Some (ask asked)
         → Asks asked.index asked.points
         (moment (F.meaning shelf.old) (O.meaning out.old) steps.old)
-        (moment (F.meaning shelf.new) (O.meaning out.new) steps.new) (N.meaning notes.old) (N.meaning notes.new) result }
+        (moment (F.meaning shelf.new) (O.meaning out.new) steps.new)
+        (N.meaning notes.old) (N.meaning notes.new) result }
     ensures builds { (asked : AskedBuild) → command_of (map string_bytes words.now) ≡ Some (build asked)
         → Builds (file_of asked.layer) asked.index
         (moment (F.meaning shelf.old) (O.meaning out.old) steps.old)
-        (moment (F.meaning shelf.new) (O.meaning out.new) steps.new) (N.meaning notes.old) (N.meaning notes.new) result }
+        (moment (F.meaning shelf.new) (O.meaning out.new) steps.new)
+        (N.meaning notes.old) (N.meaning notes.new) result }
     ensures verifies { (asked : AskedVerify) → command_of (map string_bytes words.now) ≡ Some (verify asked)
         → Verifies asked.index
         (moment (F.meaning shelf.old) (O.meaning out.old) steps.old)
-        (moment (F.meaning shelf.new) (O.meaning out.new) steps.new) (N.meaning notes.old) (N.meaning notes.new) result }
+        (moment (F.meaning shelf.new) (O.meaning out.new) steps.new)
+        (N.meaning notes.old) (N.meaning notes.new) result }
     ensures upgrades { (asked : AskedUpgrade) → command_of (map string_bytes words.now) ≡ Some (upgrade asked)
         → Upgrades asked.old asked.new
         (moment (F.meaning shelf.old) (O.meaning out.old) steps.old)
-        (moment (F.meaning shelf.new) (O.meaning out.new) steps.new) (N.meaning notes.old) (N.meaning notes.new) result }
+        (moment (F.meaning shelf.new) (O.meaning out.new) steps.new)
+        (N.meaning notes.old) (N.meaning notes.new) result }
     ensures edges { (asked : AskedEdges) → command_of (map string_bytes words.now) ≡ Some (edges asked)
         → TellsEdges asked.index
         (moment (F.meaning shelf.old) (O.meaning out.old) steps.old)
-        (moment (F.meaning shelf.new) (O.meaning out.new) steps.new) (N.meaning notes.old) (N.meaning notes.new) result }
+        (moment (F.meaning shelf.new) (O.meaning out.new) steps.new)
+        (N.meaning notes.old) (N.meaning notes.new) result }
     ensures stabs { (asked : AskedStab) → command_of (map string_bytes words.now) ≡ Some (stab asked)
         → Stabs (file_of asked.layer) asked.spans
         (moment (F.meaning shelf.old) (O.meaning out.old) steps.old)
-        (moment (F.meaning shelf.new) (O.meaning out.new) steps.new) (N.meaning notes.old) (N.meaning notes.new) result }
+        (moment (F.meaning shelf.new) (O.meaning out.new) steps.new)
+        (N.meaning notes.old) (N.meaning notes.new) result }
     ensures judges { (asked : AskedLayer) → command_of (map string_bytes words.now) ≡ Some (valid asked)
         → Judges (file_of asked)
         (moment (F.meaning shelf.old) (O.meaning out.old) steps.old)
-        (moment (F.meaning shelf.new) (O.meaning out.new) steps.new) (N.meaning notes.old) (N.meaning notes.new) result }
+        (moment (F.meaning shelf.new) (O.meaning out.new) steps.new)
+        (N.meaning notes.old) (N.meaning notes.new) result }
     ensures dissolves { (asked : AskedLayer) → command_of (map string_bytes words.now) ≡ Some (dissolve asked)
         → Dissolves (file_of asked)
         (moment (F.meaning shelf.old) (O.meaning out.old) steps.old)
-        (moment (F.meaning shelf.new) (O.meaning out.new) steps.new) (N.meaning notes.old) (N.meaning notes.new) result }
+        (moment (F.meaning shelf.new) (O.meaning out.new) steps.new)
+        (N.meaning notes.old) (N.meaning notes.new) result }
     ensures ran { Ran (course_of (map string_bytes words.now))
         (moment (F.meaning shelf.old) (O.meaning out.old) steps.old)
-        (moment (F.meaning shelf.new) (O.meaning out.new) steps.new) (N.meaning notes.old) (N.meaning notes.new) result }
+        (moment (F.meaning shelf.new) (O.meaning out.new) steps.new)
+        (N.meaning notes.old) (N.meaning notes.new) result }
     ensures sentences { RunSentences (command_of (map string_bytes words.now))
         (moment (F.meaning shelf.old) (O.meaning out.old) steps.old)
-        (moment (F.meaning shelf.new) (O.meaning out.new) steps.new) (N.meaning notes.old) (N.meaning notes.new) result }
+        (moment (F.meaning shelf.new) (O.meaning out.new) steps.new)
+        (N.meaning notes.old) (N.meaning notes.new) result }
     ensures refuses_words { RefusesWords (course_of (map string_bytes words.now))
         (moment (F.meaning shelf.old) (O.meaning out.old) steps.old)
-        (moment (F.meaning shelf.new) (O.meaning out.new) steps.new) (N.meaning notes.old) (N.meaning notes.new) result }
+        (moment (F.meaning shelf.new) (O.meaning out.new) steps.new)
+        (N.meaning notes.old) (N.meaning notes.new) result }
     ensures files { FilesOf (command_of (map string_bytes words.now))
         (moment (F.meaning shelf.old) (O.meaning out.old) steps.old)
         (moment (F.meaning shelf.new) (O.meaning out.new) steps.new) result }

@@ -29,10 +29,15 @@ pub fn upgrade_law()
     ensures upgrades { (old new : Text) (from to : Moment) (n n' : Stream) (status : ℕ)
         → Ended (upgrade_course old new) from to n n' status → Upgraded old new from.shelf to.shelf status
         → Upgrades old new from to n n' status }
-    ensures asked { (bytes made old new points text : Text) (r s : Run) → IsUpgradeOf bytes made → RanWell (ask_course old points) r → RanWell (ask_course new points) s
-        → r.old.shelf.told old ≡ holds bytes → s.old.shelf.told new ≡ holds made → r.old.shelf.told points ≡ holds text → s.old.shelf.told points ≡ holds text → GaveSame r s × NotedSame r s }
-    ensures judged { (bytes made old new : Text) (r s : Run) (is : IsUpgradeOf bytes made) → RanWell (verify_course old) r → RanWell (verify_course new) s
-        → r.old.shelf.told old ≡ holds bytes → s.old.shelf.told new ≡ holds made → GaveSame r s × (IfSome (first_flaw is.content) (λ flaw. IsTrue (not (is_clash flaw))) → NotedSame r s) }
+    ensures asked { (bytes made old new points text : Text) (r s : Run) → IsUpgradeOf bytes made
+        → RanWell (ask_course old points) r → RanWell (ask_course new points) s
+        → r.old.shelf.told old ≡ holds bytes → s.old.shelf.told new ≡ holds made
+        → r.old.shelf.told points ≡ holds text → s.old.shelf.told points ≡ holds text
+        → GaveSame r s × NotedSame r s }
+    ensures judged { (bytes made old new : Text) (r s : Run) (is : IsUpgradeOf bytes made)
+        → RanWell (verify_course old) r → RanWell (verify_course new) s
+        → r.old.shelf.told old ≡ holds bytes → s.old.shelf.told new ≡ holds made
+        → GaveSame r s × (IfSome (first_flaw is.content) (λ flaw. IsTrue (not (is_clash flaw))) → NotedSame r s) }
     ensures at_once { (old new : Text) → AtOnce (upgrade_course old new) }
     ensures makes_one { (old new name : Text) → name ≢ new → MayMake (upgrade_course old new) name → ⊥ }
     ensures searches_nothing { (old new : Text) → SearchesNothing (upgrade_course old new) }
