@@ -1,7 +1,7 @@
 use Rattle.std.proofs.Common.{◌≡◌, ◌++◌, take, rules, arith, refl, ◌∙◌}
 use Rattle.std.proofs.lemmas.List.{with_items_is}
 use Rattle.std.proofs.lemmas.Result.{err_from_is_err_and}
-use Rattle.loc_io.proofs.Reading.{reads_more, reads_end, reads_fault, reads_long, reads_no_memory, takes_fault, takes_hand}
+use Rattle.loc_io.proofs.Reading.{reads_more, reads_end, reads_long, reads_no_memory}
 use Rattle.loc_io.proofs.whole.read_all.Goals as goal
 
 pub returns-then-n-eq0 : goal.returns-then-n-eq0
@@ -24,24 +24,3 @@ returns-in_err-extend_from_slice g c =
     let more = reads_more _ _ _ _ _ _ _ _ c.pieces.invariant.hand c.in_ok-n.ensures (omega (arith, few)) in
     let p = err_from_is_err_and c.from_residual-in_err-extend_from_slice.result c.from_residual-in_err-extend_from_slice.ensures.1 in
     rw (p.1, p.2) (reads_no_memory _ _ _ _ _ more)
-
-pub returns-in_err-take_up : goal.returns-in_err-take_up
-returns-in_err-take_up g c =
-    let p = err_from_is_err_and c.from_residual.result c.from_residual.ensures.1 in
-    rw (p.1, p.2) (takes_fault _ _ _ _ _ c.in_err-take_up.ensures)
-
-pub returns-in_err-piece : goal.returns-in_err-piece
-returns-in_err-piece g c =
-    let p = err_from_is_err_and c.from_residual-in_err-piece.result c.from_residual-in_err-piece.ensures.1 in
-    rw (p.1, p.2) (reads_no_memory _ _ _ _ _ (takes_hand _ _ _ _ _ c.in_ok-take_up.ensures))
-
-pub pieces-init : goal.pieces-init
-pieces-init g c = record { hand = rw c.new-all.ensures.items (takes_hand _ _ _ _ _ c.in_ok-take_up.ensures); room = c.in_ok-piece.ensures }
-
-pub read-requires-clause-open : goal.read-requires-clause-open
-read-requires-clause-open g c = c.pieces.invariant.hand.is_open
-
-pub returns-in_err-n : goal.returns-in_err-n
-returns-in_err-n g c =
-    let p = err_from_is_err_and c.from_residual-in_err-n.result c.from_residual-in_err-n.ensures.1 in
-    rw (p.1, p.2) (reads_fault _ _ _ _ _ _ _ _ c.pieces.invariant.hand c.in_err-n.ensures)

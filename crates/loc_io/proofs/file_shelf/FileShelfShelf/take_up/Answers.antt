@@ -1,8 +1,6 @@
 use Rattle.std.proofs.Common.{◌≡◌, ◌≤◌, refl, ap, subst}
 use Rattle.loc_io.specs.Causes.{Rose}
 use Rattle.loc_io.specs.Entries.{handed}
-use Rattle.loc_io.specs.Meaning.{untold, absent}
-use Rattle.loc_io.proofs.Counted.{none_failed}
 use Rattle.loc_io.proofs.file_shelf.FileShelfShelf.take_up.Goals as goal
 
 pub returns-in-Err-clause-shelf : goal.returns-in-Err-clause-shelf
@@ -18,17 +16,5 @@ returns-in-Err-clause-shelf g c =
         failed = subst (λ f. Rose f.number c.count_one.new.self.number) counts.reads c.count_one.ensures.rose;
         steady = tt;
       };
-      late = counts.late;
-    }
-
-pub returns-in-Ok-clause-shelf : goal.returns-in-Ok-clause-shelf
-returns-in-Ok-clause-shelf g c =
-    let counts = c.note_call.ensures in
-    record {
-      files = λ _. refl;
-      making = record { is_making = refl; made = refl; write_faults = ap (λ f. f.number) counts.writes };
-      entries = subst (λ name. c.note.new.self.entries ≡ handed name c.args.self.now.trace.entries) c.as_bytes.ensures.value c.note.ensures;
-      opened = (λ gone. let q : untold ≡ absent = gone in cc, refl, tt);
-      cause = none_failed _ _ _ counts.reads;
       late = counts.late;
     }
