@@ -1,24 +1,17 @@
 -- The answers to the lines of a file that was taken up are those to a source.
 use Rattle.std.proofs.Common.{◌≡◌, ◌≢◌, ℕ, ◌+◌, Bool, List, [], ◌∷◌, ◌++◌, Option, Some, None, Result, Ok, Err, refl, sym, ◌∙◌, ap, subst, arith, append-nil, inl, inr}
-use Rattle.std.specs.Prelude.{option_map}
-use Rattle.std.specs.Io.KnownBytes.{Appends, Keeps}
-use Rattle.loc_io.specs.Causes.{Rose}
-use Rattle.loc_io.specs.Entries.{taken}
+use Rattle.std.specs.{Prelude.option_map, Io.KnownBytes.Appends, Io.KnownBytes.Keeps}
+use Rattle.loc_io.specs.{Causes.Rose, Entries.taken, Reading.WroteFront, Streams.Stream}
 use Rattle.loc_io.specs.Meaning.{Meaning, TakesUp, Told as FileTold, untold, absent, holds, bytes_of}
-use Rattle.loc_io.specs.Reading.{WroteFront}
-use Rattle.loc_io.specs.Streams.{Stream}
 use Rattle.loc_io.proofs.Reading.{files_then, in_time_by, making_then, taken_last}
 use Rattle.loc_spec_text.specs.Answered.{Answered, answered, with_answer}
 use Rattle.loc_spec_text.specs.Bytes.{Text, ended_lines, lines}
 use Rattle.loc_place.specs.declared.locator.Deep.{Deep}
 use Rattle.loc_batch.specs.Batches.{Answers, AnswersCut, AnswersRest, AnswersTo, AreSeen, IsFrontOf, IsLonger, IsWholeOf, ReadsAreCounted}
-use Rattle.loc_batch.specs.PointLines.{is_point_line}
-use Rattle.loc_batch.specs.Told.{Telling, Told, told_text}
-use Rattle.loc_batch.specs.declared.tally.Tally.{Tally}
-use Rattle.loc_batch.specs.declared.faults.BatchFault.{BatchFault}
+use Rattle.loc_batch.specs.{PointLines.is_point_line, Told.Telling, Told.Told, Told.told_text}
+use Rattle.loc_batch.specs.{declared.tally.Tally.Tally, declared.faults.BatchFault.BatchFault}
 use Rattle.loc_batch.specs.declared.faults.BatchFault.TheVariants as b
-use Rattle.loc_course.specs.Courses.{Stopped, unread}
-use Rattle.loc_course.specs.Moments.{moment, IsToldLong, IsToldText}
+use Rattle.loc_course.specs.{Courses.Stopped, Courses.unread, Moments.moment, Moments.IsToldLong, Moments.IsToldText}
 use Rattle.loc_course.specs.Stops.{source}
 use Rattle.loc_course.specs.Streams.{Answering, AnswersAreCounted, AnswersSource, IsToldFront, out_of, AreSeen as AreTold, AnswersTo as TellsTo}
 use Rattle.loc_answering.specs.ByLine.{deep_text, stopped_by, told_by_line, told_bytes}

@@ -1,18 +1,13 @@
 -- What is told by places, as bytes, is what is answered by them.
 use Rattle.std.proofs.Common.{◌≡◌, ℕ, ◌+◌, Bool, Option, Result, Ok, Err, refl, ◌∙◌, ap, subst, arith}
 use Rattle.std.proofs.Math.Path.{fun_ext}
-use Rattle.loc_spec_plane.specs.Points.{Point}
-use Rattle.loc_spec_plane.specs.declared.Place.{Place}
-use Rattle.loc_spec_text.specs.Bytes.{Text}
-use Rattle.loc_spec_text.specs.Points.{Answer}
+use Rattle.loc_spec_plane.specs.{Points.Point, declared.Place.Place}
+use Rattle.loc_spec_text.specs.{Bytes.Text, Points.Answer}
 use Rattle.loc_place.specs.declared.locator.Deep.{Deep}
 use Rattle.loc_cover.specs.Legends.{LegendRows}
-use Rattle.loc_batch.specs.Answering.{answer_by}
-use Rattle.loc_batch.specs.Told.{told_by, told_place, told_result}
+use Rattle.loc_batch.specs.{Answering.answer_by, Told.told_by, Told.told_place, Told.told_result}
 use Rattle.loc_batch.proofs.Telling.{told_places}
-use Rattle.loc_course.specs.Courses.{Source, Stopped}
-use Rattle.loc_course.specs.Moments.{Moment}
-use Rattle.loc_course.specs.Streams.{AnswersSource}
+use Rattle.loc_course.specs.{Courses.Source, Courses.Stopped, Moments.Moment, Streams.AnswersSource}
 use Rattle.loc_answering.specs.ByLine.{as_bytes, by_line, told_by_line, told_bytes}
 
 module _ (scale : ℕ) (finds : Point → Result Place Deep) (shown : Option ℕ → Option ℕ) (rows : LegendRows) where

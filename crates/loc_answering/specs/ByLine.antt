@@ -4,9 +4,7 @@ use Rattle.std.specs.Prelude.{ℕ, List, ◌++◌, codes, Result, Ok, Err}
 use Rattle.std.specs.Fmt.{decimal}
 use Rattle.loc_spec_text.specs.Points.{Answer, ended}
 use Rattle.loc_place.specs.declared.locator.Deep.{Deep}
-use Rattle.loc_batch.specs.Batches.{Answering}
-use Rattle.loc_batch.specs.Streams.{line_of}
-use Rattle.loc_batch.specs.Told.{Telling, Told}
+use Rattle.loc_batch.specs.{Batches.Answering, Streams.line_of, Told.Telling, Told.Told}
 use Rattle.loc_batch.specs.declared.faults.BatchFault.{BatchFault}
 use Rattle.loc_batch.specs.declared.faults.BatchFault.TheVariants as b
 use Rattle.loc_course.specs.Courses.{Stopped, refused, unread, unwritten}

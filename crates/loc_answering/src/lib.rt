@@ -3,7 +3,6 @@
 
 ghost use Rattle.std.specs.Prelude.{◌≡◌, ◌+◌, ◌≤◌, length};
 ghost use Rattle.loc_spec_text.specs.Points.{ended};
-ghost use Rattle.loc_course.specs.Following.{moment};
 ghost use Rattle.loc_course.specs.Streams.{AnswersSource};
 ghost use Rattle.loc_course.specs.Stops.{end_of, source, stopped};
 ghost use Rattle.loc_cover.specs.Legends.{FitsTable};
@@ -13,6 +12,7 @@ ghost use Rattle.loc_batch.specs.PointLines.{is_point_line};
 ghost use Rattle.loc_batch.specs.Told.{told_by};
 ghost use Rattle.loc_answering.specs.ByLine.{by_line, deep_text, stopped_by, told_by_line};
 ghost use Rattle.loc_course.specs.Lines.{line_text};
+ghost use Rattle.loc_course.specs.Runs.{over};
 
 use loc_batch::{Answerer, Batch, BatchFault, ByPlace, FaceNumbers, answer_all};
 use loc_course::{Line, Part, Stop};
@@ -65,11 +65,10 @@ pub fn answer_lines<F: Copy + Drop, D: Answerer<F>, S: Shelf, O: Sink, L: Ledger
     requires line { length too_long.now ≤ 24 }
     requires fresh { IsFresh batch.old }
     requires fits { D.fits by.now }
-    ensures { AnswersSource (source name.now batch.old.limit (ended too_long.now)) (is_point_line batch.old.scale)
+    ensures { over (AnswersSource (source name.now batch.old.limit (ended too_long.now)) (is_point_line batch.old.scale)
         (D.most_found by.now + D.most_put by.now)
-        (told_by_line (told_by batch.old.scale (D.finds by.now) (D.tells by.now)))
-        (moment (S.meaning shelf.old) (O.meaning out.old) steps.old)
-        (moment (S.meaning shelf.new) (O.meaning out.new) steps.new) (end_of result) }
+        (told_by_line (told_by batch.old.scale (D.finds by.now) (D.tells by.now))))
+        S.meaning shelf O.meaning out steps (end_of result) }
 {
     match shelf.take_up(name) {
         Ok(()) => {}
@@ -99,11 +98,10 @@ pub fn answer_source<F: Shelf, I: Locator, N: FaceNumbers, O: Sink, L: Ledger>(
     requires fits { I.fits index.now table.now }
     requires legend { FitsTable table.now legend.now }
     requires faces { N.fits faces.now table.now }
-    ensures { AnswersSource (source name.now batch.old.limit (ended too_long.now)) (is_point_line batch.old.scale)
-        (I.most index.now table.now) (by_line
-        (answer_by batch.old.scale (I.finds index.now table.now) (N.shown faces.now) legend.now))
-        (moment (F.meaning shelf.old) (O.meaning out.old) steps.old)
-        (moment (F.meaning shelf.new) (O.meaning out.new) steps.new) (end_of result) }
+    ensures { over (AnswersSource (source name.now batch.old.limit (ended too_long.now)) (is_point_line batch.old.scale)
+        (I.most index.now table.now)
+        (by_line (answer_by batch.old.scale (I.finds index.now table.now) (N.shown faces.now) legend.now)))
+        F.meaning shelf O.meaning out steps (end_of result) }
 {
     let by = ByPlace {
         index,

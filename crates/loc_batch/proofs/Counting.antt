@@ -1,7 +1,6 @@
 -- How many lines read as points, and the steps that these take.
 use Rattle.std.proofs.Common.{◌≡◌, ℕ, ◌+◌, ◌*◌, ◌<◌, ◌≤◌, List, [], ◌∷◌, ◌++◌, cond, count_by, get_or, length, map, take, Option, Some, None, refl, sym, ◌∙◌, ap, arith}
-use Rattle.std.specs.Prelude.{option_map}
-use Rattle.std.specs.Option.{is_some}
+use Rattle.std.specs.{Prelude.option_map, Option.is_some}
 use Rattle.std.proofs.Math.Nat.{add-mul, mul-add, mul-le-mul_right}
 use Rattle.std.proofs.lemmas.List.Sums.{count_by_more_no, count_by_more_yes, sum_by-append, sum_by-cons, sum_by-take-le}
 use Rattle.loc_spec_plane.specs.Points.{Point}

@@ -1,24 +1,18 @@
 -- Lines that are answered one after the other.
 use Rattle.std.proofs.Common.{◌≡◌, ℕ, ◌+◌, ◌<◌, ◌≤◌, List, [], ◌∷◌, ◌++◌, length, drop, get_or, map, Option, Some, None, Result, Ok, Err, refl, sym, ◌∙◌, ap, subst, arith, append_assoc, append-nil, inl, inr, true, false}
-use Rattle.std.specs.Prelude.{option_map, ◌==◌, OnOk}
+use Rattle.std.specs.Prelude.{option_map, ◌==◌}
 use Rattle.std.specs.Io.KnownBytes.{Appends}
-use Rattle.std.proofs.lemmas.List.{at_drop_more, drop_all}
-use Rattle.std.proofs.lemmas.Bool.{eqb-true}
+use Rattle.std.proofs.{lemmas.List.at_drop_more, lemmas.List.drop_all, lemmas.Bool.eqb-true}
 use Rattle.std.proofs.lemmas.Grind.{flat_map-append}
 use Rattle.loc_spec_plane.specs.Points.{Point}
-use Rattle.loc_io.specs.Causes.{Rose}
-use Rattle.loc_io.specs.Reading.{WroteFront}
-use Rattle.loc_io.specs.Streams.{InTime, Stream}
+use Rattle.loc_io.specs.{Causes.Rose, Reading.WroteFront, Streams.InTime, Streams.Stream}
 use Rattle.loc_io.proofs.Appending.{Appends-more, in_time_after, front-behind, front-of}
-use Rattle.loc_spec_text.specs.Answered.{Answered, answered, with_answer}
-use Rattle.loc_spec_text.specs.Points.{point_of}
+use Rattle.loc_spec_text.specs.{Answered.Answered, Answered.answered, Answered.with_answer, Points.point_of}
 use Rattle.loc_place.specs.declared.locator.Deep.{Deep}
-use Rattle.loc_batch.specs.Batches.{AnswersCut}
+use Rattle.loc_batch.specs.{Batches.AnswersCut, Streams.last_line, declared.tally.Tally.Tally}
 use Rattle.loc_batch.specs.Desks.{PutsAll, PutsOne, SendsPage, WritesLines}
 use Rattle.loc_page.specs.Puts.{IsSteady, Passes}
-use Rattle.loc_batch.specs.Streams.{last_line}
 use Rattle.loc_batch.specs.Told.{Telling, Told, told_by, told_found, told_line, told_tally, told_text}
-use Rattle.loc_batch.specs.declared.tally.Tally.{Tally}
 use Rattle.loc_batch.specs.declared.faults.FeedFault.{FeedFault}
 use Rattle.loc_batch.specs.declared.faults.FeedFault.TheVariants as f
 use Rattle.loc_page.proofs.Pages.{fails_then, front-passes, nothing_passes, passes-both, steady_none, steady_then}
@@ -172,16 +166,6 @@ sent_lines lines answer t t1 o m n h i (Err f.PointsLong) result none q s = absu
 sent_lines lines answer t t1 o m n h i (Err f.WriteFault) result none q s = subst (λ r. WritesLines lines answer t t1 o n r) (sym s.0)
     (subst (λ (p : Stream). AnswersCut lines answer o p) (sym s.1)
     (record { wrote = subst (λ l. WroteFront o.written m.written (l ++ told_text (answered answer lines).answers)) none q.0; rose = q.1.rose }))
-
--- what holds where all was answered holds where that was sent
-pub sent_ok : (h : List ℕ) (o o' : Stream) (given result : Result (Unit {0}) FeedFault) (P : Type 0) → SendsPage h o o' given result → OnOk given P → OnOk result P
-sent_ok h o o' (Ok y) result P (inl s) p = subst (λ (r : Result (Unit {0}) FeedFault). OnOk r P) (sym s.0) p
-sent_ok h o o' (Ok y) result P (inr s) p = subst (λ (r : Result (Unit {0}) FeedFault). OnOk r P) (sym s.0) tt
-sent_ok h o o' (Err (f.Deep version)) result P (inl s) p = subst (λ (r : Result (Unit {0}) FeedFault). OnOk r P) (sym s.0) tt
-sent_ok h o o' (Err (f.Deep version)) result P (inr s) p = subst (λ (r : Result (Unit {0}) FeedFault). OnOk r P) (sym s.0) tt
-sent_ok h o o' (Err f.PointsLong) result P (inl s) p = subst (λ (r : Result (Unit {0}) FeedFault). OnOk r P) (sym s.0) tt
-sent_ok h o o' (Err f.PointsLong) result P (inr s) p = subst (λ (r : Result (Unit {0}) FeedFault). OnOk r P) (sym s.0) tt
-sent_ok h o o' (Err f.WriteFault) result P s p = subst (λ (r : Result (Unit {0}) FeedFault). OnOk r P) (sym s.0) tt
 
 -- no write of them came late
 pub sent_in_time : (a : Answered Told Deep) (t t1 : Tally) (o m n : Stream) (h i : List ℕ) (given result : Result (Unit {0}) FeedFault) → PutsAll a t t1 o m h i given → SendsPage i m n given result → InTime m n → InTime o n

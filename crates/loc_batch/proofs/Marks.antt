@@ -5,19 +5,13 @@ use Rattle.std.specs.List.{flat_map, list_any}
 use Rattle.std.proofs.lemmas.Bool.{and_left, and_right, cases_lt, false_from_ne_true, ltb-true, true≢false}
 use Rattle.loc_spec_plane.specs.declared.Place.{Place}
 use Rattle.loc_spec_plane.specs.declared.Place.TheVariants.{Corner, Border, Area}
-use Rattle.loc_spec_plane.specs.Covers.{feature_count}
+use Rattle.loc_spec_plane.specs.{Covers.feature_count, Places.IsPlace, Points.Point, Points.lies_on, Rays.crosses_right}
 use Rattle.loc_spec_plane.specs.Lists.{IsRisingListOf, is_in, is_rising, numbers, odd_many}
-use Rattle.loc_spec_plane.specs.Places.{IsPlace}
-use Rattle.loc_spec_plane.specs.Points.{Point, lies_on}
-use Rattle.loc_spec_plane.specs.Rays.{crosses_right}
 use Rattle.loc_spec_plane.specs.Tables.{AllEnds, AllEven, IsTable, NoConflict, Table, covers_by_marks, edge, edge_numbers, has, has_odd, touches_by_marks}
 use Rattle.loc_spec_plane.proofs.Checks.{is_in-past}
-use Rattle.loc_spec_text.specs.Answered.{Answered, answered, with_answer}
-use Rattle.loc_spec_text.specs.Bytes.{lines}
+use Rattle.loc_spec_text.specs.{Answered.Answered, Answered.answered, Answered.with_answer, Bytes.lines}
 use Rattle.loc_spec_text.specs.Points.{Answer, answer_text, answer_to, ended, no_point, point_of}
-use Rattle.loc_laws_order.proofs.Kept.{numbers_rise, rising_kept}
-use Rattle.loc_laws_order.proofs.TableOrder.{numbers_within}
-use Rattle.loc_laws_order.proofs.Unique.{rising-unique}
+use Rattle.loc_laws_order.proofs.{Kept.numbers_rise, Kept.rising_kept, TableOrder.numbers_within, Unique.rising-unique}
 use Rattle.loc_laws_rays.proofs.Members.{feature_below, has-from_odd, in_numbers, is_in-filter}
 use Rattle.loc_laws_rays.proofs.Parity.{never, odd_many-same}
 use Rattle.loc_place.specs.declared.locator.Deep.{Deep}

@@ -1,14 +1,11 @@
 -- A piece fed behind another is both fed together.
 use Rattle.std.proofs.Common.{◌≡◌, ℕ, ◌+◌, ◌-◌, List, ◌++◌, length, take, Some, None, Result, Ok, Err, sym, ◌∙◌, ap, subst, arith, append_assoc, length-append}
-use Rattle.std.proofs.lemmas.List.{take_all}
-use Rattle.std.proofs.Math.Seq.{take-append-add}
+use Rattle.std.proofs.{lemmas.List.take_all, Math.Seq.take-append-add}
 use Rattle.loc_io.specs.Streams.{Stream}
 use Rattle.loc_spec_text.specs.Bytes.{ended_lines, unfinished}
 use Rattle.loc_spec_text.proofs.LineLaws.{ended_lines-append, unfinished-append}
 use Rattle.loc_batch.specs.Batches.{BatchState, FeedsBy, StaysSo, lines_ended, within_limit}
-use Rattle.loc_batch.specs.Kept.{kept}
-use Rattle.loc_batch.specs.Pieces.{FeedsBoth, MeetsKept}
-use Rattle.loc_batch.specs.Told.{Telling}
+use Rattle.loc_batch.specs.{Kept.kept, Pieces.FeedsBoth, Pieces.MeetsKept, Told.Telling}
 use Rattle.loc_batch.specs.declared.faults.FeedFault.{FeedFault}
 use Rattle.loc_batch.specs.declared.faults.FeedFault.TheVariants as f
 use Rattle.loc_batch.proofs.Streamed.{Behind, SameLines, behind, behind_kept, unfinished_unbroken}

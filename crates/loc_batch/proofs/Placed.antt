@@ -1,20 +1,15 @@
 -- What is found for the queries of a block, in any order, is what is found for each of its points.
 use Rattle.std.proofs.Common.{◌≡◌, ◌≢◌, ℕ, zero, suc, ◌<◌, ◌≤◌, ◌⊎◌, inl, inr, List, [], ◌∷◌, ◌++◌, length, get_or, map, Option, Some, None, refl, sym, ◌∙◌, ap, subst, arith, take, true, false, ap₂, append_assoc, cond, count_by, length-append}
 use Rattle.std.specs.Prelude.{set, option_map, slice_index_or, ◌==◌, if◌then◌else◌, is_ok, IsOk, Result, Ok, Err}
-use Rattle.std.specs.Option.{is_some}
-use Rattle.std.proofs.lemmas.List.Sums.{sum_by_push}
+use Rattle.std.specs.{Option.is_some, List.All, List.Contains, List.Sorted.IsPermutation}
+use Rattle.std.proofs.{lemmas.List.Sums.sum_by_push, lemmas.Bool.Decides.eqb_tells}
 use Rattle.std.proofs.lemmas.List.Elements.{All-push, All-tail, Contains-append_left, Contains-push}
 use Rattle.std.proofs.lemmas.List.{map-append, ext_get_or, get_or_append_left, get_or-map, get_or_push, get_or-set_same, get_or-set_other, length-set, length-map, take-append-le, take_all}
-use Rattle.loc_spec_text.specs.Bytes.{ended_lines, unfinished}
-use Rattle.loc_spec_text.specs.Points.{point_of}
-use Rattle.loc_batch.specs.Kept.{IsUnbroken}
+use Rattle.loc_spec_text.specs.{Bytes.ended_lines, Bytes.unfinished, Points.point_of}
+use Rattle.loc_batch.specs.{Kept.IsUnbroken, declared.block.Query.Query}
 use Rattle.loc_batch.proofs.Cutting.{lines_cut}
-use Rattle.std.proofs.lemmas.Bool.Decides.{eqb_tells}
-use Rattle.std.specs.List.{All, Contains}
-use Rattle.std.specs.List.Sorted.{IsPermutation}
 use Rattle.std.proofs.lemmas.List.Sorted.{All-permutation, Contains-permutation, length_permutation}
 use Rattle.loc_spec_plane.specs.Points.{Point}
-use Rattle.loc_batch.specs.declared.block.Query.{Query}
 use Rattle.loc_batch.specs.Blocks.{BlockState, Holds, ReadsLines, no_lines, placed, with_line}
 
 -- another order of the queries holds the same lines

@@ -1,8 +1,7 @@
 -- Bytes among which no double quote stands are printed as they are.
 use Rattle.std.proofs.Common.{◌≡◌, ℕ, List, [], ◌∷◌, ◌++◌, Bool, true, false, ◌||◌, ◌==◌, refl, ap}
 use Rattle.std.specs.Prelude.{if◌then◌else◌}
-use Rattle.std.specs.List.{flat_map, list_any}
-use Rattle.std.specs.Str.{byte}
+use Rattle.std.specs.{List.flat_map, List.list_any, Str.byte}
 use Rattle.loc_spec_text.specs.Points.{quoted_byte}
 
 pub undoubled : (id : List ℕ) → list_any (λ b. b == byte "\"") id ≡ false → flat_map quoted_byte id ≡ id

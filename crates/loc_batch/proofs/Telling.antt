@@ -2,17 +2,14 @@
 use Rattle.std.proofs.Common.{◌≡◌, ℕ, List, [], ◌∷◌, map, Option, Some, None, Result, Ok, Err, refl, ◌∙◌, ap}
 use Rattle.std.proofs.Math.Path.{fun_ext}
 use Rattle.std.specs.Prelude.{option_map}
-use Rattle.loc_spec_plane.specs.Points.{Point}
-use Rattle.loc_spec_plane.specs.declared.Place.{Place}
+use Rattle.loc_spec_plane.specs.{Points.Point, declared.Place.Place}
 use Rattle.loc_spec_text.specs.Answered.{Answered, answered, with_answer}
 use Rattle.loc_spec_text.specs.Points.{Answer, point_of}
 use Rattle.loc_place.specs.declared.locator.Deep.{Deep}
 use Rattle.loc_cover.specs.Legends.{LegendRows}
-use Rattle.loc_batch.specs.Answering.{answer_by, found_answer}
-use Rattle.loc_batch.specs.Batches.{Answering}
-use Rattle.loc_batch.specs.Streams.{tally_of, with_one}
+use Rattle.loc_batch.specs.{Answering.answer_by, Answering.found_answer, Batches.Answering}
+use Rattle.loc_batch.specs.{Streams.tally_of, Streams.with_one, declared.tally.Tally.Tally}
 use Rattle.loc_batch.specs.Told.{Told, told_by, told_found, told_of, told_place, told_result, told_tally}
-use Rattle.loc_batch.specs.declared.tally.Tally.{Tally}
 
 -- what is told by places is what is answered by them
 pub told_places : (scale : ℕ) (finds : Point → Result Place Deep) (shown : Option ℕ → Option ℕ) (rows : LegendRows) → told_by scale finds (told_place shown rows) ≡ (λ line. told_result (answer_by scale finds shown rows line))

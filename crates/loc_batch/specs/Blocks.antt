@@ -4,13 +4,10 @@
 --   placed, AreKnown                 what is found for the queries, each in its line; and that each is known to what answers
 --   ReadsLines                       lines of a text were read into a block
 use Rattle.std.specs.Prelude.{◌≡◌, ℕ, ◌+◌, ◌≤◌, List, [], ◌∷◌, ◌++◌, count_by, length, get_or, map, set, Option, Some, None, IfSome}
-use Rattle.std.specs.List.{All, Contains}
-use Rattle.std.specs.Option.{is_some}
+use Rattle.std.specs.{List.All, List.Contains, Option.is_some}
 use Rattle.loc_spec_plane.specs.Points.{Point}
-use Rattle.loc_spec_text.specs.Bytes.{ended_lines, split_lines, unfinished}
-use Rattle.loc_spec_text.specs.Points.{point_of}
-use Rattle.loc_batch.specs.Kept.{IsUnbroken}
-use Rattle.loc_batch.specs.declared.block.Query.{Query}
+use Rattle.loc_spec_text.specs.{Bytes.ended_lines, Bytes.split_lines, Bytes.unfinished, Points.point_of}
+use Rattle.loc_batch.specs.{Kept.IsUnbroken, declared.block.Query.Query}
 
 -- the points that are sought, and what is known of each line
 pub record BlockState (F : Type 0) : Type 0 where

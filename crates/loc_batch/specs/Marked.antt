@@ -5,20 +5,14 @@
 --   answer_marked    what is answered to a point by the marks
 --   AnswersByMarks   the answers to lines are those by the marks
 use Rattle.std.specs.Prelude.{◌≡◌, ℕ, Bool, List, [], filter, get_or, map, Option, None, Result, Ok}
-use Rattle.loc_spec_plane.specs.Covers.{feature_count}
-use Rattle.loc_spec_plane.specs.Lists.{numbers}
-use Rattle.loc_spec_plane.specs.Points.{Point}
-use Rattle.loc_spec_plane.specs.Tables.{Table, covers_by_marks, touches_by_marks}
-use Rattle.loc_spec_plane.specs.declared.Place.{Place}
+use Rattle.loc_spec_plane.specs.{Covers.feature_count, Lists.numbers, Points.Point}
+use Rattle.loc_spec_plane.specs.{Tables.Table, Tables.covers_by_marks, Tables.touches_by_marks, declared.Place.Place}
 use Rattle.loc_spec_plane.specs.declared.Place.TheVariants.{Corner, Border, Area}
-use Rattle.loc_spec_text.specs.Answered.{answered}
-use Rattle.loc_spec_text.specs.Bytes.{lines}
+use Rattle.loc_spec_text.specs.{Answered.answered, Bytes.lines}
 use Rattle.loc_spec_text.specs.Points.{Answer, on_corner, on_border, in_face, answer_to, output, point_of}
-use Rattle.loc_place.specs.Found.{place_at}
-use Rattle.loc_place.specs.declared.locator.Deep.{Deep}
+use Rattle.loc_place.specs.{Found.place_at, declared.locator.Deep.Deep}
 use Rattle.loc_cover.specs.Legends.{LegendRows}
-use Rattle.loc_batch.specs.Answering.{answer_by}
-use Rattle.loc_batch.specs.Streams.{text_of}
+use Rattle.loc_batch.specs.{Answering.answer_by, Streams.text_of}
 
 -- the features that are marked and pass a test, in order
 abbrev pub features_where : Table → (ℕ → Bool) → List ℕ

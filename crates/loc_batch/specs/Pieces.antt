@@ -3,9 +3,7 @@
 --   FeedsBoth     one piece fed behind another is both fed together
 use Rattle.std.specs.Prelude.{◌≡◌, ℕ, List, ◌++◌, Result, Ok}
 use Rattle.loc_io.specs.Streams.{Stream}
-use Rattle.loc_batch.specs.Batches.{BatchState, FeedsBy, StaysSo}
-use Rattle.loc_batch.specs.Kept.{kept}
-use Rattle.loc_batch.specs.Told.{Telling}
+use Rattle.loc_batch.specs.{Batches.BatchState, Batches.FeedsBy, Batches.StaysSo, Kept.kept, Told.Telling}
 use Rattle.loc_batch.specs.declared.faults.FeedFault.{FeedFault}
 
 -- no more of a line counts than is kept

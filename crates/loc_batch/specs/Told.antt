@@ -6,14 +6,11 @@
 --   told_place                       the same by a place and the rows of a legend
 use Rattle.std.specs.Prelude.{ℕ, List, [], ◌∷◌, Option, Some, None, Result, Ok, Err, option_map}
 use Rattle.std.specs.List.{flat_map}
-use Rattle.loc_spec_plane.specs.declared.Place.{Place}
-use Rattle.loc_spec_plane.specs.Points.{Point}
+use Rattle.loc_spec_plane.specs.{declared.Place.Place, Points.Point}
 use Rattle.loc_spec_text.specs.Points.{Answer, no_point, point_of}
 use Rattle.loc_place.specs.declared.locator.Deep.{Deep}
 use Rattle.loc_cover.specs.Legends.{LegendRows}
-use Rattle.loc_batch.specs.Answering.{found_answer}
-use Rattle.loc_batch.specs.Streams.{line_of, with_one}
-use Rattle.loc_batch.specs.declared.tally.Tally.{Tally}
+use Rattle.loc_batch.specs.{Answering.found_answer, Streams.line_of, Streams.with_one, declared.tally.Tally.Tally}
 
 -- an answer line with its LF, and a tally with this answer more
 pub record Told : Type 0 where

@@ -11,7 +11,7 @@ ghost use Rattle.loc_batch.specs.Blocks.{AreKnown, ReadsLines, no_lines, with_li
 ghost use Rattle.loc_batch.specs.Desks.{PutsAll, PutsAnswer, PutsOne, SendsPage, WritesLines};
 ghost use Rattle.loc_batch.specs.Kept.{IsUnbroken, kept};
 ghost use Rattle.loc_batch.specs.PointLines.{point_count};
-ghost use Rattle.loc_batch.specs.Streams.{last_line, with_one};
+ghost use Rattle.loc_batch.specs.Streams.{last_line};
 ghost use Rattle.loc_batch.specs.Told.{told_by, told_found, told_of};
 
 use crate::answerer::{Answerer, Lists};
@@ -64,14 +64,143 @@ fn cut(text: &[u8]) -> Option<(&[u8], &[u8])>
     }
 }
 
-impl Tally {
-    // One line that is no point.
-    fn count_unread(&mut self)
-        ensures { self.new ≡ with_one no_point self.old }
-    {
-        self.lines = self.lines.saturating_add(1);
-        self.unread = self.unread.saturating_add(1);
+// The answer to a line that is no point.
+fn put_unread<O: Sink>(tally: &mut Tally, page: &mut Page, sink: &mut O) -> Result<(), FeedFault>
+    ensures { PutsAnswer (told_of no_point) tally.old tally.new (O.meaning sink.old) (O.meaning sink.new) page.old page.new result }
+{
+    page.put(sink, b"unread\n")?;
+    tally.lines = tally.lines.saturating_add(1);
+    tally.unread = tally.unread.saturating_add(1);
+    Ok(())
+}
+
+// The answer by what was found for a line.
+fn answer_found<F: Copy + Drop, D: Answerer<F>, O: Sink, L: Ledger>(
+    by: &D,
+    found: Option<F>,
+    lists: &mut Lists,
+    tally: &mut Tally,
+    page: &mut Page,
+    sink: &mut O,
+    steps: &mut Steps<L>,
+) -> Result<(), FeedFault>
+    requires fits { D.fits by.now }
+    requires known { IfSome found (D.knows by.now) }
+    ensures answers { PutsOne (told_found (D.tells by.now) found) tally.old tally.new (O.meaning sink.old) (O.meaning sink.new) page.old page.new result }
+    ensures counted { steps.old ≤ steps.new }
+    ensures within { steps.new ≤ steps.old + D.most_put by.now }
+    ensures unsought { found ≡ None → steps.new ≡ steps.old }
+{
+    match found {
+        Some(found) => by.put(found, lists, tally, page, sink, steps),
+        None => put_unread(tally, page, sink),
     }
+}
+
+// The line that this text ends is one more of the block.
+fn read_line<F: Copy + Drop>(
+    line: &mut ArrayVec<u8, 4097>,
+    block: &mut Block<F>,
+    scale: u8,
+    text: &[u8],
+)
+    requires scale { scale ≤ 15 }
+    requires room { length block.old.found < 131072 }
+    ensures block { block.new ≡ with_line block.old (point_of scale (line.old.items ++ text.now)) }
+    ensures line { line.new.items ≡ [] }
+{
+    keep(line, text);
+    block.note(read_point(line.as_slice(), scale));
+    line.clear();
+}
+
+// The next line of a text, if the block has room for it, and what follows it.
+fn next_line<'a, F: Copy + Drop>(block: &Block<F>, text: &'a [u8]) -> Option<(&'a [u8], &'a [u8])>
+    ensures cuts { MatchOption result (IsUnbroken text.now ⊎ (0 < length block.now.found)) (λ l. (text.now ≡ l.0.now ++ 10 ∷ l.1.now) × IsUnbroken l.0.now) }
+    ensures room { IfSome result (λ _. length block.now.found < 131072) }
+    ensures shorter { IfSome result (λ l. length l.1.now < length text.now) }
+{
+    if block.is_full() {
+        return None;
+    }
+    cut(text)
+}
+
+// Reads lines of a text while the block has room; what is left.
+fn fill_block<'a, F: Copy + Drop>(
+    line: &mut ArrayVec<u8, 4097>,
+    block: &mut Block<F>,
+    scale: u8,
+    text: &'a [u8],
+) -> &'a [u8]
+    requires scale { scale ≤ 15 }
+    requires empty { block.old ≡ no_lines }
+    requires unbroken { IsUnbroken line.old.items }
+    ensures reads { ReadsLines scale line.old.items text.now line.new.items result.now block.new }
+    ensures ended { IsUnbroken result.now ⊎ (0 < length block.new.found) }
+{
+    let mut rest = text;
+    while let Some((front, more)) = next_line(block, rest) {
+        read_line(line, block, scale, front);
+        rest = more;
+    }
+    rest
+}
+
+// The next lines of a text, as many as the block has room for, and what follows them. None where no line ends in the text.
+fn read_lines<'a, F: Copy + Drop>(
+    line: &mut ArrayVec<u8, 4097>,
+    block: &mut Block<F>,
+    scale: u8,
+    text: &'a [u8],
+) -> Option<&'a [u8]>
+    requires scale { scale ≤ 15 }
+    requires unbroken { IsUnbroken line.old.items }
+    ensures reads { MatchOption result (IsUnbroken text.now × (line.new.items ≡ line.old.items)) (λ rest. ReadsLines scale line.old.items text.now line.new.items rest.now block.new) }
+    ensures shorter { IfSome result (λ rest. length rest.now < length text.now) }
+{
+    block.clear();
+    let rest = fill_block(line, block, scale, text);
+    if block.len() == 0 { None } else { Some(rest) }
+}
+
+// The answers to the lines of a block, in their order, on the page.
+fn put_block<F: Copy + Drop, D: Answerer<F>, O: Sink, L: Ledger>(
+    by: &D,
+    block: &Block<F>,
+    lists: &mut Lists,
+    tally: &mut Tally,
+    page: &mut Page,
+    sink: &mut O,
+    steps: &mut Steps<L>,
+) -> Result<(), FeedFault>
+    requires fits { D.fits by.now }
+    requires known { AreKnown (D.knows by.now) block.now.found }
+    ensures answers { PutsAll (answered (told_found (D.tells by.now)) block.now.found) tally.old tally.new (O.meaning sink.old) (O.meaning sink.new) page.old page.new result }
+    ensures counted { steps.old ≤ steps.new }
+    ensures within { steps.new ≤ steps.old + count_by is_some block.now.found * D.most_put by.now }
+{
+    for line in 0..block.len() {
+        let found = block.found(line);
+        answer_found(by, found, lists, tally, page, sink, steps)?;
+    }
+    Ok(())
+}
+
+// What is on a page is written, also where a line was given up.
+fn send<O: Sink>(
+    page: &mut Page,
+    answered: Result<(), FeedFault>,
+    sink: &mut O,
+) -> Result<(), FeedFault>
+    ensures sent { SendsPage page.old (O.meaning sink.old) (O.meaning sink.new) answered result }
+    ensures in_time { InTime (O.meaning sink.old) (O.meaning sink.new) }
+{
+    if matches!(answered, Err(FeedFault::WriteFault)) {
+        return answered;
+    }
+    page.flush(sink)?;
+    answered
 }
 
 impl<F: Copy + Drop> Desk<F> {
@@ -87,130 +216,6 @@ impl<F: Copy + Drop> Desk<F> {
             block: Block::make(alloc)?,
             lists: Lists::make(alloc)?,
         })
-    }
-
-    // The answer to a line that is no point.
-    fn answer_unread<O: Sink>(&mut self, sink: &mut O) -> Result<(), FeedFault>
-        ensures answers { PutsAnswer (told_of no_point) self.old.tally self.new.tally (O.meaning sink.old) (O.meaning sink.new) self.old.page self.new.page result }
-        ensures line { self.new.line ≡ self.old.line }
-        ensures block { self.new.block ≡ self.old.block }
-    {
-        self.page.put(sink, b"unread\n")?;
-        self.tally.count_unread();
-        Ok(())
-    }
-
-    // The answer by what was found for a line.
-    fn answer_found<D: Answerer<F>, O: Sink, L: Ledger>(
-        &mut self,
-        by: &D,
-        found: Option<F>,
-        sink: &mut O,
-        steps: &mut Steps<L>,
-    ) -> Result<(), FeedFault>
-        requires fits { D.fits by.now }
-        requires known { IfSome found (D.knows by.now) }
-        ensures answers { PutsOne (told_found (D.tells by.now) found) self.old.tally self.new.tally (O.meaning sink.old) (O.meaning sink.new) self.old.page self.new.page result }
-        ensures line { self.new.line ≡ self.old.line }
-        ensures block { self.new.block ≡ self.old.block }
-        ensures counted { steps.old ≤ steps.new }
-        ensures within { steps.new ≤ steps.old + D.most_put by.now }
-        ensures unsought { found ≡ None → steps.new ≡ steps.old }
-    {
-        match found {
-            Some(found) => by.put(
-                found,
-                &mut self.lists,
-                &mut self.tally,
-                &mut self.page,
-                sink,
-                steps,
-            ),
-            None => self.answer_unread(sink),
-        }
-    }
-
-    // The line that this text ends is one more of the block.
-    fn read_line(&mut self, scale: u8, text: &[u8])
-        requires scale { scale ≤ 15 }
-        requires room { length self.old.block.found < 131072 }
-        ensures block { self.new.block ≡ with_line self.old.block (point_of scale (self.old.line.items ++ text.now)) }
-        ensures line { self.new.line.items ≡ [] }
-        ensures tally { self.new.tally ≡ self.old.tally }
-        ensures page { self.new.page ≡ self.old.page }
-    {
-        keep(&mut self.line, text);
-        self.block.note(read_point(self.line.as_slice(), scale));
-        self.line.clear();
-    }
-
-    // The next line of a text, if the block has room for it, and what follows it.
-    fn next_line<'a>(&self, text: &'a [u8]) -> Option<(&'a [u8], &'a [u8])>
-        ensures cuts { MatchOption result (IsUnbroken text.now ⊎ (0 < length self.now.block.found)) (λ l. (text.now ≡ l.0.now ++ 10 ∷ l.1.now) × IsUnbroken l.0.now) }
-        ensures room { IfSome result (λ _. length self.now.block.found < 131072) }
-        ensures shorter { IfSome result (λ l. length l.1.now < length text.now) }
-    {
-        if self.block.is_full() {
-            return None;
-        }
-        cut(text)
-    }
-
-    // Reads lines of a text while the block has room; what is left.
-    fn fill_block<'a>(&mut self, scale: u8, text: &'a [u8]) -> &'a [u8]
-        requires scale { scale ≤ 15 }
-        requires empty { self.old.block ≡ no_lines }
-        requires unbroken { IsUnbroken self.old.line.items }
-        ensures reads { ReadsLines scale self.old.line.items text.now self.new.line.items result.now self.new.block }
-        ensures ended { IsUnbroken result.now ⊎ (0 < length self.new.block.found) }
-        ensures tally { self.new.tally ≡ self.old.tally }
-        ensures page { self.new.page ≡ self.old.page }
-    {
-        let mut rest = text;
-        while let Some((front, more)) = self.next_line(rest) {
-            self.read_line(scale, front);
-            rest = more;
-        }
-        rest
-    }
-
-    // The next lines of a text, as many as the block has room for, and what follows them. None where no line ends in the text.
-    fn read_lines<'a>(&mut self, scale: u8, text: &'a [u8]) -> Option<&'a [u8]>
-        requires scale { scale ≤ 15 }
-        requires unbroken { IsUnbroken self.old.line.items }
-        ensures reads { MatchOption result (IsUnbroken text.now × (self.new.line.items ≡ self.old.line.items)) (λ rest. ReadsLines scale self.old.line.items text.now self.new.line.items rest.now self.new.block) }
-        ensures shorter { IfSome result (λ rest. length rest.now < length text.now) }
-        ensures tally { self.new.tally ≡ self.old.tally }
-        ensures page { self.new.page ≡ self.old.page }
-    {
-        self.block.clear();
-        let rest = self.fill_block(scale, text);
-        if self.block.len() == 0 {
-            None
-        } else {
-            Some(rest)
-        }
-    }
-
-    // The answers to the lines of the block, in their order, on the page.
-    fn put_block<D: Answerer<F>, O: Sink, L: Ledger>(
-        &mut self,
-        by: &D,
-        sink: &mut O,
-        steps: &mut Steps<L>,
-    ) -> Result<(), FeedFault>
-        requires fits { D.fits by.now }
-        requires known { AreKnown (D.knows by.now) self.old.block.found }
-        ensures answers { PutsAll (answered (told_found (D.tells by.now)) self.old.block.found) self.old.tally self.new.tally (O.meaning sink.old) (O.meaning sink.new) self.old.page self.new.page result }
-        ensures line { self.new.line ≡ self.old.line }
-        ensures counted { steps.old ≤ steps.new }
-        ensures within { steps.new ≤ steps.old + count_by is_some self.old.block.found * D.most_put by.now }
-    {
-        for line in 0..self.block.len() {
-            let found = self.block.found(line);
-            self.answer_found(by, found, sink, steps)?;
-        }
-        Ok(())
     }
 
     // The answers to the lines that a text ends, on the page, as many lines at a time as the block has room for.
@@ -232,31 +237,21 @@ impl<F: Copy + Drop> Desk<F> {
         ensures within { steps.new ≤ steps.old + point_count scale (ended_lines (self.old.line.items ++ text.now)) * (D.most_found by.now + D.most_put by.now) }
     {
         let mut rest = text;
-        while let Some(more) = self.read_lines(scale, rest) {
+        while let Some(more) = read_lines(&mut self.line, &mut self.block, scale, rest) {
             self.block.search(by, steps);
-            self.put_block(by, sink, steps)?;
+            put_block(
+                by,
+                &self.block,
+                &mut self.lists,
+                &mut self.tally,
+                &mut self.page,
+                sink,
+                steps,
+            )?;
             rest = more;
         }
         keep(&mut self.line, rest);
         Ok(())
-    }
-
-    // What is on the page is written, also where a line was given up.
-    fn send<O: Sink>(
-        &mut self,
-        answered: Result<(), FeedFault>,
-        sink: &mut O,
-    ) -> Result<(), FeedFault>
-        ensures sent { SendsPage self.old.page (O.meaning sink.old) (O.meaning sink.new) answered result }
-        ensures in_time { InTime (O.meaning sink.old) (O.meaning sink.new) }
-        ensures line { self.new.line ≡ self.old.line }
-        ensures tally { self.new.tally ≡ self.old.tally }
-    {
-        if matches!(answered, Err(FeedFault::WriteFault)) {
-            return answered;
-        }
-        self.page.flush(sink)?;
-        answered
     }
 
     // The answers to the lines that a text ends, written.
@@ -280,7 +275,7 @@ impl<F: Copy + Drop> Desk<F> {
     {
         self.page.clear();
         let answered = self.put_lines(scale, by, text, sink, steps);
-        self.send(answered, sink)
+        send(&mut self.page, answered, sink)
     }
 
     // The answer to the last line, if there is one, written: it is ended.

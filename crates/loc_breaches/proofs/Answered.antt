@@ -1,16 +1,11 @@
 -- What `valid` answers, by what its told file comes to.
 use Rattle.std.proofs.Common.{◌≡◌, ℕ, zero, suc, List, [], ◌∷◌, Option, Some, None, refl, ◌∙◌, ap, inl, inr, arith}
-use Rattle.std.specs.Prelude.{All, IsTrue, codes}
-use Rattle.std.specs.Io.KnownBytes.{Appends}
+use Rattle.std.specs.{Prelude.All, Prelude.IsTrue, Prelude.codes, Io.KnownBytes.Appends}
 use Rattle.std.proofs.lemmas.List.Elements.{All-cons}
-use Rattle.loc_io.specs.Meaning.{Told, holds}
-use Rattle.loc_io.specs.Streams.{Stream}
-use Rattle.loc_spec_text.specs.Bytes.{Text, or_else}
-use Rattle.loc_spec_text.specs.Points.{ended}
+use Rattle.loc_io.specs.{Meaning.Told, Meaning.holds, Streams.Stream}
+use Rattle.loc_spec_text.specs.{Bytes.Text, Bytes.or_else, Points.ended}
 use Rattle.loc_rings.specs.Values.{Feature}
-use Rattle.loc_course.specs.Moments.{Moment}
-use Rattle.loc_course.specs.Outcomes.{outcome}
-use Rattle.loc_course.specs.Sentences.{EndsSo, Sentences}
+use Rattle.loc_course.specs.{Moments.Moment, Outcomes.outcome, Sentences.EndsSo, Sentences.Sentences}
 use Rattle.loc_maps.specs.LineTexts.{covers_text, layer_fault_text, pieces_text}
 use Rattle.loc_maps.specs.MapCourses.{IsRead, LayerFile}
 use Rattle.loc_maps.proofs.ReadRows.{layer_line, layer_long, was_read}
@@ -18,8 +13,7 @@ use Rattle.loc_told.specs.Answers.{OrMemory}
 use Rattle.loc_told.proofs.Ends.{done_so, grown_so, not_done, refused_by}
 use Rattle.loc_breaches.specs.BreachCourses.{AreLines, are_lines, first_refusal, judged_course, refusal_of, valid_course}
 use Rattle.loc_breaches.specs.Judges.{IsFirst, IsJudged, Judges}
-use Rattle.loc_breaches.proofs.LineLists.{passes_lines}
-use Rattle.loc_breaches.proofs.Plainly.{valid_plain}
+use Rattle.loc_breaches.proofs.{LineLists.passes_lines, Plainly.valid_plain}
 use Rattle.loc_breaches.proofs.Refusals.{covers_refused, few_covers, few_pieces, not_refused, pieces_refused, refused_first}
 use Rattle.loc_breaches.proofs.Rows as rows
 

@@ -1,8 +1,7 @@
 -- How far judging the features of a layer comes along a course.
 use Rattle.std.proofs.Common.{◌≡◌, ℕ, ◌+◌, ◌<◌, List, ◌∷◌, ◌++◌, length, get_or, take, drop, Option, Some, None, refl, sym, ◌∙◌, ap, subst}
 use Rattle.std.proofs.lemmas.List.{at_drop_more, take-append-drop}
-use Rattle.loc_spec_text.specs.Bytes.{Text}
-use Rattle.loc_spec_text.specs.Points.{ended}
+use Rattle.loc_spec_text.specs.{Bytes.Text, Points.ended}
 use Rattle.loc_rings.specs.Values.{Feature}
 use Rattle.loc_course.specs.Courses.{Stopped, no_memory, refused, unread, unwritten, writes}
 use Rattle.loc_course.specs.Following.{Follows, Moment, lacks, refuses_by}

@@ -1,18 +1,14 @@
 -- The lines of features, one behind the other, and as a test.
 use Rattle.std.proofs.Common.{◌≡◌, ℕ, ◌+◌, ◌<◌, Bool, true, List, [], ◌∷◌, ◌++◌, length, get_or, take, drop, append_assoc, append-nil, Option, refl, sym, ◌∙◌, ap, subst}
 use Rattle.std.specs.Str.{bytes_eq}
-use Rattle.std.proofs.lemmas.Bool.{and_from, and_parts}
-use Rattle.std.proofs.lemmas.List.{take-append-drop, take_more}
-use Rattle.std.proofs.lemmas.Slice.Eq.{bytes_eq-Decides}
-use Rattle.std.proofs.Math.Seq.{drop-append_seam, take-append_seam}
+use Rattle.std.proofs.{lemmas.Bool.and_from, lemmas.Bool.and_parts, lemmas.List.take-append-drop, lemmas.List.take_more}
+use Rattle.std.proofs.{lemmas.Slice.Eq.bytes_eq-Decides, Math.Seq.drop-append_seam, Math.Seq.take-append_seam}
 use Rattle.loc_spec_text.specs.Bytes.{Text}
-use Rattle.loc_spec_valid.specs.Breaches.{Breach, IsBreachOf}
-use Rattle.loc_spec_valid.specs.BreachTexts.{breach_line}
+use Rattle.loc_spec_valid.specs.{Breaches.Breach, Breaches.IsBreachOf, BreachTexts.breach_line}
 use Rattle.loc_rings.specs.Values.{Feature}
 use Rattle.loc_faces.specs.Subdivision.{face_at, next_at}
 use Rattle.loc_breaches.specs.BreachCourses.{AreLines, are_lines, breaches_of, goes_on}
-use Rattle.loc_breaches.proofs.Members.{among_any, any_among}
-use Rattle.loc_breaches.proofs.Said.{breaks_said, said_breaks}
+use Rattle.loc_breaches.proofs.{Members.among_any, Members.any_among, Said.breaks_said, Said.said_breaks}
 
 -- one line more
 pub lines_more : (scale : ℕ) (fs : List Feature) (text : Text) (feature : Feature) (breach : Option Breach) → AreLines scale fs text → IsBreachOf next_at face_at feature.polygons breach

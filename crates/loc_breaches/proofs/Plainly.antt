@@ -1,15 +1,10 @@
 -- The course of the judgement of a layer's features writes at once and makes no file.
 use Rattle.std.proofs.Common.{ℕ, Option, Some, None, Ok, Err}
-use Rattle.loc_spec_text.specs.Bytes.{Text}
-use Rattle.loc_spec_text.specs.Points.{ended}
-use Rattle.loc_spec_text.specs.declared.Form.{Form}
+use Rattle.loc_spec_text.specs.{Bytes.Text, Points.ended, declared.Form.Form}
 use Rattle.loc_csvform.specs.Layer.{LayerRead, layer_of}
-use Rattle.loc_course.specs.Courses.{Course, writes}
-use Rattle.loc_course.specs.Outcomes.{exactly}
-use Rattle.loc_course.specs.Sentences.{IsPlain}
+use Rattle.loc_course.specs.{Courses.Course, Courses.writes, Outcomes.exactly, Sentences.IsPlain}
 use Rattle.loc_course.proofs.Plain.{plain_reads, plain_refuses, plain_writes}
-use Rattle.loc_maps.specs.LineTexts.{layer_fault_text}
-use Rattle.loc_maps.specs.MapCourses.{LayerFile, read_in}
+use Rattle.loc_maps.specs.{LineTexts.layer_fault_text, MapCourses.LayerFile, MapCourses.read_in}
 use Rattle.loc_breaches.specs.BreachCourses.{are_lines, first_refusal, judged_course, refused_or, valid_course}
 
 refused_plain : (refusal : Option Text) (next : Course) → IsPlain next → IsPlain (refused_or refusal next)

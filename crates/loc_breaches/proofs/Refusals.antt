@@ -3,16 +3,13 @@ use Rattle.std.proofs.Common.{◌≡◌, ℕ, ◌+◌, ◌<◌, Bool, true, fals
 use Rattle.std.specs.Prelude.{find, nat_lt, if◌then◌else◌}
 use Rattle.std.specs.Option.{is_none}
 use Rattle.std.proofs.lemmas.Bool.{and_from, and_parts, cond-true, cases_lt, cond-false, false_from_ne_true}
-use Rattle.std.proofs.lemmas.Bool.Decides.{Decides-ltb}
-use Rattle.std.proofs.lemmas.List.{take_more}
-use Rattle.loc_spec_plane.specs.Covers.{cover_sum}
-use Rattle.loc_spec_plane.specs.Rings.{Rings}
+use Rattle.std.proofs.{lemmas.Bool.Decides.Decides-ltb, lemmas.List.take_more}
+use Rattle.loc_spec_plane.specs.{Covers.cover_sum, Rings.Rings}
 use Rattle.loc_spec_plane.specs.Tables.{corner_numbers, edge_numbers, piece_count}
-use Rattle.loc_spec_text.specs.Bytes.{Text, or_else}
+use Rattle.loc_spec_text.specs.{Bytes.Text, Bytes.or_else, Limits.most_members, Limits.most_pieces}
 use Rattle.loc_spec_valid.specs.Breaches.{feature_rings, first_pair, first_point_ring, is_pinch, is_twice, ring_numbers, ring_table}
 use Rattle.loc_laws_valid.specs.Laws.{NonePinched, NoneTwice}
 use Rattle.loc_rings.specs.Values.{Feature}
-use Rattle.loc_spec_text.specs.Limits.{most_members, most_pieces}
 use Rattle.loc_valid.specs.Judged.{HasFewPieces, HasManyCovers, HasManyPieces, IsUnpinched}
 use Rattle.loc_maps.specs.LineTexts.{covers_text, pieces_text}
 use Rattle.loc_breaches.specs.BreachCourses.{crossings, first_refusal, has_many_covers_of, has_many_pieces_of, is_empty, is_unpinched, refusal_of}

@@ -1,8 +1,7 @@
 -- What the told file of a layer that reads comes to, as rows: a feature that is not judged, and the lines.
 use Rattle.std.proofs.Common.{◌≡◌, List, Option, Some, None, ◌∙◌, ap}
 use Rattle.loc_io.specs.Meaning.{Told, holds}
-use Rattle.loc_spec_text.specs.Bytes.{Text}
-use Rattle.loc_spec_text.specs.Points.{ended}
+use Rattle.loc_spec_text.specs.{Bytes.Text, Points.ended}
 use Rattle.loc_rings.specs.Values.{Feature}
 use Rattle.loc_course.specs.Courses.{writes}
 use Rattle.loc_course.specs.Outcomes.{Outcome, exactly, outcome, output, refusal}

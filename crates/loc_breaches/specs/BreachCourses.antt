@@ -4,23 +4,17 @@
 --   AreLines, are_lines              a text has a line for each feature, in order
 --   judged_course, valid_course  the features of a layer are judged, and those of a file
 use Rattle.std.specs.Prelude.{◌≡◌, ℕ, ◌+◌, Bool, true, false, ◌&&◌, List, [], ◌∷◌, ◌++◌, length, map, filter, find, take, drop, nat_lt, Option, Some, None, ⊤, if◌then◌else◌}
-use Rattle.std.specs.List.{flat_map, list_any}
-use Rattle.std.specs.Option.{is_none}
-use Rattle.std.specs.Str.{bytes_eq}
-use Rattle.loc_spec_plane.specs.Covers.{cover_sum}
-use Rattle.loc_spec_plane.specs.Rings.{Rings}
+use Rattle.std.specs.{List.flat_map, List.list_any, Option.is_none, Str.bytes_eq}
+use Rattle.loc_spec_plane.specs.{Covers.cover_sum, Rings.Rings}
 use Rattle.loc_spec_plane.specs.Tables.{corner_numbers, edge, edge_numbers, piece_count}
-use Rattle.loc_spec_text.specs.Bytes.{Text, or_else}
-use Rattle.loc_spec_text.specs.Points.{ended}
+use Rattle.loc_spec_text.specs.{Bytes.Text, Bytes.or_else, Points.ended, Limits.most_members, Limits.most_pieces}
 use Rattle.loc_spec_valid.specs.Breaches.{Breach, IsBreachOf, crossing, feature_rings, first_pair, first_point_ring, is_crossing, is_pinch, is_twice, later_breach, point_ring, ring_numbers, ring_table}
 use Rattle.loc_spec_valid.specs.BreachTexts.{breach_line}
 use Rattle.loc_rings.specs.Values.{Feature}
-use Rattle.loc_spec_text.specs.Limits.{most_members, most_pieces}
 use Rattle.loc_faces.specs.Subdivision.{face_at, next_at}
 use Rattle.loc_course.specs.Courses.{Course, Stopped, no_memory, refused, refuses, unread, unwritten, writes}
 use Rattle.loc_course.specs.Outcomes.{exactly}
-use Rattle.loc_maps.specs.LineTexts.{covers_text, pieces_text}
-use Rattle.loc_maps.specs.MapCourses.{LayerFile, read_course}
+use Rattle.loc_maps.specs.{LineTexts.covers_text, LineTexts.pieces_text, MapCourses.LayerFile, MapCourses.read_course}
 
 -- ---- what may be said of a feature
 -- the pairs of edges that cross

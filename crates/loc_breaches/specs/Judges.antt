@@ -4,19 +4,14 @@
 --   Judges       all that a user is told
 use Rattle.std.specs.Prelude.{◌≡◌, ℕ, ◌<◌, ◌≤◌, ◌++◌, ◌∷◌, All, List, length, Err, codes}
 use Rattle.std.specs.Io.KnownBytes.{Appends}
-use Rattle.loc_io.specs.Streams.{Stream}
-use Rattle.loc_io.specs.Meaning.{holds}
-use Rattle.loc_spec_text.specs.Bytes.{Text}
-use Rattle.loc_spec_text.specs.Points.{ended}
+use Rattle.loc_io.specs.{Streams.Stream, Meaning.holds}
+use Rattle.loc_spec_text.specs.{Bytes.Text, Points.ended, Limits.most_text}
 use Rattle.loc_rings.specs.Values.{Feature}
-use Rattle.loc_csvform.specs.Layer.{layer_of}
-use Rattle.loc_csvform.specs.declared.faults.LayerFault.{LayerFault}
+use Rattle.loc_csvform.specs.{Layer.layer_of, declared.faults.LayerFault.LayerFault}
 use Rattle.loc_valid.specs.Judged.{HasManyCovers, HasManyPieces}
-use Rattle.loc_course.specs.Moments.{Moment}
-use Rattle.loc_course.specs.Sentences.{Steady}
+use Rattle.loc_course.specs.{Moments.Moment, Sentences.Steady}
 use Rattle.loc_maps.specs.LineTexts.{covers_text, layer_fault_text, pieces_text}
 use Rattle.loc_maps.specs.MapCourses.{IsRead, LayerFile}
-use Rattle.loc_spec_text.specs.Limits.{most_text}
 use Rattle.loc_told.specs.Answers.{IsRefused, OrMemory}
 use Rattle.loc_breaches.specs.BreachCourses.{AreLines}
 

@@ -1,14 +1,15 @@
 //! The features of a layer judged, from the bytes in to the bytes out.
 
-ghost use Rattle.std.specs.Prelude.{◌≡◌, ◌≤◌, None, IfErr, IfOk, ℕ};
+ghost use Rattle.std.specs.Prelude.{◌≡◌, ◌≤◌, None, IfErr, IfOk};
 ghost use Rattle.loc_spec_text.specs.Limits.{most_points};
 ghost use Rattle.loc_spec_valid.specs.Breaches.{IsBreachOf};
 ghost use Rattle.loc_rings.specs.Layers.{point_count};
 ghost use Rattle.loc_faces.specs.Subdivision.{face_at, next_at};
 ghost use Rattle.loc_valid.specs.Judged.{told};
 ghost use Rattle.loc_course.specs.Courses.{writes};
-ghost use Rattle.loc_course.specs.Following.{Follows, Moment, moment};
-ghost use Rattle.loc_course.specs.Stops.{GoesOn, end_of, stopped};
+ghost use Rattle.loc_course.specs.Following.{Moment};
+ghost use Rattle.loc_course.specs.Runs.{RunsOnFilesAndOut};
+ghost use Rattle.loc_course.specs.Stops.{GoesOn, stopped};
 ghost use Rattle.loc_maps.specs.MapCourses.{layer_file};
 ghost use Rattle.loc_breaches.specs.BreachCourses.{AreLines, IsRefusedBy, are_lines, judged_course, refusal_of, valid_course};
 
@@ -59,9 +60,8 @@ pub fn valid<F: Shelf, O: Sink>(
     shelf: &mut F,
     out: &mut O,
 ) -> Result<(), Stop>
-    ensures { (k : ℕ) → Follows (valid_course (layer_file layer_name.now form scale))
-        (moment (F.meaning shelf.old) (O.meaning out.old) k)
-        (moment (F.meaning shelf.new) (O.meaning out.new) k) (end_of result) }
+    ensures { RunsOnFilesAndOut (valid_course (layer_file layer_name.now form scale))
+        F.meaning shelf O.meaning out result }
 {
     let layer = read_features_file(alloc, shelf, layer_name, form, scale)?;
     let text = judged_lines(alloc, &layer, scale)?;

@@ -6,8 +6,7 @@ use Rattle.loc_io.specs.Entries.{Entries}
 use Rattle.loc_io.specs.Meaning.{KeepsFiles, Told, untold, absent, holds}
 use Rattle.loc_course.specs.Courses.{Source, Course, Stopped, refused, unread, unwritten, no_memory}
 use Rattle.loc_course.specs.Following.{FileWritesAreCounted, OverSo, Moment, IsToldAtMost, Follows, lacks, refuses_by, reads_not, reads_by, searches_by, answers_by, writes_by, makes_by}
-use Rattle.loc_course.specs.Moments.{IsToldText}
-use Rattle.loc_course.specs.Streams.{Answering, AnswersTo}
+use Rattle.loc_course.specs.{Moments.IsToldText, Streams.Answering, Streams.AnswersTo}
 use Rattle.loc_course.specs.Sentences.{status_of, HasLength, AreWhole, Hands, hands_none, hands_last, hands_on, hands_answered, hands_searched, Names, MayMake, MakesNone, Files, WithinSteps, SearchesNothing, Counts, InTimes}
 
 -- one entry more, and those behind it

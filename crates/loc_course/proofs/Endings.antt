@@ -4,9 +4,8 @@ use Rattle.std.proofs.Math.Path.{fun_ext}
 use Rattle.loc_spec_text.specs.Bytes.{Text}
 use Rattle.loc_io.specs.Meaning.{Told}
 use Rattle.loc_course.specs.Courses.{Source, Course, reads, answers, writes, makes, Stopped, refused, unread, unwritten, no_memory}
-use Rattle.loc_course.specs.Endings.{AtEnd, Did, DidSo}
+use Rattle.loc_course.specs.{Endings.AtEnd, Endings.Did, Endings.DidSo, Sentences.status_of}
 use Rattle.loc_course.specs.Following.{ComesTo, Follows, Moment, lacks, refuses_by, reads_not, reads_by, searches_by, answers_by, writes_by, makes_by}
-use Rattle.loc_course.specs.Sentences.{status_of}
 
 -- what holds of any end
 pub at_any : (P : Option Stopped → Type 0) (end : Option Stopped) → P end → AtEnd P end

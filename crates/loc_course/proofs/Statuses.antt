@@ -1,10 +1,8 @@
 -- The status of a command, by what its told files come to.
 use Rattle.std.proofs.Common.{◌≡◌, ◌⊎◌, ℕ, ◌<◌, ◌≤◌, Bool, Option, Some, None, refl, sym, subst, inl, inr, arith}
-use Rattle.std.specs.Prelude.{IsTrue}
+use Rattle.std.specs.{Prelude.IsTrue, Io.KnownBytes.Appends}
 use Rattle.loc_spec_text.specs.Bytes.{Text}
-use Rattle.loc_io.specs.Causes.{Rose}
-use Rattle.loc_io.specs.Streams.{Stream}
-use Rattle.std.specs.Io.KnownBytes.{Appends}
+use Rattle.loc_io.specs.{Causes.Rose, Streams.Stream}
 use Rattle.loc_course.specs.Courses.{Course, Stopped, refused, unread, unwritten, no_memory}
 use Rattle.loc_course.specs.Following.{Moment, Follows}
 use Rattle.loc_course.specs.Outcomes.{Outcome, unknown, missing, refusal, output, partly, file, outcome}

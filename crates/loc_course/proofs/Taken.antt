@@ -1,11 +1,9 @@
 -- A text that out took, or of which a write failed, as the end of a command that writes exactly it.
 use Rattle.std.proofs.Common.{◌≡◌, ℕ, Some, None, Result, Ok, Err, refl, subst}
 use Rattle.loc_spec_text.specs.Bytes.{Text}
-use Rattle.loc_io.specs.Meaning.{Meaning}
-use Rattle.loc_io.specs.Streams.{Stream, TakesAll}
+use Rattle.loc_io.specs.{Meaning.Meaning, Streams.Stream, Streams.TakesAll}
 use Rattle.loc_course.specs.Courses.{unwritten, writes}
-use Rattle.loc_course.specs.Following.{Follows, moment, writes_by}
-use Rattle.loc_course.specs.Outcomes.{exactly}
+use Rattle.loc_course.specs.{Following.Follows, Following.moment, Following.writes_by, Outcomes.exactly}
 use Rattle.loc_course.proofs.Told.{exactly_it}
 
 -- a text that was written

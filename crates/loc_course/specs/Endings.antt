@@ -5,12 +5,10 @@
 --   Did     what a course did from one moment to another
 use Rattle.std.specs.Prelude.{ℕ, ◌≤◌, Bool, length, Option, Some, None, IsTrue, ⊤}
 use Rattle.loc_spec_text.specs.Bytes.{Text}
-use Rattle.loc_io.specs.Meaning.{Told}
-use Rattle.loc_io.specs.Streams.{Stream}
+use Rattle.loc_io.specs.{Meaning.Told, Streams.Stream}
 use Rattle.loc_course.specs.Courses.{Course, refuses, reads, searches, answers, writes, makes, Stopped, refused, unread, unwritten, no_memory}
 use Rattle.loc_course.specs.Following.{FileWritesAreCounted, MadeSo, WroteSo}
-use Rattle.loc_course.specs.Moments.{Moment, IsToldText}
-use Rattle.loc_course.specs.Streams.{AnswersTo, IsToldFront}
+use Rattle.loc_course.specs.{Moments.Moment, Moments.IsToldText, Streams.AnswersTo, Streams.IsToldFront}
 
 -- what holds where a command was done or a write failed
 abbrev pub AtEnd : (Option Stopped → Type 0) → Option Stopped → Type 0

@@ -4,17 +4,12 @@
 -- `WithinSteps`, `SearchesNothing`, `Counts`, `InTimes`, `Ended`, `Sentences`.
 use Rattle.std.specs.Prelude.{◌≡◌, ◌≢◌, ◌⊎◌, ℕ, ◌+◌, ◌*◌, ◌-◌, ◌^◌, ◌<◌, ◌≤◌, Bool, true, List, [], ◌∷◌, ◌++◌, count_by, length, Option, Some, None, Result, Err, IsTrue, ⊤, codes}
 use Rattle.std.specs.Io.KnownBytes.{Keeps, Appends}
-use Rattle.loc_io.specs.Causes.{Rose}
-use Rattle.loc_io.specs.Entries.{Entries}
+use Rattle.loc_io.specs.{Causes.Rose, Entries.Entries, Reading.WroteFront, Streams.InTime, Streams.Stream}
 use Rattle.loc_io.specs.Meaning.{KeepsFiles, NoneLate, Told, untold, absent, holds}
-use Rattle.loc_io.specs.Reading.{WroteFront}
-use Rattle.loc_io.specs.Streams.{InTime, Stream}
-use Rattle.loc_spec_text.specs.Bytes.{Text}
-use Rattle.loc_spec_text.specs.Points.{ended}
+use Rattle.loc_spec_text.specs.{Bytes.Text, Points.ended}
 use Rattle.loc_course.specs.Courses.{Source, Course, refuses, reads, searches, answers, writes, makes, Stopped, refused, unread, unwritten, no_memory}
 use Rattle.loc_course.specs.Following.{Follows, IsToldAtMost, IsMade}
-use Rattle.loc_course.specs.Moments.{Moment, IsToldText}
-use Rattle.loc_course.specs.Streams.{AreSeen, IsToldFront}
+use Rattle.loc_course.specs.{Moments.Moment, Moments.IsToldText, Streams.AreSeen, Streams.IsToldFront}
 use Rattle.loc_course.specs.Outcomes.{Outcome, unknown, missing, refusal, output, partly, file, outcome}
 
 -- the status of a command

@@ -1,12 +1,10 @@
 -- What touches and what covers a point, read off a legend at the point's place.
 use Rattle.std.proofs.Common.{◌≡◌, ℕ, ◌<◌, not, [], length, get_or, filter, refl, ◌∙◌, ap, Option, Some, None}
 use Rattle.std.specs.Prelude.{nat_lt}
-use Rattle.std.proofs.lemmas.Bool.{and_parts, ltb-true}
-use Rattle.std.proofs.lemmas.List.Elements.{filter_agree}
-use Rattle.loc_spec_plane.specs.Lists.{is_in}
+use Rattle.std.proofs.{lemmas.Bool.and_parts, lemmas.Bool.ltb-true, lemmas.List.Elements.filter_agree}
+use Rattle.loc_spec_plane.specs.{Lists.is_in, declared.Place.Place}
 use Rattle.loc_spec_plane.specs.Points.{Point, is_above, lies_on, same_point}
 use Rattle.loc_spec_plane.specs.Tables.{Table, IsTable, AllEnds, AllEven, NoConflict, corner, covers_by_marks, touches_by_marks, edge, has}
-use Rattle.loc_spec_plane.specs.declared.Place.{Place}
 use Rattle.loc_spec_plane.specs.declared.Place.TheVariants.{Corner, Border, Area}
 use Rattle.loc_spec_plane.specs.Places.{alive, alive_at, is_edge, IsFloor, IsPlace}
 use Rattle.loc_spec_plane.specs.Covers.{cover_above, cover_of_floor, has_at, IsCoverOf}

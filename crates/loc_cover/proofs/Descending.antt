@@ -1,7 +1,6 @@
 -- The way down from an edge, edge after edge.
 use Rattle.std.proofs.Common.{◌≡◌, ◌≢◌, ℕ, ◌+◌, ◌<◌, List, [], ◌∷◌, ◌++◌, length, get_or, refl, sym, ◌∙◌, ap, subst, inl, inr, arith, Option, Some, None}
-use Rattle.std.proofs.Math.Seq.{get_or-append_seam}
-use Rattle.std.proofs.lemmas.Bool.{cases_eq}
+use Rattle.std.proofs.{Math.Seq.get_or-append_seam, lemmas.Bool.cases_eq}
 use Rattle.std.proofs.lemmas.List.{get_or_append_left, length-append}
 use Rattle.loc_spec_plane.specs.Tables.{Table}
 use Rattle.loc_cover.specs.Numbered.{IsKnownUnder, IsPath}

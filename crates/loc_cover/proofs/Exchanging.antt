@@ -1,18 +1,13 @@
 -- A feature put between what is less and what is greater, or taken out there.
 use Rattle.std.proofs.Common.{◌≡◌, ℕ, zero, suc, ◌+◌, ◌<◌, ◌≤◌, Bool, true, false, not, ◌&&◌, ◌||◌, List, [], ◌∷◌, ◌++◌, length, get_or, take, drop, refl, sym, ◌∙◌, ap, subst, ◌⊎◌, inl, inr, arith, drop-cons, append_assoc, add-one, ◌≢◌}
 use Rattle.std.specs.Prelude.{nat_lt, ◌==◌}
-use Rattle.std.specs.List.{list_all}
-use Rattle.std.specs.List.Sorted.{IsNonDecreasingBy}
+use Rattle.std.specs.{List.list_all, List.Sorted.IsNonDecreasingBy}
 use Rattle.std.proofs.lemmas.Bool.{and_parts, and_from, and_right, or_from, cases_eq, cases_lt, false_from_ne_true, ltb-true, lt-ltb, eq-eqb, ne_eqb}
 use Rattle.std.proofs.lemmas.List.{drop_all, drop-drop, get_or_default, length-drop, take-append-drop}
 use Rattle.std.proofs.lemmas.List.Folds.{list_all-append, list_any-append, list_any_more}
-use Rattle.loc_spec_plane.specs.declared.Mark.{Mark}
+use Rattle.loc_spec_plane.specs.{declared.Mark.Mark, Tables.mark_before}
 use Rattle.loc_spec_plane.specs.Lists.{exactly_one, is_in, is_rising, IsRisingListOf}
-use Rattle.loc_spec_plane.specs.Tables.{mark_before}
-use Rattle.loc_laws_order.proofs.Sets.{all_joined, all_weaker}
-use Rattle.loc_laws_order.proofs.Booleans.{or_none}
-use Rattle.loc_laws_order.proofs.TableOrder.{rises}
-use Rattle.loc_laws_order.proofs.Unique.{all-at}
+use Rattle.loc_laws_order.proofs.{Sets.all_joined, Sets.all_weaker, Booleans.or_none, TableOrder.rises, Unique.all-at}
 use Rattle.loc_laws_rays.proofs.Parity.{exactly_one_assoc}
 use Rattle.loc_cover.specs.Exchanges.{IsExchange, is_marked_odd}
 

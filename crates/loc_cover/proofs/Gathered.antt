@@ -1,22 +1,17 @@
 -- The features of marks, gathered edge after edge.
 use Rattle.std.proofs.Common.{◌≡◌, ℕ, zero, suc, ◌+◌, ◌-◌, ◌<◌, ◌≤◌, ◌≢◌, Bool, true, false, ◌&&◌, ◌||◌, List, [], ◌∷◌, ◌++◌, length, get_or, map, filter, refl, sym, ◌∙◌, ap, subst, inl, inr, arith, Less, Equal, Greater}
 use Rattle.std.specs.Prelude.{nat_lt, ◌==◌}
-use Rattle.std.specs.List.{list_all, list_any, range_with_len}
-use Rattle.std.specs.Cmp.{nat_cmp_is}
+use Rattle.std.specs.{List.list_all, List.list_any, List.range_with_len, Cmp.nat_cmp_is}
 use Rattle.std.specs.Ordering.{MatchOrdering, nat_cmp}
 use Rattle.std.proofs.lemmas.Bool.{and_parts, and_from, and_right, or_cases, cases_Bool, cases_eq, cases_order, cond-false, cond-true, true≢false, eq-eqb, eqb-true, lt-ltb, ltb-true}
-use Rattle.std.proofs.lemmas.Cmp.{nat_cmp_total}
-use Rattle.std.proofs.Math.Seq.{get_or-append_seam}
+use Rattle.std.proofs.{lemmas.Cmp.nat_cmp_total, Math.Seq.get_or-append_seam}
 use Rattle.std.proofs.lemmas.List.{get_or_append_left, length-append}
 use Rattle.std.proofs.lemmas.List.Folds.{list_all-map, list_any-append, list_any_at}
 use Rattle.loc_spec_plane.specs.declared.Mark.{Mark}
 use Rattle.loc_spec_plane.specs.Lists.{is_in, is_rising, numbers, IsRisingListOf}
 use Rattle.loc_spec_plane.specs.Tables.{Table, ends_at, edge_numbers, has, hi_of, lo_of, mark_before}
-use Rattle.loc_laws_order.proofs.Booleans.{or_none, same-from_both}
-use Rattle.loc_laws_order.proofs.TableOrder.{numbers_within}
-use Rattle.loc_laws_order.proofs.Unique.{all-at}
-use Rattle.loc_laws_rays.proofs.Covering.{any-found}
-use Rattle.loc_laws_rays.proofs.Members.{in_range, is_in-filter}
+use Rattle.loc_laws_order.proofs.{Booleans.or_none, Booleans.same-from_both, TableOrder.numbers_within, Unique.all-at}
+use Rattle.loc_laws_rays.proofs.{Covering.any-found, Members.in_range, Members.is_in-filter}
 use Rattle.loc_edges.specs.Ending.{IsBeginning}
 use Rattle.loc_edges.proofs.SortedSet.{IsOrderBy}
 use Rattle.loc_cover.proofs.Lexicographic.{any_map}

@@ -3,16 +3,13 @@ use Rattle.std.proofs.Common.{◌≡◌, ◌≢◌, ℕ, zero, suc, ◌+◌, ◌
 use Rattle.std.specs.Prelude.{◌==◌}
 use Rattle.std.proofs.lemmas.Bool.{and_parts, and_from, and_right, or_left, or_right, or_cases, cases_eq, false_from_ne_true, not_from_false, not-true, lt-ltb, eq-eqb, ne_eqb, eqb-true}
 use Rattle.std.specs.List.{range_with_len}
-use Rattle.loc_spec_plane.specs.Lists.{exactly_one, numbers, odd_many}
-use Rattle.loc_spec_plane.specs.Points.{Point}
+use Rattle.loc_spec_plane.specs.{Lists.exactly_one, Lists.numbers, Lists.odd_many, Points.Point}
 use Rattle.loc_spec_plane.specs.Tables.{Table, IsTable, AllEnds, AllEven, NoConflict, edge, has_odd, edge_numbers}
 use Rattle.loc_spec_plane.specs.Places.{alive, alive_at, is_edge, lower_of, IsJustBelow}
 use Rattle.loc_spec_plane.specs.Covers.{is_at_or_under, is_over}
 use Rattle.loc_laws_rays.specs.Laws.{is_over_at}
-use Rattle.loc_laws_order.proofs.AliveAt.{lower_passes}
-use Rattle.loc_laws_order.proofs.Sides.{lower-asym, before_irrefl}
-use Rattle.loc_laws_order.proofs.Booleans.{or_none, same-from_both}
-use Rattle.loc_laws_order.proofs.TableOrder.{edge_up}
+use Rattle.loc_laws_order.proofs.{AliveAt.lower_passes, Sides.lower-asym, Sides.before_irrefl}
+use Rattle.loc_laws_order.proofs.{Booleans.or_none, Booleans.same-from_both, TableOrder.edge_up}
 use Rattle.loc_laws_rays.proofs.Parity.{odd_many-exactly_one, odd_many-same, exactly_one-false}
 use Rattle.loc_laws_rays.proofs.Along.{parity_along}
 

@@ -1,20 +1,14 @@
 -- What is left when the lists above all edges are known.
 use Rattle.std.proofs.Common.{◌≡◌, ◌≢◌, ℕ, ◌+◌, ◌<◌, ◌≤◌, ◌==◌, Bool, true, false, List, [], ◌∷◌, length, get_or, set, take, map, refl, sym, ◌∙◌, ap, subst, inl, inr, arith, get_or-set_same, get_or-set_other, length-set, Option, Some, None}
-use Rattle.std.specs.Prelude.{nat_lt, sum_by}
-use Rattle.std.specs.List.{list_all, list_any}
+use Rattle.std.specs.{Prelude.nat_lt, Prelude.sum_by, List.list_all, List.list_any}
 use Rattle.std.proofs.lemmas.Bool.{and_parts, or_cases, cases_eq, cases_lt, true≢false, eq-eqb, eqb-true, ltb-true}
 use Rattle.std.proofs.lemmas.List.{get_or-map, get_or_past, length-map, take_all, take_more}
 use Rattle.std.proofs.lemmas.List.Folds.{list_any-append, list_any_at}
-use Rattle.loc_spec_plane.specs.Lists.{is_in}
-use Rattle.loc_spec_plane.specs.Tables.{Table, edge_numbers}
-use Rattle.loc_spec_plane.specs.Covers.{cover_above, cover_lists}
-use Rattle.loc_laws_order.proofs.TableOrder.{numbers_within}
-use Rattle.loc_laws_order.proofs.Unique.{all-at}
+use Rattle.loc_spec_plane.specs.{Lists.is_in, Tables.Table, Tables.edge_numbers, Covers.cover_above, Covers.cover_lists}
+use Rattle.loc_laws_order.proofs.{TableOrder.numbers_within, Unique.all-at, Booleans.same-from_both}
 use Rattle.loc_laws_rays.proofs.Covering.{any-found}
-use Rattle.loc_laws_order.proofs.Booleans.{same-from_both}
 use Rattle.loc_edges.proofs.SortedSet.{same-sorted_set}
-use Rattle.loc_cover.specs.Legends.{IsFew}
-use Rattle.loc_cover.specs.Numbered.{IsNumbered, covers_of}
+use Rattle.loc_cover.specs.{Legends.IsFew, Numbered.IsNumbered, Numbered.covers_of}
 use Rattle.loc_cover.specs.Stores.{StoreRows, IsStore, IsAt, lists_in, lists_of}
 use Rattle.loc_cover.proofs.Lexicographic.{any_map, lists_by_before, sorted_set-rising}
 use Rattle.loc_cover.proofs.Numbering.{named_within}

@@ -1,15 +1,11 @@
 -- Lists of numbers in lexicographic order, and rising lists of any kind, and what their sums are.
 use Rattle.std.proofs.Common.{◌≡◌, ℕ, ◌<◌, ◌≤◌, Bool, true, false, not, ◌&&◌, ◌||◌, List, [], ◌∷◌, map, refl, sym, ◌∙◌, ap, subst, inl, inr, arith, Ordering, Less, Equal, Greater}
 use Rattle.std.specs.Prelude.{nat_lt, ◌==◌, sum_by}
-use Rattle.std.specs.List.{list_all, list_any}
-use Rattle.std.specs.Cmp.{nat_cmp_is}
-use Rattle.std.specs.Cmp.Lexicographic.{slice_cmp}
+use Rattle.std.specs.{List.list_all, List.list_any, Cmp.nat_cmp_is, Cmp.Lexicographic.slice_cmp}
 use Rattle.std.specs.Ordering.{MatchOrdering, nat_cmp, ordering_then}
 use Rattle.std.proofs.lemmas.Bool.{and_parts, and_from, or_left, or_right, or_cases, both_ways, cases_Bool, cases_order, cond-true, true≢false, eq-eqb, eqb-true, lt-ltb, ltb-true}
-use Rattle.std.proofs.lemmas.Cmp.{nat_list_cmp_total}
-use Rattle.std.proofs.lemmas.List.Sums.{sum_by-cons}
-use Rattle.loc_spec_plane.specs.Lists.{is_rising, sorted_set, with_member}
-use Rattle.loc_spec_plane.specs.Covers.{list_before}
+use Rattle.std.proofs.{lemmas.Cmp.nat_list_cmp_total, lemmas.List.Sums.sum_by-cons}
+use Rattle.loc_spec_plane.specs.{Lists.is_rising, Lists.sorted_set, Lists.with_member, Covers.list_before}
 use Rattle.loc_cover.specs.Numbered.{IsWithin}
 use Rattle.loc_laws_order.proofs.Sets.{any_weaker}
 use Rattle.loc_edges.proofs.SortedSet.{IsOrderBy, from_less, irrefl, less, same_from_neither}

@@ -1,29 +1,21 @@
 -- The list above an edge, made from the list above the edge just below it, and its number.
 use Rattle.std.proofs.Common.{◌≡◌, ◌≢◌, ℕ, ◌+◌, ◌<◌, Bool, true, List, [], ◌∷◌, length, get_or, refl, sym, ◌∙◌, ap, subst, inl, inr, arith, Option, Some, None}
-use Rattle.std.specs.Prelude.{nat_lt, IfSome}
-use Rattle.std.specs.List.{list_all, list_any}
-use Rattle.std.specs.Option.{is_some}
-use Rattle.std.proofs.Math.ListN.{set}
+use Rattle.std.specs.{Prelude.nat_lt, Prelude.IfSome, List.list_all, List.list_any, Option.is_some}
+use Rattle.std.proofs.{Math.ListN.set, lemmas.List.Folds.list_any-append, lemmas.List.Folds.list_any_at}
 use Rattle.std.proofs.lemmas.Bool.{and_parts, or_cases, cases_eq, true≢false, ltb-true}
 use Rattle.std.proofs.lemmas.List.{get_or-set_other, get_or-set_same, get_or_append_left, get_or_read, length-append, length-set}
-use Rattle.std.proofs.lemmas.List.Folds.{list_any-append, list_any_at}
 use Rattle.loc_spec_plane.specs.Lists.{exactly_one, is_in, is_rising, numbers, sorted_set, IsRisingListOf}
 use Rattle.loc_spec_plane.specs.Tables.{Table, IsTable, AllEnds, AllEven, NoConflict, edge_numbers, has_odd}
 use Rattle.loc_spec_plane.specs.Places.{IsJustBelow}
 use Rattle.loc_spec_plane.specs.Covers.{cover_above, cover_lists, cover_of_floor, feature_count, is_over, list_before}
-use Rattle.loc_laws_order.proofs.Kept.{numbers_rise, rising_kept}
-use Rattle.loc_laws_order.proofs.Booleans.{or_none}
-use Rattle.loc_laws_order.proofs.Unique.{rising-unique}
-use Rattle.loc_laws_rays.proofs.Members.{in_cover}
-use Rattle.loc_laws_rays.proofs.Parity.{exactly_one-false}
+use Rattle.loc_laws_order.proofs.{Kept.numbers_rise, Kept.rising_kept, Booleans.or_none, Unique.rising-unique}
+use Rattle.loc_laws_rays.proofs.{Members.in_cover, Parity.exactly_one-false}
 use Rattle.loc_edges.proofs.SortedSet.{any-sorted_set, rising-sorted_set}
 use Rattle.loc_cover.specs.declared.fault.LegendFault.{LegendFault}
 use Rattle.loc_cover.specs.declared.fault.LegendFault.TheVariants.{ManyCovers, NoMemory}
-use Rattle.loc_cover.specs.Legends.{IsRefused}
-use Rattle.loc_cover.specs.Numbered.{IsNumbered, IsWithin, covers_of}
+use Rattle.loc_cover.specs.{Legends.IsRefused, Numbered.IsNumbered, Numbered.IsWithin, Numbered.covers_of}
 use Rattle.loc_cover.specs.Stores.{StoreRows, IsStore, IsPast, GainsAtMost, lists_in, lists_of}
-use Rattle.loc_cover.proofs.Gathered.{any_range}
-use Rattle.loc_cover.proofs.JustBelow.{over_just_below, over_nothing}
+use Rattle.loc_cover.proofs.{Gathered.any_range, JustBelow.over_just_below, JustBelow.over_nothing}
 use Rattle.loc_cover.proofs.Lexicographic.{any_map, lists_by_before, sum_within}
 
 -- ---- the list

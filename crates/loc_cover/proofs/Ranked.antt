@@ -4,12 +4,10 @@ use Rattle.std.specs.Prelude.{nat_lt, ◌==◌, count_by}
 use Rattle.std.specs.List.{list_all}
 use Rattle.std.proofs.lemmas.Bool.{and_right, and_parts, and_from, or_left, or_right, or_from, or_cases, both_ways, cases_lt, true≢false, false_from_ne_true, not-true, eq-eqb, eqb-true, lt-ltb, le-ltb, ltb-true}
 use Rattle.std.proofs.lemmas.List.Sums.{sum_by-cons}
-use Rattle.loc_spec_plane.specs.Lists.{is_in}
-use Rattle.loc_spec_plane.specs.Points.{before}
+use Rattle.loc_spec_plane.specs.{Lists.is_in, Points.before}
 use Rattle.loc_spec_plane.specs.Tables.{Table, IsTable, NoConflict, corner, edge, lo_of, edge_numbers}
 use Rattle.loc_spec_plane.specs.Places.{alive, alive_at, is_edge, lower_of, IsJustBelow}
-use Rattle.loc_laws_order.proofs.Sides.{lower-asym}
-use Rattle.loc_laws_order.proofs.TableOrder.{corner_before, numbers_within}
+use Rattle.loc_laws_order.proofs.{Sides.lower-asym, TableOrder.corner_before, TableOrder.numbers_within}
 use Rattle.loc_laws_rays.proofs.Members.{in_numbers}
 use Rattle.loc_cover.proofs.JustBelow.{alive_at_begin, lower_than}
 

@@ -1,28 +1,20 @@
 -- The rows of a legend are in order, and their numbers in range.
 use Rattle.std.proofs.Common.{◌≡◌, ℕ, ◌<◌, ◌≤◌, Bool, true, not, ◌&&◌, List, [], ◌∷◌, length, get_or, map, refl, sym, ◌∙◌, ap, subst, inl, inr, arith, Option, Some, None}
-use Rattle.std.specs.Prelude.{All, IfSome, nat_lt}
-use Rattle.std.specs.List.{list_all, list_any}
+use Rattle.std.specs.{Prelude.All, Prelude.IfSome, Prelude.nat_lt, List.list_all, List.list_any}
 use Rattle.std.proofs.lemmas.Bool.{and_parts, and_from, both_ways, cases_lt, not_from_false, ltb-true, true_from_ne_false}
-use Rattle.std.proofs.lemmas.List.{get_or_past, length-map}
-use Rattle.std.proofs.lemmas.List.FromFn.{length-range_with_len}
-use Rattle.std.proofs.lemmas.List.Folds.{list_any_at}
-use Rattle.std.proofs.lemmas.Option.{slice_get-get_or}
+use Rattle.std.proofs.{lemmas.List.get_or_past, lemmas.List.length-map, lemmas.List.FromFn.length-range_with_len}
+use Rattle.std.proofs.{lemmas.List.Folds.list_any_at, lemmas.Option.slice_get-get_or}
 use Rattle.loc_spec_plane.specs.Lists.{IsRisingListOf, is_rising, numbers, sorted_set}
 use Rattle.loc_spec_plane.specs.Points.{is_above}
 use Rattle.loc_spec_plane.specs.Tables.{Table, corner, edge, edge_numbers, ends_at, has}
 use Rattle.loc_spec_plane.specs.Places.{alive, alive_at, is_edge, IsFloor}
 use Rattle.loc_spec_plane.specs.Covers.{cover_above, cover_lists, feature_count, is_over, list_before}
-use Rattle.loc_laws_order.proofs.ListLaws.{is_in-get}
-use Rattle.loc_laws_order.proofs.Kept.{all_filter}
-use Rattle.loc_laws_order.proofs.Sets.{any_some}
+use Rattle.loc_laws_order.proofs.{ListLaws.is_in-get, Kept.all_filter, Sets.any_some}
 use Rattle.loc_laws_order.proofs.TableOrder.{all_from, numbers_within}
 use Rattle.loc_laws_rays.proofs.Members.{feature_below}
-use Rattle.loc_edges.proofs.Counts.{length-sorted_set}
-use Rattle.loc_edges.proofs.SortedSet.{any-sorted_set, rising-sorted_set}
-use Rattle.loc_cover.specs.Legends.{AreLists, IsFew}
-use Rattle.loc_cover.specs.Numbered.{covers_of}
-use Rattle.loc_cover.proofs.Exchanging.{all_below}
-use Rattle.loc_cover.proofs.Lexicographic.{lists_by_before, none_fails}
+use Rattle.loc_edges.proofs.{Counts.length-sorted_set, SortedSet.any-sorted_set, SortedSet.rising-sorted_set}
+use Rattle.loc_cover.specs.{Legends.AreLists, Legends.IsFew, Numbered.covers_of}
+use Rattle.loc_cover.proofs.{Exchanging.all_below, Lexicographic.lists_by_before, Lexicographic.none_fails}
 use Rattle.loc_cover.proofs.Numbering.{above_rises}
 
 -- ---- the members of a list

@@ -2,18 +2,14 @@
 use Rattle.std.proofs.Common.{◌≡◌, ℕ, suc, ◌+◌, ◌<◌, ◌≤◌, true, false, List, [], ◌∷◌, ◌++◌, length, get_or, take, drop, map, refl, sym, ◌∙◌, ap, subst, inl, inr, arith, ◌≢◌, Some, None, Ordering, Less, Equal, Greater}
 use Rattle.std.specs.Prelude.{nat_lt, ◌==◌, sum_by}
 use Rattle.std.specs.List.{drop-map, insert, list_all, take-map}
-use Rattle.std.specs.BTreeMap.{insert_entry}
-use Rattle.std.specs.Map.{lookup}
-use Rattle.std.proofs.Math.Seq.{get_or-append_seam}
+use Rattle.std.specs.{BTreeMap.insert_entry, Map.lookup, Cmp.Lexicographic.slice_cmp}
+use Rattle.std.proofs.{Math.Seq.get_or-append_seam, lemmas.List.Edits.length-insert}
 use Rattle.std.proofs.lemmas.Bool.{and_parts, and_from, or_from, or_left, or_parts, or_right, true≢false, false_from_ne_true, eq-eqb, lt-ltb, ltb-true, cases_Bool, cases_eq, cond-true, cond-false}
 use Rattle.std.proofs.lemmas.List.{get_or_append_left, length-append, length-map, map-append, take-append-drop}
-use Rattle.std.proofs.lemmas.List.Edits.{length-insert}
 use Rattle.std.proofs.lemmas.List.Sorted.{IsPermutation-insert, list_any-IsPermutation}
 use Rattle.std.proofs.lemmas.List.Sums.{sum_by-cons, sum_by-insert}
-use Rattle.std.specs.Cmp.Lexicographic.{slice_cmp}
 use Rattle.std.specs.Ordering.{MatchOrdering, is_eq, match_ordering, nat_cmp}
-use Rattle.loc_spec_plane.specs.Lists.{is_rising, sorted_set, with_member}
-use Rattle.loc_spec_plane.specs.Covers.{list_before}
+use Rattle.loc_spec_plane.specs.{Lists.is_rising, Lists.sorted_set, Lists.with_member, Covers.list_before}
 use Rattle.loc_edges.proofs.SortedSet.{rising-sorted_set}
 use Rattle.loc_spec_text.specs.Limits.{most_members}
 use Rattle.loc_cover.specs.Stores.{StoreRows, IsStore, is_among, lists_in, lists_of}

@@ -1,8 +1,7 @@
 -- Features exchanged in a list that rises: `IsExchange` and `is_marked_odd`.
 use Rattle.std.specs.Prelude.{◌≡◌, ℕ, Bool, ◌&&◌, List, nat_lt, ◌==◌, IsTrue}
 use Rattle.std.specs.List.{list_any}
-use Rattle.loc_spec_plane.specs.Lists.{exactly_one, is_in, is_rising}
-use Rattle.loc_spec_plane.specs.declared.Mark.{Mark}
+use Rattle.loc_spec_plane.specs.{Lists.exactly_one, Lists.is_in, Lists.is_rising, declared.Mark.Mark}
 
 -- ys rises, and has f exactly where xs has it not, and else the members of xs
 pub record IsExchange (f : ℕ) (xs ys : List ℕ) : Type 0 where

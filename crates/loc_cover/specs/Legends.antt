@@ -1,11 +1,9 @@
 -- What a legend holds and says of a place: `LegendRows`, `covering` and `touching`; what every legend owes: `IsSound`; what it owes to a table: `FitsTable`, and `IsTrueLegend`; and when a table has none: `IsFew` and `IsRefused`.
 use Rattle.std.specs.Prelude.{◌≡◌, ℕ, ◌<◌, ◌≤◌, nat_lt, List, [], length, get_or, filter, not, sum_by, All, Option, Some, None, IsTrue}
 use Rattle.loc_spec_text.specs.Limits.{most_features, most_members, most_pieces}
-use Rattle.loc_spec_plane.specs.Lists.{IsRisingListOf, is_in, is_rising}
-use Rattle.loc_spec_plane.specs.declared.Place.{Place}
+use Rattle.loc_spec_plane.specs.{Lists.IsRisingListOf, Lists.is_in, Lists.is_rising, declared.Place.Place}
 use Rattle.loc_spec_plane.specs.declared.Place.TheVariants.{Corner, Border, Area}
-use Rattle.loc_spec_plane.specs.Tables.{Table, corner, has}
-use Rattle.loc_spec_plane.specs.Places.{IsFloor}
+use Rattle.loc_spec_plane.specs.{Tables.Table, Tables.corner, Tables.has, Places.IsFloor}
 use Rattle.loc_spec_plane.specs.Covers.{cover_above, cover_lists, cover_sum, has_at, list_before}
 use Rattle.loc_cover.specs.declared.fault.LegendFault.{LegendFault}
 use Rattle.loc_cover.specs.declared.fault.LegendFault.TheVariants.{ManyCovers, NoMemory}

@@ -2,8 +2,7 @@
 use Rattle.std.specs.Prelude.{◌≡◌, ◌≢◌, ℕ, ◌+◌, ◌<◌, Bool, List, [], length, get_or, Option, Some, None, map, true}
 use Rattle.std.specs.List.{list_any}
 use Rattle.loc_spec_plane.specs.Tables.{Table, AllEnds, AllEven, NoConflict, edge_numbers}
-use Rattle.loc_spec_plane.specs.Places.{IsJustBelow}
-use Rattle.loc_spec_plane.specs.Covers.{cover_above}
+use Rattle.loc_spec_plane.specs.{Places.IsJustBelow, Covers.cover_above}
 
 -- every corner is an end, marks are even at every corner, and no two edges conflict: so one cover list follows from the one below it
 pub record IsEven (t : Table) : Type 0 where

@@ -1,10 +1,7 @@
 -- The distinct lists that were found so far: `StoreRows`, `IsStore`, `short_list`, `AreShort`, `is_among`, `IsAt`, `GainsAtMost` and `IsPast`.
 use Rattle.std.specs.Prelude.{◌≡◌, ℕ, zero, suc, ◌<◌, ◌≤◌, nat_lt, Bool, List, [], ◌∷◌, ◌++◌, ◌⊎◌, length, get_or, map, sum_by, Option, Some, None, IsTrue}
-use Rattle.std.specs.List.{list_all, list_any}
-use Rattle.std.specs.Cmp.Lexicographic.{slice_cmp}
-use Rattle.std.specs.Ordering.{is_eq, nat_cmp}
-use Rattle.loc_spec_plane.specs.Lists.{is_in, is_rising, sorted_set}
-use Rattle.loc_spec_plane.specs.Covers.{list_before}
+use Rattle.std.specs.{List.list_all, List.list_any, Cmp.Lexicographic.slice_cmp, Ordering.is_eq, Ordering.nat_cmp}
+use Rattle.loc_spec_plane.specs.{Lists.is_in, Lists.is_rising, Lists.sorted_set, Covers.list_before}
 use Rattle.loc_spec_text.specs.Limits.{most_members}
 use Rattle.loc_cover.specs.declared.fault.LegendFault.{LegendFault}
 use Rattle.loc_cover.specs.declared.fault.LegendFault.TheVariants.{ManyCovers, NoMemory}

@@ -1,18 +1,12 @@
 -- Examples, computed: layers in both forms and their first faults.
 use Rattle.std.proofs.Common.{◌≡◌, [], ◌∷◌, ◌++◌, refl, codes}
 use Rattle.std.specs.Prelude.{Ok, Err, pos, replicate}
-use Rattle.std.specs.Char.{encode_utf8}
-use Rattle.std.specs.Fmt.{digits}
-use Rattle.std.specs.Str.{is_utf8, chars}
-use Rattle.csv.specs.Machine.{next_record}
-use Rattle.csv.specs.Reading.{records_from, strip_bom}
-use Rattle.loc_spec_plane.specs.Points.{point_at}
-use Rattle.loc_spec_plane.specs.Rings.{Ring}
+use Rattle.std.specs.{Char.encode_utf8, Fmt.digits, Str.is_utf8, Str.chars}
+use Rattle.csv.specs.{Machine.next_record, Reading.records_from, Reading.strip_bom}
+use Rattle.loc_spec_plane.specs.{Points.point_at, Rings.Ring}
 use Rattle.loc_spec_text.specs.declared.Form.TheVariants.{Csv, Lines}
-use Rattle.loc_spec_text.specs.declared.TextFault.TheVariants.{Syntax}
-use Rattle.loc_spec_text.specs.Number.{scaled, unit}
-use Rattle.loc_spec_text.specs.Reader.{geometry_of, wide_geometry_of}
-use Rattle.loc_spec_text.specs.Reading.{reading}
+use Rattle.loc_spec_text.specs.{declared.TextFault.TheVariants.Syntax, Number.scaled, Number.unit}
+use Rattle.loc_spec_text.specs.{Reader.geometry_of, Reader.wide_geometry_of, Reading.reading}
 use Rattle.loc_csvform.specs.declared.faults.LayerFault.TheVariants.{NoColumn, Ragged, BadText, LongId, Text}
 use Rattle.loc_csvform.specs.Layer.{layer_of, rows_of}
 

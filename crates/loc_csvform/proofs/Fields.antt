@@ -1,10 +1,8 @@
 -- The fields of a record, as the code reads them.
 use Rattle.std.proofs.Common.{◌≡◌, ℕ, zero, suc, ◌<◌, ◌≤◌, List, [], ◌∷◌, Bool, true, false, cond, length, get_or, Option, Some, None, Result, Ok, Err, Bor, refl, sym, ◌∙◌, ap, arith, position}
 use Rattle.std.specs.Prelude.{unwrap_or, option_map, slice_index_or, nat_lt, MatchResult, IsUtf8}
-use Rattle.std.specs.Result.{is_ok}
-use Rattle.std.specs.Str.{is_utf8}
-use Rattle.std.proofs.lemmas.Bool.{ltb-false, ltb-true}
-use Rattle.std.proofs.lemmas.List.Sums.{position_or_len_is}
+use Rattle.std.specs.{Result.is_ok, Str.is_utf8}
+use Rattle.std.proofs.{lemmas.Bool.ltb-false, lemmas.Bool.ltb-true, lemmas.List.Sums.position_or_len_is}
 use Rattle.std.proofs.lemmas.Str.{IsUtf8-from_is_utf8, is_utf8-from_IsUtf8}
 use Rattle.csv.specs.Records.{field_at}
 

@@ -1,9 +1,8 @@
 -- What the reading of a record takes from the front of what a reader has left.
 use Rattle.std.proofs.Common.{◌≡◌, ℕ, ◌+◌, ◌<◌, List, [], ◌∷◌, Bool, true, false, length, Option, Some, None, Bor, refl, sym, ◌∙◌, ap, subst}
 use Rattle.std.specs.Prelude.{unwrap_or}
-use Rattle.csv.specs.Machine.{Read, next_record}
+use Rattle.csv.specs.{Machine.Read, Machine.next_record, declared.parser.State.State}
 use Rattle.csv.specs.Reading.{NextIs, ReadRecord, ReadsNext, ReadsOn, default_config, pending_of, records_from, source_of}
-use Rattle.csv.specs.declared.parser.State.{State}
 use Rattle.loc_csvform.specs.Records.{IsReading, Takes, TextReader, TookFront, bytes_of}
 use Rattle.loc_csvform.proofs.Machine.{first_more, first_none, next_leaves, next_shorter}
 

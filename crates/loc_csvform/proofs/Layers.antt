@@ -1,19 +1,13 @@
 -- The layer of a text, row by row.
 use Rattle.std.proofs.Common.{◌≡◌, ℕ, ◌+◌, List, [], ◌∷◌, Bool, true, false, Option, Some, None, Result, Ok, Err, codes, length, cond, refl, sym, subst, ap, map, filter}
-use Rattle.std.specs.List.{enumerate_from}
+use Rattle.std.specs.{List.enumerate_from, Fmt.decimal, Result.IsErrAnd, Result.IfErr}
 use Rattle.std.proofs.lemmas.Bool.{eq-eqb}
-use Rattle.std.specs.Fmt.{decimal}
-use Rattle.csv.specs.Reading.{default_config, records, strip_bom}
-use Rattle.std.specs.Result.{IsErrAnd, IfErr}
-use Rattle.loc_spec_text.specs.declared.Form.TheVariants as form
-use Rattle.loc_spec_text.specs.declared.TextFault.{TextFault}
-use Rattle.loc_spec_text.specs.Bytes.{is_blank, lines, result_and_then}
+use Rattle.loc_spec_text.specs.{declared.TextFault.TextFault, Bytes.is_blank, Bytes.lines, Bytes.result_and_then}
 use Rattle.loc_spec_text.specs.Reading.{Polygons, reading}
 use Rattle.loc_rings.specs.Values.{Feature}
-use Rattle.loc_csvform.specs.declared.faults.LayerFault.{LayerFault}
+use Rattle.loc_csvform.specs.{declared.faults.LayerFault.LayerFault, Faults.IsFaultOf}
 use Rattle.loc_csvform.specs.declared.faults.LayerFault.TheVariants as f
-use Rattle.loc_csvform.specs.Faults.{IsFaultOf}
-use Rattle.loc_csvform.specs.Layer.{LayerRead, RowRead, column, csv_row, features_from, field, is_row_line, layer_of, line_row, row_id, row_of, text_reading, with_row}
+use Rattle.loc_csvform.specs.Layer.{LayerRead, RowRead, column, csv_row, csv_rows, features_from, field, is_row_line, line_row, row_id, row_of, text_reading, with_row}
 
 -- the layer, given the features of the lines so far and the rest of the text behind them
 abbrev pub later : ℕ → ℕ → List ℕ → List Feature → LayerRead
@@ -57,18 +51,19 @@ pub handed : {X : Type 0} (r : Result X LayerFault) (read : RowRead) (fault : La
 handed (Ok x) read fault features texts is of = absurd is
 handed (Err e) read fault features texts is of = row_fault texts read features e (subst (IsFaultOf read) (sym is) of)
 
--- a text in form csv without a record
-pub no_header : (scale : ℕ) (text : List ℕ) → [] ≡ records default_config (strip_bom text) → layer_of form.Csv scale text ≡ Err f.NoColumn
-unfolding layer_of
-no_header scale text none = rw (sym none) refl
+-- the layer of records, of which the first is the header
+abbrev pub of_records : ℕ → List (List (List ℕ)) → LayerRead
+of_records scale records = result_and_then (csv_rows records) (λ rows. features_from (reading scale) rows [])
+
+-- one of no records
+pub no_header : (scale : ℕ) (records : List (List (List ℕ))) → records ≡ [] → of_records scale records ≡ Err f.NoColumn
+no_header scale records none = rw none refl
 
 -- one whose first record has no geometry column
-pub no_column : (scale : ℕ) (text : List ℕ) (header : List (List ℕ)) (below : List (List (List ℕ))) → header ∷ below ≡ records default_config (strip_bom text) → column (codes "wkt") header ≡ None → layer_of form.Csv scale text ≡ Err f.NoColumn
-unfolding layer_of
-no_column scale text header below cut none = rw (sym cut, none) refl
+pub no_column : (scale : ℕ) (records : List (List (List ℕ))) (header : List (List ℕ)) (below : List (List (List ℕ))) → records ≡ header ∷ below → column (codes "wkt") header ≡ None → of_records scale records ≡ Err f.NoColumn
+no_column scale records header below cut none = rw (cut, none) refl
 
 -- and one whose first record has it
-pub under_header : (scale : ℕ) (text : List ℕ) (header : List (List ℕ)) (below : List (List (List ℕ))) (wkt : ℕ) → header ∷ below ≡ records default_config (strip_bom text) → column (codes "wkt") header ≡ Some wkt
-    → layer_of form.Csv scale text ≡ features_from (reading scale) (map (csv_row (length header) wkt (column (codes "id") header)) (enumerate_from 1 below)) []
-unfolding layer_of
-under_header scale text header below wkt cut some = rw (sym cut, some) refl
+pub under_header : (scale : ℕ) (records : List (List (List ℕ))) (header : List (List ℕ)) (below : List (List (List ℕ))) (wkt : ℕ) → records ≡ header ∷ below → column (codes "wkt") header ≡ Some wkt
+    → of_records scale records ≡ features_from (reading scale) (map (csv_row (length header) wkt (column (codes "id") header)) (enumerate_from 1 below)) []
+under_header scale records header below wkt cut some = rw (cut, some) refl

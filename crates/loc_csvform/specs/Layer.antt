@@ -1,18 +1,13 @@
 -- The layer of a text in either form, or its one fault. The words: `Row`, `RowRead`, `LayerRead`, `line_row`, `is_row_line`, `line_rows`, `column`, `field`,
 -- `row_id`, `row_of`, `csv_row`, `rows_under`, `csv_rows`, `rows_of`, `text_reading`, `with_feature`, `with_row`, `features_from`, `layer_of`.
 use Rattle.std.specs.Prelude.{ℕ, ◌+◌, Bool, not, List, [], ◌∷◌, ◌++◌, map, length, codes, filter, nat_lt, nat_le, ◌==◌, if◌then◌else◌, Option, Some, None, option_map, unwrap_or, Result, Ok, Err, position, slice_index_or}
-use Rattle.std.specs.Fmt.{decimal}
-use Rattle.std.specs.List.{enumerate_from}
-use Rattle.std.specs.Str.{is_utf8}
+use Rattle.std.specs.{Fmt.decimal, List.enumerate_from, Str.is_utf8}
 use Rattle.csv.specs.Reading.{records, strip_bom, default_config}
-use Rattle.loc_spec_text.specs.declared.Form.{Form}
+use Rattle.loc_spec_text.specs.{declared.Form.Form, declared.TextFault.TextFault, Reading.Polygons, Reading.reading}
 use Rattle.loc_spec_text.specs.declared.Form.TheVariants as form
-use Rattle.loc_spec_text.specs.declared.TextFault.{TextFault}
 use Rattle.loc_spec_text.specs.Bytes.{is_blank, lines, same_word, result_and_then}
-use Rattle.loc_spec_text.specs.Reading.{Polygons, reading}
-use Rattle.loc_rings.specs.Values.{Feature}
+use Rattle.loc_rings.specs.{Values.Feature, Layers.point_count, Layers.layer_points}
 use Rattle.loc_spec_text.specs.Limits.{most_features, most_id_bytes, most_points}
-use Rattle.loc_rings.specs.Layers.{point_count, layer_points}
 use Rattle.loc_csvform.specs.declared.faults.LayerFault.{LayerFault}
 use Rattle.loc_csvform.specs.declared.faults.LayerFault.TheVariants.{NoColumn, Ragged, BadText, LongId, Text, ManyFeatures, ManyPoints}
 

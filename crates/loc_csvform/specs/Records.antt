@@ -1,9 +1,8 @@
 -- What a reader of a text in form csv has left. The words: `TextReader`, `bytes_of`, `records_of`, `IsReading`, `TookFront`, `Takes`.
 use Rattle.std.specs.Prelude.{◌≡◌, ℕ, ◌+◌, ◌<◌, ◌≤◌, Bool, true, false, List, [], ◌∷◌, length, Some, unwrap_or, All}
 use Rattle.std.specs.Borrow.{Bor}
-use Rattle.csv.specs.Machine.{ends_at_end}
+use Rattle.csv.specs.{Machine.ends_at_end, declared.reader.Reader.Reader}
 use Rattle.csv.specs.Reading.{Ready, default_config, reader_config, reader_state, reader_trim, records_from, source_of}
-use Rattle.csv.specs.declared.reader.Reader.{Reader}
 use Rattle.csv.specs.declared.reader.Trim.TheVariants as trim
 
 -- a reader of a text

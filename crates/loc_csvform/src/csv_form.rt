@@ -6,10 +6,10 @@ ghost use Rattle.std.specs.List.{enumerate_from, list_all};
 ghost use Rattle.std.specs.Str.{is_utf8};
 ghost use Rattle.csv.specs.Records.{fields_of};
 ghost use Rattle.loc_spec_text.specs.declared.Form.TheVariants as form;
-ghost use Rattle.loc_spec_text.specs.Bytes.{capitals, same_word};
+ghost use Rattle.loc_spec_text.specs.Bytes.{capitals, result_and_then, same_word};
 ghost use Rattle.loc_spec_text.specs.Reading.{reading};
 ghost use Rattle.loc_csvform.specs.Faults.{IsFaultOf};
-ghost use Rattle.loc_csvform.specs.Layer.{column, csv_row, features_from, layer_of, row_id, row_of};
+ghost use Rattle.loc_csvform.specs.Layer.{column, csv_row, csv_rows, features_from, layer_of, row_id, row_of};
 ghost use Rattle.loc_csvform.specs.Records.{IsReading, bytes_of, records_of};
 ghost use Rattle.loc_spec_text.specs.Limits.{most_id_bytes, most_text};
 
@@ -154,6 +154,27 @@ fn read_rows(
     Ok(layer)
 }
 
+// The layer of the records that are left, of which the first is the header.
+fn read_records(
+    alloc: Global,
+    reader: &mut Reader<&[u8]>,
+    fields: &mut ByteRecord,
+    scale: Scale,
+) -> Result<Layer, LayerFault>
+    requires reading { IsReading reader.old }
+    requires size { length (bytes_of reader.old) ≤ most_text }
+    ensures ok { IfOk result (λ layer. result_and_then (csv_rows (records_of reader.old)) (λ rows. features_from (reading scale) rows []) ≡ Ok layer) }
+    ensures err { IfErr result (IsFaultOf (result_and_then (csv_rows (records_of reader.old)) (λ rows. features_from (reading scale) rows []))) }
+{
+    if !next_record(reader, fields)? {
+        return Err(LayerFault::NoColumn);
+    }
+    let Some(columns) = columns_of(fields) else {
+        return Err(LayerFault::NoColumn);
+    };
+    read_rows(alloc, reader, fields, &columns, scale)
+}
+
 /// The layer of a text in form csv, whose first record is the header.
 pub(crate) fn read_csv(alloc: Global, text: &[u8], scale: Scale) -> Result<Layer, LayerFault>
     requires size { length text.now ≤ most_text }
@@ -162,11 +183,5 @@ pub(crate) fn read_csv(alloc: Global, text: &[u8], scale: Scale) -> Result<Layer
 {
     let mut reader = reader_of(alloc, text);
     let mut fields = ByteRecord::new(alloc);
-    if !next_record(&mut reader, &mut fields)? {
-        return Err(LayerFault::NoColumn);
-    }
-    let Some(columns) = columns_of(&fields) else {
-        return Err(LayerFault::NoColumn);
-    };
-    read_rows(alloc, &mut reader, &mut fields, &columns, scale)
+    read_records(alloc, &mut reader, &mut fields, scale)
 }

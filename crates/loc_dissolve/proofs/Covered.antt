@@ -3,9 +3,7 @@ use Rattle.std.proofs.Common.{◌≡◌, ℕ, ◌+◌, ◌*◌, ◌<◌, Bool, t
 use Rattle.std.specs.Prelude.{◌==◌}
 use Rattle.std.specs.List.{list_any, range_with_len}
 use Rattle.std.proofs.lemmas.Bool.{cases_eq, cond-true, cond-false, eq-eqb, ne_eqb, and_right}
-use Rattle.std.proofs.lemmas.List.{append-nil}
-use Rattle.std.proofs.lemmas.List.Elements.{filter-append}
-use Rattle.std.proofs.lemmas.List.Folds.{list_any-append}
+use Rattle.std.proofs.{lemmas.List.append-nil, lemmas.List.Elements.filter-append, lemmas.List.Folds.list_any-append}
 use Rattle.loc_spec_plane.specs.Lists.{numbers}
 use Rattle.loc_laws_order.proofs.Booleans.{or_none, or_true}
 use Rattle.loc_half.proofs.Corners.{range_more}

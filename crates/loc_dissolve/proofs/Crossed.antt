@@ -4,15 +4,12 @@ use Rattle.std.specs.Prelude.{◌==◌, All, Some, count_by, nat_lt, slice_get}
 use Rattle.std.specs.List.{list_any}
 use Rattle.std.proofs.lemmas.Bool.{cases_Bool, cases_lt, cond-true, cond-false, lt-ltb, le-ltb, ltb-true, and_from, and_parts, eqb-true, or_cases, true≢false}
 use Rattle.std.proofs.lemmas.Option.{get_or_from_slice_get}
-use Rattle.loc_spec_plane.specs.declared.Mark.{Mark}
-use Rattle.loc_spec_plane.specs.Lists.{exactly_one, is_in, numbers}
+use Rattle.loc_spec_plane.specs.{declared.Mark.Mark, Lists.exactly_one, Lists.is_in, Lists.numbers}
 use Rattle.loc_spec_plane.specs.Tables.{Table, IsTable, has_odd, mark_before}
 use Rattle.loc_spec_plane.specs.Covers.{cover_above, feature_count, is_over}
 use Rattle.loc_spec_plane.proofs.Checks.{is_in-past}
-use Rattle.loc_laws_order.proofs.Booleans.{same-from_both}
-use Rattle.loc_laws_order.proofs.Kept.{is_in-filter, numbers_rise, rising_kept}
-use Rattle.loc_laws_order.proofs.TableOrder.{numbers_within}
-use Rattle.loc_laws_order.proofs.Unique.{rising-unique}
+use Rattle.loc_laws_order.proofs.{Booleans.same-from_both, Kept.is_in-filter, Kept.numbers_rise, Kept.rising_kept}
+use Rattle.loc_laws_order.proofs.{TableOrder.numbers_within, Unique.rising-unique}
 use Rattle.loc_laws_rays.proofs.Members.{feature_below, in_numbers as in_numbers-below}
 use Rattle.loc_spec_groups.specs.Groups.{covers_lower, covers_upper, is_kept}
 use Rattle.loc_laws_dissolve.proofs.Chosen.{member_at}

@@ -2,21 +2,16 @@
 use Rattle.std.proofs.Common.{◌≡◌, ℕ, ◌-◌, ◌*◌, Bool, false, ◌&&◌, List, length, get_or, map, filter, sym, ◌∙◌, ap, ap₂, subst, arith}
 use Rattle.std.specs.Prelude.{◌==◌, count_by}
 use Rattle.std.specs.List.{list_any, range_with_len}
-use Rattle.std.proofs.Math.Path.{fun_ext}
-use Rattle.std.proofs.lemmas.List.Sums.{length-filter}
-use Rattle.loc_spec_plane.specs.Lists.{numbers}
-use Rattle.loc_spec_plane.specs.Points.{Point, Edge}
-use Rattle.loc_spec_plane.specs.Places.{IsBorderless}
-use Rattle.loc_spec_plane.specs.Rings.{Rings, covers, segments}
+use Rattle.std.proofs.{Math.Path.fun_ext, lemmas.List.Sums.length-filter}
+use Rattle.loc_spec_plane.specs.{Lists.numbers, Points.Point, Points.Edge, Places.IsBorderless}
+use Rattle.loc_spec_plane.specs.{Rings.Rings, Rings.covers, Rings.segments, HalfEdges.half_edge_count}
 use Rattle.loc_spec_plane.specs.Tables.{Table, IsTable, AllEnds, AllEven, NoConflict, edge}
-use Rattle.loc_spec_plane.specs.HalfEdges.{half_edge_count}
 use Rattle.loc_spec_plane.specs.Faces.{IsFaces, leads_face}
 use Rattle.loc_place.specs.Planar.{IsPlanar}
 use Rattle.loc_half.specs.HalfEdgeLists.{HalfEdgeLists, AreHalfEdges, next_in}
 use Rattle.loc_faces.specs.FaceLists.{FaceLists, AreFaces, face_in}
 use Rattle.loc_faces.specs.Subdivision.{face_at, next_at}
-use Rattle.loc_faces.proofs.Computed.{face_same, next_same}
-use Rattle.loc_faces.proofs.Known.{are_halves, faces_are, halves}
+use Rattle.loc_faces.proofs.{Computed.face_same, Computed.next_same, Known.are_halves, Known.faces_are, Known.halves}
 use Rattle.loc_spec_groups.specs.Groups.{closed_rings, covers_upper, face_rings, group_polygons, group_table, kept_edges}
 use Rattle.loc_laws_dissolve.specs.Laws.{by_member}
 use Rattle.loc_laws_dissolve.proofs.Grouped.{table_law}

@@ -4,15 +4,12 @@ use Rattle.std.specs.Prelude.{◌==◌, All, count_by, nat_lt, if◌then◌else�
 use Rattle.std.proofs.Math.Seq.{get_or-append_seam}
 use Rattle.std.proofs.lemmas.Bool.{cases_Bool, cases_eq, cases_lt, cond-true, cond-false, eq-eqb, ne_eqb, ltb-true, and_from, and_parts, and_right}
 use Rattle.std.proofs.lemmas.List.{get_or_append_left, map-append, take_more}
-use Rattle.std.proofs.lemmas.List.Elements.{filter-append}
-use Rattle.std.proofs.lemmas.List.Folds.{list_any-append}
+use Rattle.std.proofs.{lemmas.List.Elements.filter-append, lemmas.List.Folds.list_any-append}
 use Rattle.loc_spec_plane.specs.Lists.{is_in, is_rising, numbers}
-use Rattle.loc_laws_order.proofs.Booleans.{or_none, or_true}
-use Rattle.loc_laws_order.proofs.TableOrder.{rises}
+use Rattle.loc_laws_order.proofs.{Booleans.or_none, Booleans.or_true, TableOrder.rises}
 use Rattle.loc_half.proofs.Corners.{range_more}
 use Rattle.loc_edges.specs.Ending.{row_of}
-use Rattle.loc_dissolve.specs.Keeping.{changes}
-use Rattle.loc_dissolve.specs.declared.crossing.Crossing.{Crossing}
+use Rattle.loc_dissolve.specs.{Keeping.changes, declared.crossing.Crossing.Crossing}
 
 -- group g is covered on exactly one side, by the rows of the edge
 abbrev pub does_change : Crossing → List ℕ → ℕ → Bool

@@ -1,18 +1,12 @@
 -- The groups of a layer, all together.
 use Rattle.std.proofs.Common.{◌≡◌, ℕ, zero, suc, ◌+◌, ◌-◌, ◌<◌, ◌≤◌, Bool, false, ◌&&◌, ◌||◌, List, [], ◌∷◌, length, get_or, map, refl, sym, ◌∙◌, ap, ap₂, subst, arith}
-use Rattle.std.specs.Prelude.{All, not}
-use Rattle.std.specs.List.{list_any}
-use Rattle.std.proofs.Math.Path.{fun_ext}
-use Rattle.std.proofs.lemmas.Bool.{and_right, false_from_ne_true}
-use Rattle.std.proofs.lemmas.List.{get_or-map, length-map}
-use Rattle.std.proofs.lemmas.List.Folds.{list_any-append}
+use Rattle.std.specs.{Prelude.All, Prelude.not, List.list_any}
+use Rattle.std.proofs.{Math.Path.fun_ext, lemmas.Bool.and_right, lemmas.Bool.false_from_ne_true}
+use Rattle.std.proofs.{lemmas.List.get_or-map, lemmas.List.length-map, lemmas.List.Folds.list_any-append}
 use Rattle.loc_spec_text.specs.Bytes.{Text}
-use Rattle.loc_spec_plane.specs.Lists.{exactly_one, numbers, odd_many}
-use Rattle.loc_spec_plane.specs.Points.{Point}
-use Rattle.loc_spec_plane.specs.Rays.{crosses_right}
-use Rattle.loc_spec_plane.specs.Rings.{Rings, covers}
+use Rattle.loc_spec_plane.specs.{Lists.exactly_one, Lists.numbers, Lists.odd_many, Points.Point, Rays.crosses_right}
+use Rattle.loc_spec_plane.specs.{Rings.Rings, Rings.covers, Covers.feature_count}
 use Rattle.loc_spec_plane.specs.Tables.{Table, IsTable, AllEnds, AllEven, NoConflict, covers_by_marks, edge, edge_numbers, has_odd, noded_table_of, touches_by_marks}
-use Rattle.loc_spec_plane.specs.Covers.{feature_count}
 use Rattle.loc_laws_order.proofs.Booleans.{or_none}
 use Rattle.loc_laws_noding.specs.Laws.{NodedCount, NodedMarks}
 use Rattle.loc_half.proofs.Corners.{range_more}
@@ -23,8 +17,7 @@ use Rattle.loc_spec_groups.specs.Groups.{Group, dissolved, dissolved_group, grou
 use Rattle.loc_laws_dissolve.specs.Laws.{by_member}
 use Rattle.loc_dissolve.specs.Dissolving.{CoversAsMembers, HasKeptOnce, by_feature}
 use Rattle.loc_dissolve.specs.Grouping.{AreGroups, ids_of, in_group}
-use Rattle.loc_dissolve.proofs.Crossed.{odd_below}
-use Rattle.loc_dissolve.proofs.Grouped.{covers_so, once}
+use Rattle.loc_dissolve.proofs.{Crossed.odd_below, Grouped.covers_so, Grouped.once}
 
 -- the features that are marked have groups
 pub few_features : (layer : List Feature) (t : Table) → t ≡ noded_table_of (layer_rings layer) → NodedCount → (firsts groups : List ℕ) → AreGroups (ids_of layer) firsts groups → feature_count t ≤ length groups

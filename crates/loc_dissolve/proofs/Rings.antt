@@ -1,13 +1,9 @@
 -- The corners of a cycle, put one behind the other: what is to come is the way back to the leader, which grows shorter.
 use Rattle.std.proofs.Common.{◌≡◌, ◌≢◌, ℕ, zero, suc, ◌<◌, ◌≤◌, List, [], ◌∷◌, ◌++◌, length, map, refl, sym, ◌∙◌, ap, append_assoc, append-nil, arith}
-use Rattle.loc_spec_plane.specs.Points.{Point}
-use Rattle.loc_spec_plane.specs.Tables.{Table, IsTable, corner}
+use Rattle.loc_spec_plane.specs.{Points.Point, Tables.Table, Tables.IsTable, Tables.corner}
 use Rattle.loc_spec_plane.specs.HalfEdges.{half_edge_count, origin, way_to}
-use Rattle.loc_half.specs.HalfEdgeLists.{HalfEdgeLists, AreHalfEdges, next_in}
-use Rattle.loc_half.specs.Rounds.{after}
-use Rattle.loc_half.proofs.Going.{after-next}
-use Rattle.loc_half.proofs.Orbits.{placed, next_within}
-use Rattle.loc_half.proofs.Trails.{IsOrbit, way-trail}
+use Rattle.loc_half.specs.{HalfEdgeLists.HalfEdgeLists, HalfEdgeLists.AreHalfEdges, HalfEdgeLists.next_in, Rounds.after}
+use Rattle.loc_half.proofs.{Going.after-next, Orbits.placed, Orbits.next_within, Trails.IsOrbit, Trails.way-trail}
 use Rattle.loc_spec_groups.specs.Groups.{ring_from}
 
 -- the further corners on the way from h to the leader

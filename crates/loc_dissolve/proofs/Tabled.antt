@@ -6,21 +6,16 @@ use Rattle.std.proofs.lemmas.Bool.{and_from, and_parts, cases_eq, cond-true, con
 use Rattle.std.proofs.lemmas.List.{get_or-map, get_or_default, length-map, same_lists}
 use Rattle.std.proofs.lemmas.List.FromFn.{get_or-map-range_with_len, length-map-range_with_len, length-range_with_len}
 use Rattle.std.proofs.lemmas.List.Sums.{count_by-le-length, length-filter}
-use Rattle.loc_spec_plane.specs.declared.Mark.{Mark}
-use Rattle.loc_spec_plane.specs.Points.{Point, Edge, before}
+use Rattle.loc_spec_plane.specs.{declared.Mark.Mark, Points.Point, Points.Edge, Points.before}
 use Rattle.loc_spec_plane.specs.Lists.{is_in, is_rising, numbers, sorted_set}
 use Rattle.loc_spec_plane.specs.Tables.{Table, IsTable, corner, corner_numbers, edge, edge_numbers, ends_at, hi_of, lo_of, number_of, pair_before}
-use Rattle.loc_laws_order.proofs.Booleans.{same-from_both}
-use Rattle.loc_laws_order.proofs.Kept.{is_in-filter, numbers_rise}
-use Rattle.loc_laws_rays.proofs.Covering.{any-found}
-use Rattle.loc_laws_rays.proofs.Members.{in_numbers}
+use Rattle.loc_laws_order.proofs.{Booleans.same-from_both, Kept.is_in-filter, Kept.numbers_rise}
+use Rattle.loc_laws_rays.proofs.{Covering.any-found, Members.in_numbers}
 use Rattle.loc_laws_noding.specs.Laws.{ends_of}
-use Rattle.loc_laws_noding.proofs.Orders.{points_by_before}
-use Rattle.loc_laws_noding.proofs.SortedSet.{is-sorted_set}
+use Rattle.loc_laws_noding.proofs.{Orders.points_by_before, SortedSet.is-sorted_set}
 use Rattle.loc_spec_groups.specs.Groups.{chosen_corners, chosen_edges, chosen_table}
 use Rattle.loc_laws_dissolve.proofs.Chosen.{chosen_is_table, old_is, place_of, rising-map}
-use Rattle.loc_edges.specs.Ending.{row_of}
-use Rattle.loc_edges.specs.Parts.{GoesUpBelow, edge_mark_before, table_of_parts}
+use Rattle.loc_edges.specs.{Ending.row_of, Parts.GoesUpBelow, Parts.edge_mark_before, Parts.table_of_parts}
 
 -- one odd mark, and that of edge k
 abbrev pub one_mark : Mark

@@ -1,10 +1,8 @@
 -- The written text by the parts in which it is put: a ring closed by its first corner.
 use Rattle.std.proofs.Common.{◌≡◌, ℕ, List, [], ◌∷◌, ◌++◌, map, refl, sym, ◌∙◌, ap, append_assoc, append-nil, codes, ◌+◌}
 use Rattle.std.specs.List.{flat_map}
-use Rattle.loc_spec_plane.specs.Points.{Point}
-use Rattle.loc_spec_plane.specs.Rings.{Ring}
-use Rattle.loc_spec_text.specs.Bytes.{Text}
-use Rattle.loc_spec_text.specs.Points.{position_text, quoted_byte}
+use Rattle.loc_spec_plane.specs.{Points.Point, Rings.Ring}
+use Rattle.loc_spec_text.specs.{Bytes.Text, Points.position_text, Points.quoted_byte}
 use Rattle.loc_spec_groups.specs.Groups.{Group}
 use Rattle.loc_spec_groups.specs.GroupTexts.{group_row, listed, polygons_text, ring_text}
 use Rattle.loc_dissolve.specs.Writing.{closed_text}

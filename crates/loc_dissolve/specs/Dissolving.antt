@@ -4,11 +4,8 @@
 --   CoversAsMembers   its rings cover what its members cover
 use Rattle.std.specs.Prelude.{◌≡◌, Bool, ◌&&◌, List, [], get_or, count_by, length}
 use Rattle.std.specs.List.{list_any}
-use Rattle.loc_spec_plane.specs.Lists.{numbers}
-use Rattle.loc_spec_plane.specs.Points.{Point, Edge}
-use Rattle.loc_spec_plane.specs.Places.{IsBorderless}
-use Rattle.loc_spec_plane.specs.Rings.{covers, segments}
-use Rattle.loc_spec_plane.specs.Tables.{Table, edge}
+use Rattle.loc_spec_plane.specs.{Lists.numbers, Points.Point, Points.Edge, Places.IsBorderless}
+use Rattle.loc_spec_plane.specs.{Rings.covers, Rings.segments, Tables.Table, Tables.edge}
 use Rattle.loc_spec_text.specs.Bytes.{Text}
 use Rattle.loc_spec_groups.specs.Groups.{Group, closed_rings, is_member, kept_edges}
 use Rattle.loc_rings.specs.Values.{Feature}

@@ -3,8 +3,7 @@
 --   in_group, AreGroups         a feature has the number of a group; first features and numbers that are those of the ids
 --   IsGroupRow, AreMembers      a row of the groups of features, in order; such a row for each list
 use Rattle.std.specs.Prelude.{◌≡◌, ℕ, ◌<◌, ◌≤◌, Bool, ◌&&◌, List, [], length, get_or, map, count_by, All, nat_lt, ◌==◌}
-use Rattle.std.specs.List.Sorted.{IsSorted}
-use Rattle.std.specs.Ordering.{nat_cmp}
+use Rattle.std.specs.{List.Sorted.IsSorted, Ordering.nat_cmp}
 use Rattle.loc_spec_text.specs.Bytes.{Text}
 use Rattle.loc_spec_groups.specs.Groups.{group_names, is_member}
 use Rattle.loc_rings.specs.Values.{Feature}

@@ -5,13 +5,11 @@
 --   keeps, GainsKept   a group keeps the edge, by these rows; such groups get the edge behind them
 --   AreKeptTo          the kept edges of each group among the first edges
 use Rattle.std.specs.Prelude.{◌≡◌, ℕ, ◌+◌, ◌<◌, Bool, ◌&&◌, List, [], ◌∷◌, ◌++◌, map, filter, count_by, All, nat_lt, ◌==◌, if◌then◌else◌}
-use Rattle.loc_spec_plane.specs.declared.Mark.{Mark}
+use Rattle.loc_spec_plane.specs.{declared.Mark.Mark, Tables.Table}
 use Rattle.loc_spec_plane.specs.Lists.{exactly_one, is_in, numbers, IsRisingListOf}
-use Rattle.loc_spec_plane.specs.Tables.{Table}
 use Rattle.loc_spec_groups.specs.Groups.{is_kept}
 use Rattle.loc_edges.specs.Ending.{row_of}
-use Rattle.loc_dissolve.specs.Grouping.{IsGroupRow, in_group}
-use Rattle.loc_dissolve.specs.declared.crossing.Crossing.{Crossing}
+use Rattle.loc_dissolve.specs.{Grouping.IsGroupRow, Grouping.in_group, declared.crossing.Crossing.Crossing}
 
 -- the features of the odd marks, in order
 abbrev pub odd_features : List Mark → List ℕ

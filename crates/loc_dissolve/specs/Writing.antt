@@ -2,8 +2,7 @@
 use Rattle.std.specs.Prelude.{ℕ, List, [], ◌∷◌, ◌++◌, codes}
 use Rattle.std.specs.List.{flat_map}
 use Rattle.loc_spec_plane.specs.Rings.{Ring}
-use Rattle.loc_spec_text.specs.Bytes.{Text}
-use Rattle.loc_spec_text.specs.Points.{position_text}
+use Rattle.loc_spec_text.specs.{Bytes.Text, Points.position_text}
 
 -- the corners of a ring, each with a comma and a space behind it, and the first once more
 abbrev pub closed_text : ℕ → Ring → Text

@@ -2,8 +2,7 @@
 use Rattle.std.proofs.Common.{◌≡◌, suc, ◌≤◌, Bool, true, false, ◌||◌, List, [], ◌∷◌, ◌++◌, length, refl, sym, ◌∙◌, ap, inl, inr, arith, length-append}
 use Rattle.std.specs.List.{list_any, flat_map}
 use Rattle.std.proofs.lemmas.Bool.{cases_Bool, cond-true, cond-false, both_ways, or_cases, or_left, or_right}
-use Rattle.std.proofs.lemmas.List.{map-id}
-use Rattle.std.proofs.lemmas.List.Concat.{flat_map-append, flat_map_single}
+use Rattle.std.proofs.{lemmas.List.map-id, lemmas.List.Concat.flat_map-append, lemmas.List.Concat.flat_map_single}
 use Rattle.std.proofs.lemmas.List.Folds.{list_any-append}
 use Rattle.loc_spec_plane.specs.Points.{Point, Edge, before, same_point, edge_before}
 use Rattle.loc_spec_plane.specs.Lists.{sorted_set}
@@ -11,9 +10,8 @@ use Rattle.loc_spec_plane.specs.Rings.{Ring, Rings, ring_segments, segments, seg
 use Rattle.loc_spec_plane.specs.Tables.{layer_segments, layer_corners, pieces_of, whole}
 use Rattle.loc_laws_order.proofs.Booleans.{or_true}
 use Rattle.loc_laws_noding.specs.Laws.{ends_of}
-use Rattle.loc_laws_noding.proofs.Orders.{points_by_before}
+use Rattle.loc_laws_noding.proofs.{Orders.points_by_before, SortedSet.length-sorted_set_part, SortedSet.same-sorted_set}
 pub use Rattle.loc_laws_noding.proofs.SortedSet.{length-sorted_set}
-use Rattle.loc_laws_noding.proofs.SortedSet.{length-sorted_set_part, same-sorted_set}
 use Rattle.loc_edges.specs.Kept.{written_points}
 
 -- a test that an end of a segment of a ring passes is passed by a point of the ring

@@ -2,14 +2,12 @@
 use Rattle.std.proofs.Common.{◌≡◌, ℕ, ◌<◌, true, ◌||◌, ◌&&◌, length, get_or, Some, ◌∙◌, ap, subst, inl, inr, arith, slice_get}
 use Rattle.std.specs.Prelude.{IsTrue, not, nat_lt, ◌==◌}
 use Rattle.std.proofs.lemmas.Bool.{and_from, and_parts, eqb-true, ltb-true, not-true, not_from_false, or_cases, or_right}
-use Rattle.std.proofs.lemmas.List.{length-map}
-use Rattle.std.proofs.lemmas.List.Folds.{list_any_at, list_any_none}
+use Rattle.std.proofs.{lemmas.List.length-map, lemmas.List.Folds.list_any_at, lemmas.List.Folds.list_any_none}
 use Rattle.std.proofs.lemmas.List.FromFn.{get_or-map-range_with_len, length-range_with_len}
 use Rattle.std.proofs.lemmas.Option.{slice_get-get_or}
 use Rattle.loc_spec_plane.specs.Points.{Edge, before, same_point, edge_before, conflict}
 use Rattle.loc_spec_plane.specs.Tables.{Table, IsTable, NoConflict, corner, edge, edge_numbers, lo_of, hi_of, pair_before}
-use Rattle.loc_laws_order.proofs.Sides.{same_point_refl}
-use Rattle.loc_laws_order.proofs.TableOrder.{corner_before, rises}
+use Rattle.loc_laws_order.proofs.{Sides.same_point_refl, TableOrder.corner_before, TableOrder.rises}
 use Rattle.loc_edges.specs.Conflicts.{conflicts_with, table_edges, has_conflict}
 
 length-table_edges : (t : Table) → length (table_edges t) ≡ length t.ends

@@ -1,22 +1,15 @@
 -- Sorted segments cut into one row for each edge, as one more segment comes.
 use Rattle.std.proofs.Common.{◌≡◌, ℕ, ◌+◌, ◌-◌, ◌<◌, Bool, true, false, not, ◌||◌, List, [], ◌∷◌, ◌++◌, length, get_or, set, take, map, refl, sym, ◌∙◌, ap, subst, inl, inr, arith, append-nil, length-append}
-use Rattle.std.specs.Bool.{Decides}
-use Rattle.std.specs.List.Sorted.{IsSortedBy}
-use Rattle.std.specs.List.{list_any, dedup, dedup_from}
+use Rattle.std.specs.{Bool.Decides, List.Sorted.IsSortedBy, List.list_any, List.dedup, List.dedup_from}
 use Rattle.std.proofs.lemmas.Bool.{cases_Bool, cases_eq, cond-true, cond-false, false_from_ne_true, both_ways}
 use Rattle.std.proofs.lemmas.List.{map-append, take-map, take_more, length-map, length-take, get_or-map, get_or-take, get_or_append_left, get_or_push, get_or_at, set_at}
-use Rattle.std.proofs.lemmas.List.Sorted.{IsPermutation-refl}
-use Rattle.std.proofs.lemmas.List.Folds.{list_any_none}
-use Rattle.loc_spec_plane.specs.Points.{Edge, same_edge, edge_before}
-use Rattle.loc_spec_plane.specs.Lists.{is_rising, sorted_set}
-use Rattle.loc_laws_order.proofs.Tests.{same_edge_decides}
-use Rattle.loc_laws_order.proofs.TableOrder.{rises}
+use Rattle.std.proofs.{lemmas.List.Sorted.IsPermutation-refl, lemmas.List.Folds.list_any_none}
+use Rattle.loc_spec_plane.specs.{Points.Edge, Points.same_edge, Points.edge_before, Lists.is_rising, Lists.sorted_set}
+use Rattle.loc_laws_order.proofs.{Tests.same_edge_decides, TableOrder.rises}
 use Rattle.loc_edges.specs.Tagged.{segments_in, features_of}
-use Rattle.loc_edges.proofs.MarkRows.{features_of-append}
+use Rattle.loc_edges.proofs.{MarkRows.features_of-append, RowLists.map_alike, Tagged.is_sorted}
 use Rattle.loc_laws_noding.proofs.Orders.{edges_by_before}
-use Rattle.loc_edges.proofs.RowLists.{map_alike}
 use Rattle.loc_laws_noding.proofs.SortedSet.{irrefl, any-dedup, rising-dedup, sorted_set-dedup}
-use Rattle.loc_edges.proofs.Tagged.{is_sorted}
 
 -- ---- equal neighbours dropped from a list that grows
 module _ {X : Type 0} (E : X → X → Bool) (exact : (x y : X) → Decides (E x y) (x ≡ y)) where

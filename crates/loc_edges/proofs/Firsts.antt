@@ -3,8 +3,7 @@ use Rattle.std.proofs.Common.{◌≡◌, ℕ, ◌+◌, ◌-◌, ◌<◌, ◌≤�
 use Rattle.std.specs.Prelude.{nat_lt}
 use Rattle.std.proofs.lemmas.Bool.{cases_lt}
 use Rattle.std.proofs.lemmas.List.{take_all, get_or_default, get_or_append_left, get_or-append_right, get_or-replicate, length-replicate}
-use Rattle.loc_spec_plane.specs.Lists.{is_rising}
-use Rattle.loc_spec_plane.specs.Tables.{Table, pair_before}
+use Rattle.loc_spec_plane.specs.{Lists.is_rising, Tables.Table, Tables.pair_before}
 use Rattle.loc_edges.specs.Ending.{IsFirstFrom, AreFirsts, IsBeginning}
 use Rattle.loc_edges.proofs.EndingRows.{firsts_rise}
 

@@ -6,12 +6,10 @@ use Rattle.std.proofs.lemmas.List.{append_assoc, get_or-take, length-take-le, ma
 use Rattle.std.proofs.lemmas.List.Concat.{flat_map-append, flat_map_single}
 use Rattle.std.proofs.lemmas.List.Folds.{list_any-append, list_any_at}
 use Rattle.loc_spec_plane.specs.Points.{Point, Edge, before, edge_before}
-use Rattle.loc_spec_plane.specs.Lists.{sorted_set}
-use Rattle.loc_spec_plane.specs.Rings.{Rings}
+use Rattle.loc_spec_plane.specs.{Lists.sorted_set, Rings.Rings}
 use Rattle.loc_spec_plane.specs.Tables.{layer_segments, layer_corners, pieces_of, whole}
 use Rattle.loc_laws_noding.specs.Laws.{ends_of}
-use Rattle.loc_laws_noding.proofs.Layers.{any-ends_of}
-use Rattle.loc_laws_noding.proofs.Orders.{points_by_before, edges_by_before}
+use Rattle.loc_laws_noding.proofs.{Layers.any-ends_of, Orders.points_by_before, Orders.edges_by_before}
 use Rattle.loc_laws_noding.proofs.SortedSet.{any-sorted_set, same-sorted_set}
 
 -- where nothing is cut the pieces are the segments

@@ -4,12 +4,9 @@ use Rattle.std.specs.Prelude.{◌==◌, nat_lt, filter, if◌then◌else◌}
 use Rattle.std.specs.List.{list_any, list_all, filter_map, flat_map, enumerate_from, cons_option}
 use Rattle.std.proofs.lemmas.Bool.{cases_Bool, cases_eq, cond-true, cond-false, eq-eqb, ne_eqb, ltb-true, and_parts}
 use Rattle.std.proofs.lemmas.List.{append_assoc, length-take-le, map-append, nil_from_length, set_at, take_all, take_more}
-use Rattle.std.proofs.lemmas.List.Elements.{filter-append}
-use Rattle.std.proofs.lemmas.List.Folds.{list_all-append}
-use Rattle.loc_spec_plane.specs.declared.Mark.{Mark}
-use Rattle.loc_spec_plane.specs.Points.{Point, Edge, same_edge}
-use Rattle.loc_spec_plane.specs.Lists.{exactly_one, odd_many}
-use Rattle.loc_spec_plane.specs.Rings.{Rings, segments}
+use Rattle.std.proofs.{lemmas.List.Elements.filter-append, lemmas.List.Folds.list_all-append}
+use Rattle.loc_spec_plane.specs.{declared.Mark.Mark, Points.Point, Points.Edge, Points.same_edge}
+use Rattle.loc_spec_plane.specs.{Lists.exactly_one, Lists.odd_many, Rings.Rings, Rings.segments}
 use Rattle.loc_spec_plane.specs.Tables.{edge_marks, layer_corners, layer_segments, mark_of, mark_before, whole}
 use Rattle.loc_laws_order.proofs.Booleans.{or_none}
 use Rattle.loc_laws_rays.proofs.Parity.{odd_many-same}

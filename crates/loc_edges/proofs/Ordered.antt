@@ -1,16 +1,11 @@
 -- The table of a layer by its parts, as they are made one from another; and the plain table, which is small.
 use Rattle.std.proofs.Common.{◌≡◌, ℕ, ◌^◌, ◌≤◌, List, length, map, sym, ◌∙◌, ap, arith}
-use Rattle.loc_spec_plane.specs.declared.Mark.{Mark}
-use Rattle.loc_spec_plane.specs.Points.{Point, Edge, edge_before}
-use Rattle.loc_spec_plane.specs.Lists.{sorted_set}
+use Rattle.loc_spec_plane.specs.{declared.Mark.Mark, Points.Point, Points.Edge, Points.edge_before, Lists.sorted_set}
 use Rattle.loc_spec_plane.specs.Rings.{Rings}
 use Rattle.loc_spec_plane.specs.Tables.{table_by, layer_corners, pieces_of, whole, edge_marks}
 use Rattle.loc_laws_noding.specs.Laws.{IsCutting}
 use Rattle.loc_laws_noding.proofs.Tables as laws
-use Rattle.loc_edges.specs.Kept.{AreEdges, written_points}
-use Rattle.loc_edges.specs.Layers.{AreOfLayer}
-use Rattle.loc_edges.specs.Parts.{table_with}
-use Rattle.loc_edges.specs.Small.{IsSmallTable}
+use Rattle.loc_edges.specs.{Kept.AreEdges, Kept.written_points, Layers.AreOfLayer, Parts.table_with, Small.IsSmallTable}
 use Rattle.loc_edges.specs.Tagged.{features_of, marks_of, segments_in}
 use Rattle.loc_edges.proofs.Counts.{few_corners, few_edges}
 use Rattle.loc_edges.proofs.MarkRows.{marks_are as rows_are}

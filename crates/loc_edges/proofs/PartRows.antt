@@ -1,20 +1,15 @@
 -- The table of parts that stand in order is a table.
 use Rattle.std.proofs.Common.{◌≡◌, ℕ, suc, ◌<◌, ◌≤◌, true, List, [], ◌∷◌, length, get_or, map, sym, ◌∙◌, ap, subst, inl, inr, arith}
 use Rattle.std.specs.Prelude.{All, ◌==◌}
-use Rattle.std.specs.List.{flat_map}
-use Rattle.std.specs.List.Sorted.{IsNonDecreasingBy}
+use Rattle.std.specs.{List.flat_map, List.Sorted.IsNonDecreasingBy}
 use Rattle.std.proofs.lemmas.Bool.{cases_Bool, cases_lt, cond-true, cond-false}
 use Rattle.std.proofs.lemmas.List.Elements.{All-append, All-cons}
 use Rattle.std.proofs.lemmas.List.{length-map, get_or-map, get_or_past}
 use Rattle.std.proofs.lemmas.List.FromFn.{length-map-range_with_len, get_or-map-range_with_len}
-use Rattle.loc_spec_plane.specs.declared.Mark.{Mark}
-use Rattle.loc_spec_plane.specs.Points.{Point, before}
-use Rattle.loc_spec_plane.specs.Lists.{is_rising, numbers}
-use Rattle.loc_spec_plane.specs.Tables.{IsTable, mark_before, pair_before}
-use Rattle.loc_spec_plane.specs.Covers.{feature_count}
+use Rattle.loc_spec_plane.specs.{declared.Mark.Mark, Points.Point, Points.before, Lists.is_rising, Lists.numbers}
+use Rattle.loc_spec_plane.specs.{Tables.IsTable, Tables.mark_before, Tables.pair_before, Covers.feature_count}
 use Rattle.loc_laws_rays.proofs.Members.{feature_count_within}
-use Rattle.loc_edges.specs.Ending.{row_of}
-use Rattle.loc_edges.specs.Kept.{AreEdges}
+use Rattle.loc_edges.specs.{Ending.row_of, Kept.AreEdges}
 use Rattle.loc_edges.specs.Parts.{GoesUpBelow, edge_mark_before, edge_of_pair, table_of_parts, table_with}
 use Rattle.loc_edges.proofs.EndingRows.{firsts_rise, row_rises}
 

@@ -1,13 +1,10 @@
 -- What a binary search finds in a list in order that has each member once.
 use Rattle.std.proofs.Common.{◌≡◌, ℕ, ◌+◌, ◌<◌, Bool, true, false, List, length, get_or, Ok, Err, sym, ◌∙◌, ap, subst, inl, inr, arith, Ordering, Less, Equal, Greater}
-use Rattle.std.specs.Bool.{Decides}
-use Rattle.std.specs.List.{position, position_or_len}
-use Rattle.std.specs.List.Sorted.{IsBinarySearchResult, IsNonDecreasingBy}
-use Rattle.std.specs.Ordering.{ordering_index}
+use Rattle.std.specs.{Bool.Decides, List.position, List.position_or_len}
+use Rattle.std.specs.{List.Sorted.IsBinarySearchResult, List.Sorted.IsNonDecreasingBy, Ordering.ordering_index}
 use Rattle.std.specs.Prelude.{unwrap_or, nat_lt}
 use Rattle.std.proofs.lemmas.Bool.{both_ways, cases_lt, cond-true, cond-false, false_from_ne_true, lt-ltb, le-ltb}
-use Rattle.std.proofs.lemmas.Cmp.{by_ranked}
-use Rattle.std.proofs.lemmas.List.Sorted.{searchable_from_sorted}
+use Rattle.std.proofs.{lemmas.Cmp.by_ranked, lemmas.List.Sorted.searchable_from_sorted}
 use Rattle.std.proofs.lemmas.List.Sums.{position_or_len_is}
 use Rattle.loc_spec_plane.specs.Lists.{is_rising}
 use Rattle.loc_laws_order.proofs.TableOrder.{rises}

@@ -1,8 +1,6 @@
 -- Touching and covering by the marks of the plain table are touching and covering by the rings, and no mark is of another feature.
 use Rattle.std.proofs.Common.{◌≡◌, ℕ, ◌≤◌, List, [], length, get_or}
-use Rattle.loc_spec_plane.specs.Points.{Point}
-use Rattle.loc_spec_plane.specs.Rings.{Rings, touches, covers}
-use Rattle.loc_spec_plane.specs.Covers.{feature_count}
+use Rattle.loc_spec_plane.specs.{Points.Point, Rings.Rings, Rings.touches, Rings.covers, Covers.feature_count}
 use Rattle.loc_spec_plane.specs.Tables.{table_of, whole, touches_by_marks, covers_by_marks}
 use Rattle.loc_laws_noding.proofs.Noded.{cutting_whole}
 use Rattle.loc_laws_noding.proofs.Tables as laws

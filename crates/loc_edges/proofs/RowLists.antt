@@ -5,8 +5,7 @@ use Rattle.std.specs.List.{between, slice_get}
 use Rattle.std.proofs.lemmas.Bool.{cases_lt, cases_eq}
 use Rattle.std.proofs.lemmas.List.{get_or_at, set_at, get_or_default, get_or_past, get_or_append_left, get_or-append_right, get_or-replicate, length-replicate, length-set, get_or-set_same, get_or-set_other, same_lists, take-append-le, drop-append-le}
 use Rattle.std.proofs.lemmas.List.FromFn.{length-map-range_with_len, get_or-map-range_with_len}
-use Rattle.std.proofs.lemmas.Option.{slice_get-get_or}
-use Rattle.std.proofs.lemmas.Slice.{between_is, between_to_end}
+use Rattle.std.proofs.{lemmas.Option.slice_get-get_or, lemmas.Slice.between_is, lemmas.Slice.between_to_end}
 use Rattle.loc_spec_plane.specs.Lists.{numbers}
 use Rattle.loc_edges.specs.RowLists.{start_of, row_at, rows_of, AreStarts}
 

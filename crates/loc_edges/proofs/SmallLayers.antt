@@ -1,14 +1,10 @@
 -- The limits of a layer, as they bound a table.
 use Rattle.std.proofs.Common.{◌≡◌, ◌+◌, ◌^◌, ◌≤◌, List, [], ◌∷◌, length, refl, sym, ◌∙◌, ap₂, arith}
-use Rattle.std.specs.Prelude.{sum_by}
-use Rattle.std.specs.List.{flat_map}
-use Rattle.std.proofs.lemmas.List.Concat.{length-flat_map}
-use Rattle.std.proofs.lemmas.List.Sums.{sum_by-cons}
+use Rattle.std.specs.{Prelude.sum_by, List.flat_map}
+use Rattle.std.proofs.{lemmas.List.Concat.length-flat_map, lemmas.List.Sums.sum_by-cons}
 use Rattle.loc_spec_plane.specs.Rings.{Ring, Rings}
-use Rattle.loc_rings.specs.Layers.{IsLayer, point_count}
-use Rattle.loc_rings.specs.Values.{Feature, rings_of}
-use Rattle.loc_edges.specs.Kept.{written_points}
-use Rattle.loc_edges.specs.Layers.{layer_rings}
+use Rattle.loc_rings.specs.{Layers.IsLayer, Layers.point_count, Values.Feature, Values.rings_of}
+use Rattle.loc_edges.specs.{Kept.written_points, Layers.layer_rings}
 
 -- the points of a layer are counted feature by feature
 summed : (features : List Feature) → sum_by (λ (rings : Rings). length (flat_map (λ (ring : Ring). ring) rings)) (layer_rings features) ≡ sum_by point_count features

@@ -1,18 +1,16 @@
 -- The segments of a layer with their features, as one more feature comes, and sorted.
 use Rattle.std.proofs.Common.{◌≡◌, ℕ, suc, ◌+◌, ◌-◌, ◌<◌, ◌≤◌, not, List, [], ◌∷◌, ◌++◌, length, get_or, drop, map, refl, sym, ◌∙◌, ap, ap₂, arith, append-nil}
 use Rattle.std.specs.Prelude.{◌&&◌, All, filter}
-use Rattle.std.specs.List.{flat_map}
+use Rattle.std.specs.{List.flat_map, Ordering.is_lt}
 use Rattle.std.specs.List.Sorted.{IsPermutation, IsSorted, IsSortedBy, IsSortedByKey, IsStableByKey}
-use Rattle.std.specs.Ordering.{is_lt}
 use Rattle.std.proofs.lemmas.Bool.{both_ways, false_from_ne_true}
 use Rattle.std.proofs.lemmas.List.{append_assoc, length-drop, length-map, map-append, map-id, get_or-map}
 use Rattle.std.proofs.lemmas.List.Concat.{flat_map-append, flat_map_single}
 use Rattle.std.proofs.lemmas.List.Elements.{All-append, All-cons, filter_agree}
 use Rattle.std.proofs.lemmas.List.Sorted.{IsPermutation-map, list_any-IsPermutation}
 use Rattle.loc_spec_plane.specs.Points.{Point, Edge, same_edge, edge_before}
-use Rattle.loc_spec_plane.specs.Lists.{sorted_set}
+use Rattle.loc_spec_plane.specs.{Lists.sorted_set, Tables.layer_segments, Tables.pieces_of, Tables.whole}
 use Rattle.loc_spec_plane.specs.Rings.{Ring, Rings, ring_segments, segments}
-use Rattle.loc_spec_plane.specs.Tables.{layer_segments, pieces_of, whole}
 use Rattle.loc_laws_order.proofs.Tests.{same_edge_decides}
 use Rattle.loc_laws_rays.proofs.RayRings.{no_segment}
 use Rattle.loc_rings.proofs.Passes.{from_point}

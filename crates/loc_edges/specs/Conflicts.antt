@@ -1,8 +1,6 @@
 -- Whether two edges of a list conflict. The words: `table_edges`, `conflicts_with`, `has_conflict`.
-use Rattle.std.specs.Prelude.{Bool, List, map}
-use Rattle.std.specs.List.{list_any}
-use Rattle.loc_spec_plane.specs.Points.{Edge, conflict}
-use Rattle.loc_spec_plane.specs.Tables.{Table, edge, edge_numbers}
+use Rattle.std.specs.{Prelude.Bool, Prelude.List, Prelude.map, List.list_any}
+use Rattle.loc_spec_plane.specs.{Points.Edge, Points.conflict, Tables.Table, Tables.edge, Tables.edge_numbers}
 
 -- the edges of a table by their points, in order
 abbrev pub table_edges : Table → List Edge

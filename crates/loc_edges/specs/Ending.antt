@@ -1,7 +1,6 @@
 -- The edges that end at a corner and those that begin there. The words: `ending_among`, `row_of`, `IsFirstFrom`, `AreFirsts`, `IsBeginning`.
 use Rattle.std.specs.Prelude.{◌≡◌, ℕ, ◌+◌, ◌<◌, ◌≤◌, ◌==◌, ◌↔◌, List, length, map, filter, slice_index, slice_index_or}
-use Rattle.loc_spec_plane.specs.Lists.{numbers}
-use Rattle.loc_spec_plane.specs.Tables.{Table, lo_of}
+use Rattle.loc_spec_plane.specs.{Lists.numbers, Tables.Table, Tables.lo_of}
 
 -- of the first n edges, given by the numbers of their ends, those whose upper end is corner c
 abbrev pub ending_among : List (ℕ × ℕ) → ℕ → ℕ → List ℕ

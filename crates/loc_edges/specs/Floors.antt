@@ -1,7 +1,6 @@
 -- The floors that a sweep leaves: `FloorLists` and `AreFloors`.
 use Rattle.std.specs.Prelude.{◌≡◌, ℕ, ◌<◌, List, length, get_or, Option, None}
-use Rattle.loc_spec_plane.specs.Tables.{Table, corner}
-use Rattle.loc_spec_plane.specs.Places.{IsFloor, IsJustBelow}
+use Rattle.loc_spec_plane.specs.{Tables.Table, Tables.corner, Places.IsFloor, Places.IsJustBelow}
 
 -- for each corner its floor, and for each edge the edge just below it at its lower end, or none
 pub record FloorLists : Type 0 where

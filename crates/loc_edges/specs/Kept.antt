@@ -1,11 +1,9 @@
 -- What a table of numbers keeps beside its value: `AreEdges` and `IsKept`; and the points of a layer.
 use Rattle.std.specs.Prelude.{◌≡◌, ℕ, ◌<◌, List, length, map, slice_index_or}
 use Rattle.std.specs.List.{flat_map}
-use Rattle.loc_spec_plane.specs.Points.{Point, Edge}
-use Rattle.loc_spec_plane.specs.Rings.{Rings}
+use Rattle.loc_spec_plane.specs.{Points.Point, Points.Edge, Rings.Rings}
 use Rattle.loc_spec_plane.specs.Tables.{Table, IsTable, edge, corner_numbers}
-use Rattle.loc_edges.specs.Ending.{AreFirsts, ending_among}
-use Rattle.loc_edges.specs.Small.{IsSmallTable}
+use Rattle.loc_edges.specs.{Ending.AreFirsts, Ending.ending_among, Small.IsSmallTable}
 
 -- the points of all rings, as often as they stand there
 abbrev pub written_points : List Rings → List Point

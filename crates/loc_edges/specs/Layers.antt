@@ -1,9 +1,7 @@
 -- A list of features as a layer, and the lists of which the table of a layer is made. The words: `layer_rings`, `AreOfLayer`.
 use Rattle.std.specs.Prelude.{◌≡◌, ℕ, List, map}
 use Rattle.std.specs.List.Sorted.{IsSortedBy}
-use Rattle.loc_spec_plane.specs.Points.{Point, Edge, edge_before}
-use Rattle.loc_spec_plane.specs.Lists.{sorted_set}
-use Rattle.loc_spec_plane.specs.Rings.{Rings}
+use Rattle.loc_spec_plane.specs.{Points.Point, Points.Edge, Points.edge_before, Lists.sorted_set, Rings.Rings}
 use Rattle.loc_spec_plane.specs.Tables.{layer_corners, numbered_ends, pieces_of, source_in}
 use Rattle.loc_laws_noding.specs.Laws.{IsCutting}
 use Rattle.loc_rings.specs.Values.{Feature, rings_of}

@@ -1,8 +1,6 @@
 -- A table by the lists that it is made of: `table_with` rows of marks and sources, and `table_of_parts`, where each mark stands behind the number of its edge.
 use Rattle.std.specs.Prelude.{ℕ, ◌<◌, ◌==◌, ◌&&◌, ◌||◌, Bool, pos, slice_index_or, List, length, map, nat_lt}
-use Rattle.loc_spec_plane.specs.declared.Mark.{Mark}
-use Rattle.loc_spec_plane.specs.Points.{Point, Edge, point_at}
-use Rattle.loc_spec_plane.specs.Lists.{numbers}
+use Rattle.loc_spec_plane.specs.{declared.Mark.Mark, Points.Point, Points.Edge, Points.point_at, Lists.numbers}
 use Rattle.loc_spec_plane.specs.Tables.{Table}
 use Rattle.loc_edges.specs.Ending.{row_of}
 

@@ -1,10 +1,8 @@
 -- Segments with the numbers of their features. The words: `tagged_by`, `tagged_from`, `tagged_pieces`, `segments_in`, `features_of`, `with_mark`, `marks_of`, `marks_in`.
 use Rattle.std.specs.Prelude.{ℕ, ◌==◌, not, true, List, [], ◌∷◌, map, filter, if◌then◌else◌}
 use Rattle.std.specs.List.{flat_map, enumerate_from}
-use Rattle.loc_spec_plane.specs.declared.Mark.{Mark}
-use Rattle.loc_spec_plane.specs.Lists.{sorted_set}
-use Rattle.loc_spec_plane.specs.Points.{Edge, edge_before, same_edge}
-use Rattle.loc_spec_plane.specs.Rings.{Rings, segments}
+use Rattle.loc_spec_plane.specs.{declared.Mark.Mark, Lists.sorted_set}
+use Rattle.loc_spec_plane.specs.{Points.Edge, Points.edge_before, Points.same_edge, Rings.Rings, Rings.segments}
 
 -- the segments of a feature
 abbrev pub tagged_by : ℕ → List Edge → List (Edge × ℕ)

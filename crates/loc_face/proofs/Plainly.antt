@@ -1,19 +1,14 @@
 -- The course of a face writes at once and makes no file.
 use Rattle.std.proofs.Common.{ℕ, Option, Some, None}
-use Rattle.loc_spec_text.specs.Bytes.{Text}
+use Rattle.loc_spec_text.specs.{Bytes.Text, Points.point_of}
 use Rattle.loc_spec_plane.specs.declared.Place.{Place}
 use Rattle.loc_spec_plane.specs.declared.Place.TheVariants.{Corner, Border, Area}
-use Rattle.loc_spec_plane.specs.Points.{Point}
-use Rattle.loc_spec_plane.specs.Tables.{Table}
-use Rattle.loc_spec_text.specs.Points.{point_of}
+use Rattle.loc_spec_plane.specs.{Points.Point, Tables.Table}
 use Rattle.loc_csvform.specs.Layer.{layer_of}
-use Rattle.loc_place.specs.Found.{place_at}
-use Rattle.loc_place.specs.Steps.{most_steps}
-use Rattle.loc_course.specs.Outcomes.{exactly}
-use Rattle.loc_course.specs.Sentences.{IsPlain}
+use Rattle.loc_place.specs.{Found.place_at, Steps.most_steps}
+use Rattle.loc_course.specs.{Outcomes.exactly, Sentences.IsPlain}
 use Rattle.loc_course.proofs.Plain.{plain_reads, plain_refuses, plain_searches, plain_writes}
-use Rattle.loc_maps.specs.Located.{table_in}
-use Rattle.loc_maps.specs.MapCourses.{LayerFile, accepted_course}
+use Rattle.loc_maps.specs.{Located.table_in, MapCourses.LayerFile, MapCourses.accepted_course}
 use Rattle.loc_maps.proofs.Judged.{accepted_all, layer_all}
 use Rattle.loc_face.specs.FaceCourses.{face_course, place_course, point_course, text_above}
 

@@ -1,18 +1,11 @@
 -- The text of the face above a floor, as it is written, and the lines that refuse a point.
 use Rattle.std.proofs.Common.{◌≡◌, ℕ, ◌+◌, ◌*◌, ◌<◌, ◌≤◌, Option, Some, None, Result, Ok, refl, sym, ◌∙◌, ap, subst, arith}
-use Rattle.loc_spec_text.specs.Bytes.{Text}
-use Rattle.loc_io.specs.Meaning.{Meaning}
-use Rattle.loc_io.specs.Streams.{Stream}
-use Rattle.loc_spec_plane.specs.declared.Place.{Place}
-use Rattle.loc_spec_plane.specs.Points.{Point}
-use Rattle.loc_spec_plane.specs.Tables.{Table}
-use Rattle.loc_spec_plane.specs.Faces.{face_above, face_count}
-use Rattle.loc_place.specs.Found.{place_at}
-use Rattle.loc_place.specs.Planar.{IsPlanar}
-use Rattle.loc_place.specs.Steps.{most_steps}
+use Rattle.loc_spec_text.specs.{Bytes.Text, Points.ended, Points.point_of}
+use Rattle.loc_io.specs.{Meaning.Meaning, Streams.Stream}
+use Rattle.loc_spec_plane.specs.{declared.Place.Place, Points.Point, Tables.Table, Faces.face_above, Faces.face_count}
+use Rattle.loc_place.specs.{Found.place_at, Planar.IsPlanar, Steps.most_steps}
 use Rattle.loc_half.specs.HalfEdgeLists.{HalfEdgeLists, AreHalfEdges, next_in}
-use Rattle.loc_faces.specs.FaceLists.{FaceLists, AreFaces, face_in}
-use Rattle.loc_faces.specs.FaceTexts.{face_text}
+use Rattle.loc_faces.specs.{FaceLists.FaceLists, FaceLists.AreFaces, FaceLists.face_in, FaceTexts.face_text}
 use Rattle.loc_faces.specs.Subdivision.{next_at}
 use Rattle.loc_faces.proofs.Computed.{face_same, next_same}
 use Rattle.loc_course.specs.Courses.{Stopped, refused, refuses, searches}
@@ -20,7 +13,6 @@ use Rattle.loc_course.specs.Following.{Follows, moment, refuses_by, searches_by}
 use Rattle.loc_course.specs.Outcomes.{exactly}
 use Rattle.loc_course.proofs.Told.{exactly_it}
 use Rattle.loc_face.specs.FaceCourses.{place_course, point_course, text_above}
-use Rattle.loc_spec_text.specs.Points.{ended, point_of}
 use Rattle.std.specs.Prelude.{codes}
 
 -- the face above a floor is one of the faces

@@ -3,21 +3,15 @@
 --   place_course, point_course, face_course  what is done at a place, for a point, and for a word behind a layer
 use Rattle.std.specs.Prelude.{ℕ, ◌++◌, Option, Some, None, codes}
 use Rattle.std.specs.Fmt.{decimal}
-use Rattle.loc_spec_text.specs.Bytes.{Text}
+use Rattle.loc_spec_text.specs.{Bytes.Text, Points.ended, Points.point_of}
 use Rattle.loc_spec_plane.specs.declared.Place.{Place}
 use Rattle.loc_spec_plane.specs.declared.Place.TheVariants.{Corner, Border, Area}
-use Rattle.loc_spec_plane.specs.Points.{Point}
-use Rattle.loc_spec_plane.specs.Tables.{Table}
-use Rattle.loc_spec_plane.specs.Faces.{face_above}
-use Rattle.loc_spec_text.specs.Points.{ended, point_of}
-use Rattle.loc_place.specs.Found.{place_at}
-use Rattle.loc_place.specs.Steps.{most_steps}
-use Rattle.loc_faces.specs.FaceTexts.{face_text}
-use Rattle.loc_faces.specs.Subdivision.{face_at, next_at}
+use Rattle.loc_spec_plane.specs.{Points.Point, Tables.Table, Faces.face_above}
+use Rattle.loc_place.specs.{Found.place_at, Steps.most_steps}
+use Rattle.loc_faces.specs.{FaceTexts.face_text, Subdivision.face_at, Subdivision.next_at}
 use Rattle.loc_course.specs.Courses.{Course, refuses, searches, writes}
 use Rattle.loc_course.specs.Outcomes.{exactly}
-use Rattle.loc_maps.specs.Located.{table_in}
-use Rattle.loc_maps.specs.MapCourses.{LayerFile, accepted_course, layer_course}
+use Rattle.loc_maps.specs.{Located.table_in, MapCourses.LayerFile, MapCourses.accepted_course, MapCourses.layer_course}
 
 -- a point is no point of an open face, by a word and a number
 abbrev pub line_at : Text → ℕ → Text

@@ -1,17 +1,15 @@
 //! The face of a point, from the bytes in to the bytes out.
 
-ghost use Rattle.std.specs.Prelude.{ℕ, IfSome, ◌<◌, length};
+ghost use Rattle.std.specs.Prelude.{IfSome, ◌<◌, length};
 ghost use Rattle.loc_spec_plane.specs.Tables.{NoConflict};
 ghost use Rattle.loc_spec_text.specs.Points.{point_of};
 ghost use Rattle.loc_edges.specs.Floors.{AreFloors};
-ghost use Rattle.loc_io.specs.Meaning.{Meaning};
 ghost use Rattle.loc_place.specs.Found.{place_at};
 ghost use Rattle.loc_treeidx.specs.Standing.{AreVersionsOf};
 ghost use Rattle.loc_place.specs.Steps.{most_steps};
 ghost use Rattle.loc_course.specs.Courses.{searches, writes};
-ghost use Rattle.loc_course.specs.Following.{Follows, moment};
 ghost use Rattle.loc_course.specs.Outcomes.{exactly};
-ghost use Rattle.loc_course.specs.Stops.{end_of};
+ghost use Rattle.loc_course.specs.Runs.{Runs, RunsOnOut, RunsOnOutAndSteps};
 ghost use Rattle.loc_maps.specs.MapCourses.{layer_file};
 ghost use Rattle.loc_face.specs.FaceCourses.{face_course, place_course, point_course, text_above};
 
@@ -41,9 +39,7 @@ fn write_above<O: Sink>(
     requires apart { NoConflict plane.now.table }
     requires floors { AreFloors plane.now.table plane.now.floors }
     requires in_range { IfSome floor (λ e. e < length plane.now.table.ends) }
-    ensures { (shelf : Meaning) (k : ℕ) → Follows (writes (exactly (text_above scale plane.now.table floor)))
-        (moment shelf (O.meaning out.old) k)
-        (moment shelf (O.meaning out.new) k) (end_of result) }
+    ensures { RunsOnOut (writes (exactly (text_above scale plane.now.table floor))) O.meaning out result }
 {
     let table = &plane.table;
     table.law();
@@ -77,10 +73,9 @@ fn write_at<O: Sink, L: Ledger>(
     requires apart { NoConflict plane.now.table }
     requires stands { AreVersionsOf plane.now.table plane.now.status }
     requires floors { AreFloors plane.now.table plane.now.floors }
-    ensures { (shelf : Meaning) → Follows (searches (most_steps plane.now.table)
-        (place_course scale plane.now.table (place_at plane.now.table point)))
-        (moment shelf (O.meaning out.old) steps.old)
-        (moment shelf (O.meaning out.new) steps.new) (end_of result) }
+    ensures { RunsOnOutAndSteps
+        (searches (most_steps plane.now.table) (place_course scale plane.now.table (place_at plane.now.table point)))
+        O.meaning out steps result }
 {
     match plane.status.locate(&plane.table.views(), point, steps) {
         Ok(Place::Corner(n)) => Err(Stop::Refused(numbered_line(b"point: corner ", n))),
@@ -102,9 +97,8 @@ fn write_for<O: Sink, L: Ledger>(
     requires apart { NoConflict plane.now.table }
     requires stands { AreVersionsOf plane.now.table plane.now.status }
     requires floors { AreFloors plane.now.table plane.now.floors }
-    ensures { (shelf : Meaning) → Follows (point_course scale plane.now.table (point_of scale word.now))
-        (moment shelf (O.meaning out.old) steps.old)
-        (moment shelf (O.meaning out.new) steps.new) (end_of result) }
+    ensures { RunsOnOutAndSteps (point_course scale plane.now.table (point_of scale word.now))
+        O.meaning out steps result }
 {
     match read_point(word, scale.decimals()) {
         Some(point) => write_at(alloc, plane, point, scale, out, steps),
@@ -116,7 +110,7 @@ fn write_for<O: Sink, L: Ledger>(
 /// byte on `out`.
 pub fn face<F: Shelf, O: Sink, L: Ledger>(
     alloc: Global,
-    layer_name: &str,
+    name: &str,
     point: &str,
     form: Form,
     scale: Scale,
@@ -124,11 +118,9 @@ pub fn face<F: Shelf, O: Sink, L: Ledger>(
     out: &mut O,
     steps: &mut Steps<L>,
 ) -> Result<(), Stop>
-    ensures { Follows (face_course (layer_file layer_name.now form scale) point.now)
-        (moment (F.meaning shelf.old) (O.meaning out.old) steps.old)
-        (moment (F.meaning shelf.new) (O.meaning out.new) steps.new) (end_of result) }
+    ensures { Runs (face_course (layer_file name.now form scale) point.now) F.meaning shelf O.meaning out steps result }
 {
-    let layer = read_layer_file(alloc, shelf, layer_name, form, scale)?;
+    let layer = read_layer_file(alloc, shelf, name, form, scale)?;
     let plane: Plane<TreeIndex> = judge(alloc, layer, scale)?;
     swept_stands(&plane.table, &plane.status);
     let outcome = write_for(alloc, &plane, point.as_bytes(), scale, out, steps);

@@ -1,14 +1,10 @@
 -- The nexts and the faces of a table are those that are computed.
 use Rattle.std.proofs.Common.{◌≡◌, ℕ, zero, suc, ◌*◌, ◌<◌, ◌≤◌, true, length, Option, Some, None, refl, sym, ◌∙◌, ap, subst, inl, inr, arith}
 use Rattle.std.specs.Prelude.{nat_lt}
-use Rattle.std.proofs.Math.Path.{fun_ext}
+use Rattle.std.proofs.{Math.Path.fun_ext, lemmas.List.get_or_past}
 use Rattle.std.proofs.lemmas.Bool.{cases_Bool, cases_lt, cond-true, cond-false, lt-ltb, le-ltb}
-use Rattle.std.proofs.lemmas.List.{get_or_past}
-use Rattle.loc_spec_plane.specs.Points.{Point}
-use Rattle.loc_spec_plane.specs.Tables.{Table, corner}
-use Rattle.loc_spec_plane.specs.Places.{IsFloor}
+use Rattle.loc_spec_plane.specs.{Points.Point, Tables.Table, Tables.corner, Places.IsFloor, Lists.before_round}
 use Rattle.loc_spec_plane.specs.HalfEdges.{half_edge_count, edge_of, leaving, target}
-use Rattle.loc_spec_plane.specs.Lists.{before_round}
 use Rattle.loc_spec_plane.specs.Faces.{face_above, hangs, least_corner, outer_number}
 use Rattle.loc_laws_order.proofs.Unique.{next-unique}
 use Rattle.loc_place.proofs.FoundPlace.{floor_folded}
@@ -17,8 +13,7 @@ use Rattle.loc_half.specs.HalfEdgeLists.{HalfEdgeLists, AreHalfEdges, next_in}
 use Rattle.loc_half.proofs.Halves.{origin-up}
 use Rattle.loc_faces.specs.FaceLists.{FaceLists, AreFaces, FitsTable, face_in}
 use Rattle.loc_faces.specs.Subdivision.{face_at, face_from, floor_at, next_at, shown_at, turn_list, within}
-use Rattle.loc_faces.proofs.Nested.{floor_begins, low_fits, low_origin}
-use Rattle.loc_faces.proofs.Turns.{next_at_is}
+use Rattle.loc_faces.proofs.{Nested.floor_begins, Nested.low_fits, Nested.low_origin, Turns.next_at_is}
 
 -- a value is the same below n
 below_is : (n : ℕ) (f : ℕ → ℕ) (h : ℕ) → h < n → within n f h ≡ f h

@@ -1,19 +1,13 @@
 -- The corners of a cycle, put one after the other: what is to come is the way back to the leader, which grows shorter.
 use Rattle.std.proofs.Common.{◌≡◌, ◌≢◌, ℕ, zero, suc, ◌<◌, ◌≤◌, List, [], ◌∷◌, ◌++◌, length, Result, Ok, Err, refl, sym, ◌∙◌, ap, subst, arith}
-use Rattle.std.specs.Prelude.{codes}
-use Rattle.std.specs.List.{flat_map}
+use Rattle.std.specs.{Prelude.codes, List.flat_map}
 use Rattle.std.proofs.lemmas.List.Folds.{flat_map-map}
-use Rattle.loc_io.specs.declared.sink.WriteFault.{WriteFault}
-use Rattle.loc_io.specs.Streams.{Stream}
+use Rattle.loc_io.specs.{declared.sink.WriteFault.WriteFault, Streams.Stream}
 use Rattle.loc_page.specs.Puts.{PutsText}
 use Rattle.loc_page.proofs.Pages.{Goes, both, goes_end, goes_more, stop}
-use Rattle.loc_spec_plane.specs.Tables.{Table, IsTable}
-use Rattle.loc_spec_plane.specs.HalfEdges.{half_edge_count, way_to}
-use Rattle.loc_half.specs.HalfEdgeLists.{HalfEdgeLists, AreHalfEdges, next_in}
-use Rattle.loc_half.specs.Rounds.{after}
-use Rattle.loc_half.proofs.Going.{after-next}
-use Rattle.loc_half.proofs.Orbits.{placed, next_within}
-use Rattle.loc_half.proofs.Trails.{IsOrbit, way-trail}
+use Rattle.loc_spec_plane.specs.{Tables.Table, Tables.IsTable, HalfEdges.half_edge_count, HalfEdges.way_to}
+use Rattle.loc_half.specs.{HalfEdgeLists.HalfEdgeLists, HalfEdgeLists.AreHalfEdges, HalfEdgeLists.next_in, Rounds.after}
+use Rattle.loc_half.proofs.{Going.after-next, Orbits.placed, Orbits.next_within, Trails.IsOrbit, Trails.way-trail}
 use Rattle.loc_faces.specs.FaceTexts.{corner_text, cycle_text}
 
 -- the further corners on the way from h to the leader

@@ -2,16 +2,13 @@
 use Rattle.std.proofs.Common.{◌≡◌, ◌≢◌, ℕ, ◌+◌, ◌<◌, ◌≤◌, Bool, true, false, ◌&&◌, List, length, get_or, set, sym, ◌∙◌, ap, subst, inl, inr, arith, get_or-set_same, get_or-set_other, length-set}
 use Rattle.std.specs.Prelude.{◌==◌, ◌||◌, not}
 use Rattle.std.proofs.lemmas.Bool.{cases_eq, both_ways, eq-eqb, ne_eqb}
-use Rattle.loc_spec_plane.specs.Tables.{Table, IsTable}
-use Rattle.loc_spec_plane.specs.Places.{lower_of}
+use Rattle.loc_spec_plane.specs.{Tables.Table, Tables.IsTable, Places.lower_of}
 use Rattle.loc_spec_plane.specs.HalfEdges.{half_edge_count, cycle, edge_of, leader, target}
 use Rattle.loc_spec_plane.specs.Faces.{hangs, leads_face, least_corner}
 use Rattle.loc_laws_order.proofs.Booleans.{same-from_both}
 use Rattle.loc_half.specs.HalfEdgeLists.{HalfEdgeLists, AreHalfEdges, leader_in, next_in}
-use Rattle.loc_faces.specs.Boundaries.{leads_hanging}
-use Rattle.loc_faces.specs.Cycles.{AreHanging, AreLeast, passes_low}
-use Rattle.loc_laws_rays.proofs.Covering.{any-found}
-use Rattle.loc_laws_rays.proofs.Picked.{member_any}
+use Rattle.loc_faces.specs.{Boundaries.leads_hanging, Cycles.AreHanging, Cycles.AreLeast, Cycles.passes_low}
+use Rattle.loc_laws_rays.proofs.{Covering.any-found, Picked.member_any}
 use Rattle.loc_faces.proofs.Leaders.{leads_within, on_same, same_on}
 
 -- of the half-edges below i, each that passes so is noted, and where it is noted there is one

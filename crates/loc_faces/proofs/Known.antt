@@ -2,9 +2,7 @@
 use Rattle.std.proofs.Common.{◌≡◌, ℕ, zero, suc, ◌*◌, ◌<◌, true, false, length, get_or, map, Option, Some, None, refl, sym, ◌∙◌, ap, subst, inl, inr, arith}
 use Rattle.std.proofs.lemmas.Bool.{cases_Bool, cond-true, cond-false}
 use Rattle.std.proofs.lemmas.List.FromFn.{get_or-map-range_with_len, length-map-range_with_len}
-use Rattle.loc_spec_plane.specs.Lists.{numbers}
-use Rattle.loc_spec_plane.specs.Tables.{Table, corner}
-use Rattle.loc_spec_plane.specs.Places.{IsFloor}
+use Rattle.loc_spec_plane.specs.{Lists.numbers, Tables.Table, Tables.corner, Places.IsFloor}
 use Rattle.loc_spec_plane.specs.HalfEdges.{half_edge_count, leader, origin, IsNext, IsNextOfAll}
 use Rattle.loc_spec_plane.specs.Faces.{face_above, hangs, least_corner, outer_number, IsFaces}
 use Rattle.loc_laws_order.proofs.Unique.{floor-unique}
@@ -12,9 +10,8 @@ use Rattle.loc_place.specs.Planar.{IsPlanar}
 use Rattle.loc_half.specs.HalfEdgeLists.{HalfEdgeLists, AreHalfEdges, next_in}
 use Rattle.loc_half.proofs.Halves.{origin-up}
 use Rattle.loc_faces.specs.Subdivision.{face_at, face_from, floor_at, next_at}
-use Rattle.loc_faces.proofs.Computed.{face_below, floor_at_is, next_same}
+use Rattle.loc_faces.proofs.{Computed.face_below, Computed.floor_at_is, Computed.next_same, Turns.next_at_is}
 use Rattle.loc_faces.proofs.Nested.{above_same, floor_begins, low_fits, low_origin}
-use Rattle.loc_faces.proofs.Turns.{next_at_is}
 
 module _ (t : Table) (planar : IsPlanar t) where
   pub nexts_are : IsNextOfAll t (next_at t)

@@ -1,7 +1,6 @@
 -- Leaders as they are noted: in range, and one for each cycle.
 use Rattle.std.proofs.Common.{◌≡◌, ℕ, ◌<◌, true, sym, ◌∙◌, ap, arith}
-use Rattle.loc_spec_plane.specs.Lists.{is_in}
-use Rattle.loc_spec_plane.specs.Tables.{Table, IsTable}
+use Rattle.loc_spec_plane.specs.{Lists.is_in, Tables.Table, Tables.IsTable}
 use Rattle.loc_spec_plane.specs.HalfEdges.{half_edge_count, cycle, leader}
 use Rattle.loc_half.specs.HalfEdgeLists.{HalfEdgeLists, AreHalfEdges, leader_in, next_in}
 use Rattle.loc_half.proofs.Orbits.{leader_within, same_cycle, in_cycle, leads_itself, cycle_within}

@@ -2,8 +2,7 @@
 use Rattle.std.proofs.Common.{◌≡◌, ◌≢◌, ℕ, ◌+◌, ◌<◌, ◌≤◌, List, length, get_or, set, min, sym, ◌∙◌, ap, ◌⊎◌, inl, inr, arith, get_or-set_same, get_or-set_other, length-set}
 use Rattle.std.proofs.lemmas.Bool.{cases_eq, cases_lt}
 use Rattle.loc_spec_plane.specs.Tables.{Table, IsTable}
-use Rattle.loc_spec_plane.specs.HalfEdges.{half_edge_count, cycle, target}
-use Rattle.loc_spec_plane.specs.Faces.{least_corner}
+use Rattle.loc_spec_plane.specs.{HalfEdges.half_edge_count, HalfEdges.cycle, HalfEdges.target, Faces.least_corner}
 use Rattle.loc_half.specs.HalfEdgeLists.{HalfEdgeLists, AreHalfEdges, leader_in, next_in}
 use Rattle.loc_half.proofs.Halves.{target-fits}
 use Rattle.loc_faces.specs.Cycles.{AreLeast}

@@ -3,12 +3,9 @@ use Rattle.std.proofs.Common.{◌≡◌, ◌≢◌, ℕ, zero, suc, ◌+◌, ◌
 use Rattle.std.specs.Prelude.{◌==◌, All, Some, count_by, slice_get}
 use Rattle.std.proofs.lemmas.Bool.{cases_eq, cases_Bool, and_from, and_left, and_right, and_parts, eq-eqb, ne_eqb, eqb-true, not-true}
 use Rattle.std.proofs.lemmas.List.{get_or_at, get_or_append_left}
-use Rattle.std.proofs.lemmas.List.FromFn.{get_or-map-range_with_len}
-use Rattle.std.proofs.lemmas.List.Sums.{length-filter}
+use Rattle.std.proofs.{lemmas.List.FromFn.get_or-map-range_with_len, lemmas.List.Sums.length-filter}
 use Rattle.std.proofs.lemmas.Option.{get_or_from_slice_get}
-use Rattle.loc_spec_plane.specs.Lists.{numbers}
-use Rattle.loc_spec_plane.specs.Tables.{Table}
-use Rattle.loc_spec_plane.specs.HalfEdges.{half_edge_count, leader}
+use Rattle.loc_spec_plane.specs.{Lists.numbers, Tables.Table, HalfEdges.half_edge_count, HalfEdges.leader}
 use Rattle.loc_spec_plane.specs.Faces.{hangs, leads_face}
 use Rattle.loc_faces.specs.Boundaries.{inner_leaders, leads_hanging, outer_leaders}
 use Rattle.loc_faces.specs.FaceLists.{FaceLists, AreFaces, face_in}

@@ -2,18 +2,14 @@
 use Rattle.std.proofs.Common.{◌≡◌, ℕ, suc, ◌+◌, ◌*◌, ◌<◌, ◌≤◌, Bool, true, false, not, List, length, get_or, map, Option, None, sym, ◌∙◌, ap, subst, inl, inr, arith}
 use Rattle.std.specs.Prelude.{◌==◌, count_by}
 use Rattle.std.proofs.lemmas.Bool.{cases_lt, and_from, eq-eqb, not_from_false}
-use Rattle.std.proofs.lemmas.List.{get_or_past}
-use Rattle.std.proofs.lemmas.List.Sums.{length-filter}
-use Rattle.loc_spec_plane.specs.Lists.{numbers}
-use Rattle.loc_spec_plane.specs.Tables.{Table, IsTable, corner}
-use Rattle.loc_spec_plane.specs.Places.{IsFloor}
+use Rattle.std.proofs.{lemmas.List.get_or_past, lemmas.List.Sums.length-filter}
+use Rattle.loc_spec_plane.specs.{Lists.numbers, Tables.Table, Tables.IsTable, Tables.corner, Places.IsFloor}
 use Rattle.loc_spec_plane.specs.HalfEdges.{half_edge_count, leader}
 use Rattle.loc_spec_plane.specs.Faces.{face_above, hangs, leads_face, least_corner, outer_number}
 use Rattle.loc_laws_order.proofs.Unique.{floor-unique}
 use Rattle.loc_edges.specs.Floors.{FloorLists, AreFloors}
 use Rattle.loc_half.specs.HalfEdgeLists.{HalfEdgeLists, AreHalfEdges, leader_in, next_in}
-use Rattle.loc_faces.specs.Boundaries.{inner_leaders}
-use Rattle.loc_faces.specs.Cycles.{AreHanging, AreNumbered, face_by}
+use Rattle.loc_faces.specs.{Boundaries.inner_leaders, Cycles.AreHanging, Cycles.AreNumbered, Cycles.face_by}
 use Rattle.loc_faces.specs.FaceLists.{AreFaces}
 use Rattle.loc_faces.proofs.Leaders.{leads, leads_within, leads_leads}
 use Rattle.loc_faces.proofs.Nested.{above_same, face_over, floor_begins, low_fits}

@@ -7,8 +7,7 @@ use Rattle.loc_spec_plane.specs.Tables.{Table, IsTable, corner, edge, lo_of, hi_
 use Rattle.loc_spec_plane.specs.Places.{IsFloor, alive_at, lower_of}
 use Rattle.loc_spec_plane.specs.HalfEdges.{half_edge_count, cycle, edge_of, origin, target}
 use Rattle.loc_spec_plane.specs.Faces.{face_above, hangs, least_corner}
-use Rattle.loc_laws_order.proofs.Sides.{above-not_low, same_point_refl}
-use Rattle.loc_laws_order.proofs.AliveAt.{alive_parts}
+use Rattle.loc_laws_order.proofs.{Sides.above-not_low, Sides.same_point_refl, AliveAt.alive_parts}
 use Rattle.loc_laws_order.proofs.TableOrder.{corner_before, lo_rises}
 use Rattle.loc_edges.specs.Floors.{FloorLists, AreFloors}
 use Rattle.loc_half.specs.HalfEdgeLists.{HalfEdgeLists, AreHalfEdges, leader_in, next_in}

@@ -3,21 +3,17 @@ use Rattle.std.proofs.Common.{◌≡◌, ℕ, ◌+◌, ◌<◌, Bool, true, fals
 use Rattle.std.specs.Prelude.{◌==◌, ◌||◌, count_by, nat_lt}
 use Rattle.std.specs.List.{flat_map}
 use Rattle.std.proofs.lemmas.Bool.{cases_Bool, cond-true, cond-false, and_parts, eq-eqb, eqb-true, ltb-true, or_cases, or_left, or_right, true≢false}
-use Rattle.std.proofs.lemmas.List.Folds.{list_any-append}
-use Rattle.std.proofs.lemmas.List.Sums.{sum_by-append, sum_by-cons}
-use Rattle.loc_spec_plane.specs.Lists.{is_in, numbers}
-use Rattle.loc_spec_plane.specs.Tables.{Table, IsTable}
+use Rattle.std.proofs.{lemmas.List.Folds.list_any-append, lemmas.List.Sums.sum_by-append, lemmas.List.Sums.sum_by-cons}
+use Rattle.loc_spec_plane.specs.{Lists.is_in, Lists.numbers, Tables.Table, Tables.IsTable}
 use Rattle.loc_spec_plane.specs.HalfEdges.{half_edge_count, cycle, leader}
 use Rattle.loc_spec_plane.specs.Faces.{hangs, leads_face}
-use Rattle.loc_laws_order.proofs.Kept.{numbers_rise, rising_kept}
-use Rattle.loc_laws_rays.proofs.Members.{in_numbers, is_in-filter}
-use Rattle.loc_laws_order.proofs.Booleans.{same-from_both}
+use Rattle.loc_laws_order.proofs.{Kept.numbers_rise, Kept.rising_kept, Booleans.same-from_both}
+use Rattle.loc_laws_rays.proofs.{Members.in_numbers, Members.is_in-filter, Picked.kept_below}
 use Rattle.loc_half.specs.HalfEdgeLists.{HalfEdgeLists, AreHalfEdges, next_in}
 use Rattle.loc_half.proofs.Orbits.{cycle_differs, in_cycle, leader_within, leads_itself, same_cycle}
 use Rattle.loc_half.proofs.Permuting.{AllDiffer, differ_from_rising}
 use Rattle.loc_faces.specs.Boundaries.{boundary, inner_leaders, leads_hanging, outer_leaders}
 use Rattle.loc_faces.specs.FaceLists.{FaceLists, AreFaces, face_in}
-use Rattle.loc_laws_rays.proofs.Picked.{kept_below}
 
 -- 1 for a test that passes
 abbrev pub one_if : Bool → ℕ

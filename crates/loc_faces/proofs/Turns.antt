@@ -3,14 +3,11 @@ use Rattle.std.proofs.Common.{◌≡◌, ℕ, ◌<◌, true, false, ◌&&◌, le
 use Rattle.std.specs.Prelude.{◌==◌, nat_lt}
 use Rattle.std.specs.List.{list_all}
 use Rattle.std.proofs.lemmas.Bool.{and_from, both_ways, cases_eq, cases_lt, cond-true, le-ltb, lt-ltb}
-use Rattle.loc_spec_plane.specs.Lists.{before_round, is_in, numbers}
+use Rattle.loc_spec_plane.specs.{Lists.before_round, Lists.is_in, Lists.numbers, Places.is_edge}
 use Rattle.loc_spec_plane.specs.Tables.{Table, IsTable, NoConflict, edge_numbers, ends_at}
-use Rattle.loc_spec_plane.specs.Places.{is_edge}
 use Rattle.loc_spec_plane.specs.HalfEdges.{comes_round, edge_of, half_edge_count, leaving, target, IsTurnList, IsNext}
 use Rattle.loc_spec_plane.proofs.Checks.{is_in-past}
-use Rattle.loc_laws_order.proofs.Kept.{all_filter}
-use Rattle.loc_laws_order.proofs.Sets.{set_of}
-use Rattle.loc_laws_order.proofs.TableOrder.{numbers_within}
+use Rattle.loc_laws_order.proofs.{Kept.all_filter, Sets.set_of, TableOrder.numbers_within}
 use Rattle.loc_laws_rays.proofs.Members.{in_numbers, is_in-filter}
 use Rattle.loc_half.specs.Turns.{stands_at}
 use Rattle.loc_half.proofs.Turning.{turn-total, turn-trans}

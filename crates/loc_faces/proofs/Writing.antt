@@ -1,15 +1,12 @@
 -- Texts that are put on a page one after the other.
 use Rattle.std.proofs.Common.{◌≡◌, ℕ, ◌+◌, ◌<◌, List, ◌++◌, length, get_or, drop, Result, sym, ◌∙◌, ap, inl, inr, arith, ℤ, of_z, to_z}
-use Rattle.std.specs.List.{flat_map}
-use Rattle.std.specs.Int.{w64}
-use Rattle.loc_spec_plane.specs.Points.{OnGrid}
-use Rattle.loc_spec_plane.specs.Tables.{Table, IsTable}
+use Rattle.std.specs.{List.flat_map, Int.w64}
+use Rattle.loc_spec_plane.specs.{Points.OnGrid, Tables.Table, Tables.IsTable}
 use Rattle.loc_spec_plane.specs.HalfEdges.{half_edge_count, edge_of, origin}
 use Rattle.loc_spec_text.specs.Points.{grid_text}
 use Rattle.loc_geom.proofs.Grid.{grid_back}
 use Rattle.loc_half.proofs.Halves.{either_way, edge-fits, origin-down, origin-up}
-use Rattle.loc_io.specs.declared.sink.WriteFault.{WriteFault}
-use Rattle.loc_io.specs.Streams.{Stream}
+use Rattle.loc_io.specs.{declared.sink.WriteFault.WriteFault, Streams.Stream}
 use Rattle.loc_page.specs.Puts.{PutsText}
 use Rattle.loc_page.proofs.Pages.{Goes, goes_next, put_same}
 

@@ -4,8 +4,7 @@
 --   boundary                        the half-edges of all these cycles
 use Rattle.std.specs.Prelude.{ℕ, Bool, ◌&&◌, List, ◌++◌, filter, ◌==◌}
 use Rattle.std.specs.List.{flat_map}
-use Rattle.loc_spec_plane.specs.Lists.{numbers}
-use Rattle.loc_spec_plane.specs.Tables.{Table}
+use Rattle.loc_spec_plane.specs.{Lists.numbers, Tables.Table}
 use Rattle.loc_spec_plane.specs.HalfEdges.{half_edge_count, cycle, leader}
 use Rattle.loc_spec_plane.specs.Faces.{hangs, leads_face}
 

@@ -5,9 +5,7 @@
 --   face_by             the face of a half-edge, noted at its leader
 --   AreNumbered         the outer cycles so far are numbered
 use Rattle.std.specs.Prelude.{◌≡◌, ℕ, suc, ◌<◌, ◌≤◌, Bool, true, false, ◌&&◌, ◌||◌, List, length, get_or, filter, count_by, ◌==◌}
-use Rattle.loc_spec_plane.specs.Lists.{numbers}
-use Rattle.loc_spec_plane.specs.Tables.{Table}
-use Rattle.loc_spec_plane.specs.Places.{lower_of}
+use Rattle.loc_spec_plane.specs.{Lists.numbers, Tables.Table, Places.lower_of}
 use Rattle.loc_spec_plane.specs.HalfEdges.{half_edge_count, edge_of, target}
 use Rattle.loc_spec_plane.specs.Faces.{hangs, leads_face, least_corner}
 use Rattle.loc_half.specs.HalfEdgeLists.{HalfEdgeLists, leader_in, next_in}

@@ -2,9 +2,7 @@
 --   FaceLists, face_in  how many faces there are, the face of each half-edge, and the leaders of outer and of hanging cycles
 --   AreFaces, FitsTable  they are those of a table
 use Rattle.std.specs.Prelude.{◌≡◌, ℕ, ◌<◌, List, length, get_or, filter, map}
-use Rattle.loc_spec_plane.specs.Lists.{numbers}
-use Rattle.loc_spec_plane.specs.Tables.{Table}
-use Rattle.loc_spec_plane.specs.HalfEdges.{half_edge_count, leader}
+use Rattle.loc_spec_plane.specs.{Lists.numbers, Tables.Table, HalfEdges.half_edge_count, HalfEdges.leader}
 use Rattle.loc_spec_plane.specs.Faces.{face_count, leads_face, IsFaces}
 use Rattle.loc_half.specs.HalfEdgeLists.{HalfEdgeLists, AreHalfEdges, next_in}
 use Rattle.loc_faces.specs.Boundaries.{inner_leaders}

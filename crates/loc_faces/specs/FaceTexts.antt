@@ -2,10 +2,8 @@
 --   corner_text, joined, cycle_text  the corner that a half-edge leaves, in print; those of a cycle, from its leader on
 --   cycle_line, face_text            a line for each cycle of a face, the outer one first
 use Rattle.std.specs.Prelude.{ℕ, List, [], ◌∷◌, ◌++◌, codes, map}
-use Rattle.std.specs.Fmt.{decimal}
-use Rattle.std.specs.List.{flat_map}
-use Rattle.loc_spec_plane.specs.Tables.{Table, corner}
-use Rattle.loc_spec_plane.specs.HalfEdges.{cycle, origin}
+use Rattle.std.specs.{Fmt.decimal, List.flat_map}
+use Rattle.loc_spec_plane.specs.{Tables.Table, Tables.corner, HalfEdges.cycle, HalfEdges.origin}
 use Rattle.loc_spec_text.specs.Points.{ended, position_text}
 use Rattle.loc_faces.specs.Boundaries.{inner_leaders, outer_leaders}
 

@@ -5,8 +5,7 @@
 --   face_from, face_at   the face of a half-edge, by so many floors
 --   shown_at             the number that is shown for the face above a floor
 use Rattle.std.specs.Prelude.{ℕ, zero, suc, Bool, true, false, List, length, filter, fold, nat_lt, Option, Some, None, if◌then◌else◌}
-use Rattle.loc_spec_plane.specs.Lists.{before_round, sorted_set}
-use Rattle.loc_spec_plane.specs.Points.{Point}
+use Rattle.loc_spec_plane.specs.{Lists.before_round, Lists.sorted_set, Points.Point}
 use Rattle.loc_spec_plane.specs.Tables.{Table, corner, edge_numbers, ends_at}
 use Rattle.loc_spec_plane.specs.HalfEdges.{comes_round, edge_of, half_edge_count, leaving, target}
 use Rattle.loc_spec_plane.specs.Faces.{face_above, hangs, least_corner, outer_number}

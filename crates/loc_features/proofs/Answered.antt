@@ -2,27 +2,20 @@
 use Rattle.std.proofs.Common.{◌≡◌, ℕ, ◌+◌, ◌<◌, ◌≤◌, zero, suc, List, [], ◌∷◌, ◌++◌, length, get_or, map, filter, Option, Some, None, Ok, refl, sym, ◌∙◌, ap, ap₂, subst, append_assoc, arith}
 use Rattle.std.specs.Prelude.{◌==◌, All, Bool, codes, false, option_map, slice_get}
 use Rattle.std.specs.Option.{option_map_or}
-use Rattle.std.proofs.Math.Path.{fun_ext}
-use Rattle.std.proofs.lemmas.Bool.{true≢false}
-use Rattle.std.proofs.lemmas.List.{length-map}
+use Rattle.std.proofs.{Math.Path.fun_ext, lemmas.Bool.true≢false, lemmas.List.length-map}
 use Rattle.std.proofs.lemmas.List.Elements.{All-filter}
 use Rattle.std.proofs.lemmas.List.FromFn.{get_or-range_with_len, length-range_with_len}
 use Rattle.loc_spec_text.specs.Points.{ended, ids_text, point_of}
-use Rattle.loc_spec_plane.specs.Lists.{numbers}
-use Rattle.loc_spec_plane.specs.Points.{Point}
-use Rattle.loc_spec_plane.specs.Rings.{Rings, covers, touches}
+use Rattle.loc_spec_plane.specs.{Lists.numbers, Points.Point, Rings.Rings, Rings.covers, Rings.touches}
 use Rattle.loc_laws_any.specs.Unions.{passing}
 use Rattle.loc_rings.specs.Values.{Feature, rings_of}
 use Rattle.loc_edges.specs.Layers.{layer_rings}
-use Rattle.loc_batch.specs.Lists.{ListsState}
-use Rattle.loc_batch.specs.Told.{told_by, told_found}
-use Rattle.loc_batch.specs.declared.tally.Tally.{Tally}
+use Rattle.loc_batch.specs.{Lists.ListsState, Told.told_by, Told.told_found, declared.tally.Tally.Tally}
 use Rattle.loc_answering.specs.ByLine.{told_by_line, told_bytes}
 use Rattle.loc_query.specs.Answered.{ids_where}
 use Rattle.loc_query.proofs.LegendAnswers.{by_number}
 use Rattle.loc_parts.specs.declared.parts.Part.{Part}
-use Rattle.loc_features.specs.declared.placing.Found.{Found}
-use Rattle.loc_features.specs.Places.{found_at}
+use Rattle.loc_features.specs.{declared.placing.Found.Found, Places.found_at}
 use Rattle.loc_features.specs.Features.{features_at, features_line, features_text}
 use Rattle.loc_features.specs.Told.{counted, ids_of, names_in, told_at, told_lists}
 

@@ -1,28 +1,22 @@
 -- What `features` answers, by what its told files come to.
 use Rattle.std.proofs.Common.{◌≡◌, ℕ, ◌*◌, ◌<◌, ◌≤◌, List, length, take, Option, None, Ok, Err, sym, ◌∙◌, ap, subst, inl, inr, arith}
 use Rattle.std.specs.Prelude.{Bool, codes, nat_lt}
-use Rattle.std.proofs.lemmas.Bool.{cond-true}
-use Rattle.std.proofs.lemmas.Bool.Decides.{Decides-ltb}
-use Rattle.loc_io.specs.Meaning.{Told, holds}
-use Rattle.loc_io.specs.Streams.{Stream}
-use Rattle.loc_spec_text.specs.Answered.{Answered, answered}
-use Rattle.loc_spec_text.specs.Bytes.{Text, ended_lines, lines}
-use Rattle.loc_spec_text.specs.Points.{ended}
+use Rattle.std.proofs.{lemmas.Bool.cond-true, lemmas.Bool.Decides.Decides-ltb}
+use Rattle.loc_io.specs.{Meaning.Told, Meaning.holds, Streams.Stream}
+use Rattle.loc_spec_text.specs.{Answered.Answered, Answered.answered, Bytes.Text, Bytes.ended_lines, Bytes.lines}
+use Rattle.loc_spec_text.specs.{Points.ended, Limits.most_text}
 use Rattle.loc_spec_text.proofs.AnsweredLaws.{all_answered, joined}
 use Rattle.loc_rings.specs.Values.{Feature}
 use Rattle.loc_csvform.specs.Layer.{LayerRead, layer_of}
 use Rattle.loc_batch.specs.PointLines.{is_point_line, point_count}
 use Rattle.loc_course.specs.Courses.{Course, Source, reads as reads_from, refuses}
-use Rattle.loc_course.specs.Moments.{IsToldText, Moment}
+use Rattle.loc_course.specs.{Moments.IsToldText, Moments.Moment, Stops.source}
 use Rattle.loc_course.specs.Outcomes.{by_lines, by_refusal, exactly, outcome, output, partly}
 use Rattle.loc_course.specs.Sentences.{EndsSo, MakesNone, MayRefuseBehind, Sentences, WithinSteps}
-use Rattle.loc_course.specs.Stops.{source}
 use Rattle.loc_course.specs.Streams.{Answering, answered_long, out_of}
 use Rattle.loc_course.proofs.Streamed.{long_or_short, of_whole, seen_steps}
 use Rattle.loc_told.proofs.Ends.{done_by, grown, refused_behind, refused_by}
-use Rattle.loc_maps.specs.LineTexts.{layer_fault_text}
-use Rattle.loc_maps.specs.MapCourses.{IsRead, LayerFile, read_in}
-use Rattle.loc_spec_text.specs.Limits.{most_text}
+use Rattle.loc_maps.specs.{LineTexts.layer_fault_text, MapCourses.IsRead, MapCourses.LayerFile, MapCourses.read_in}
 use Rattle.loc_maps.proofs.Judged.{read_all}
 use Rattle.loc_maps.proofs.ReadRows.{layer_line, layer_long, layer_reads, was_read}
 use Rattle.loc_features.specs.FeatureCourses.{features_course, features_points, features_steps}

@@ -1,8 +1,7 @@
 -- Examples, computed: what is written to points of layers whose polygons overlap and cross.
 use Rattle.std.proofs.Common.{◌≡◌, List, [], ◌∷◌, refl, codes}
 use Rattle.std.specs.Prelude.{ℕ, pos}
-use Rattle.loc_spec_plane.specs.Points.{point_at, turn}
-use Rattle.loc_spec_plane.specs.Rings.{Ring}
+use Rattle.loc_spec_plane.specs.{Points.point_at, Points.turn, Rings.Ring}
 use Rattle.loc_spec_text.specs.Number.{scaled, unit}
 use Rattle.loc_rings.specs.Values.{Feature}
 use Rattle.loc_features.specs.Features.{features_at, features_output}

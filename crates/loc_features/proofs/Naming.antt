@@ -4,27 +4,22 @@ use Rattle.std.specs.Prelude.{◌==◌, Option, Some, None, sum_by}
 use Rattle.std.specs.List.{list_any, range_with_len}
 use Rattle.std.proofs.lemmas.Bool.{cases_Bool, cond-true, cond-false, eqb-true, true≢false}
 use Rattle.std.proofs.lemmas.List.{length-map, map-append, take-take, take_all, take_more}
-use Rattle.std.proofs.lemmas.List.Elements.{filter-append}
-use Rattle.std.proofs.lemmas.List.FromFn.{length-range_with_len}
+use Rattle.std.proofs.{lemmas.List.Elements.filter-append, lemmas.List.FromFn.length-range_with_len}
 use Rattle.std.proofs.lemmas.List.Filters.{sum_by-filter_both}
 use Rattle.std.proofs.lemmas.List.Sorted.{length_permutation, list_any-IsPermutation, sum_by-IsPermutation}
 use Rattle.std.proofs.lemmas.Simd.{map-map}
 use Rattle.std.proofs.lemmas.List.Sums.{sum_by-cons, sum_by-take-le, sum_by_more}
-use Rattle.loc_spec_plane.specs.Lists.{is_in, numbers, odd_many}
-use Rattle.loc_spec_plane.specs.Rays.{crosses_right}
-use Rattle.loc_spec_plane.specs.Points.{Edge, Point, lies_on}
+use Rattle.loc_spec_plane.specs.{Lists.is_in, Lists.numbers, Lists.odd_many, Rays.crosses_right}
+use Rattle.loc_spec_plane.specs.{Points.Edge, Points.Point, Points.lies_on, Tables.layer_segments}
 use Rattle.loc_spec_plane.specs.Rings.{Rings, segments, touches, covers}
-use Rattle.loc_spec_plane.specs.Tables.{layer_segments}
-use Rattle.loc_laws_order.proofs.Kept.{is_in-filter}
-use Rattle.loc_laws_order.proofs.Sets.{any_weaker}
+use Rattle.loc_laws_order.proofs.{Kept.is_in-filter, Sets.any_weaker}
 use Rattle.loc_laws_rays.proofs.Picked.{member_any}
 use Rattle.loc_laws_any.specs.Unions.{part_of, passing}
 use Rattle.loc_laws_any.proofs.Joining.{part_answers}
 use Rattle.loc_cover.proofs.Lexicographic.{any_map}
 use Rattle.loc_batch.specs.Lists.{ListsState}
-use Rattle.loc_spans.specs.Around.{is_some}
+use Rattle.loc_spans.specs.{Around.is_some, Parity.IsAnswer}
 use Rattle.loc_spans.specs.Boxes.{BoxedState, IsBoxed, IsIdle, Kept, feature_of, has_segments, rings_at}
-use Rattle.loc_spans.specs.Parity.{IsAnswer}
 use Rattle.loc_features.specs.Gathered.{NamesAll, noted, number_of, segment_count, segments_at}
 
 pub few_kept : {X : Type 0} (test : X → Bool) (xs : List X) → length (filter test xs) ≤ length xs

@@ -1,21 +1,13 @@
 -- The place of a point in a part, and what its legend names there.
 use Rattle.std.proofs.Common.{◌≡◌, ℕ, suc, ◌+◌, ◌-◌, ◌*◌, ◌^◌, ◌<◌, ◌≤◌, Bool, List, [], ◌∷◌, ◌++◌, length, length-append, map, filter, take, drop, get_or, Some, None, refl, sym, ◌∙◌, ap, append_assoc, inl, inr, arith}
 use Rattle.std.specs.Prelude.{not, replicate, set}
-use Rattle.std.proofs.Math.Seq.{set-append_seam}
-use Rattle.std.proofs.Math.Pow.{pow_mono}
-use Rattle.std.proofs.lemmas.Bool.{cases_lt}
+use Rattle.std.proofs.{Math.Seq.set-append_seam, Math.Pow.pow_mono, lemmas.Bool.cases_lt}
 use Rattle.std.proofs.lemmas.List.{length-map, length-replicate, length-take-le, map_more, take-append-drop}
-use Rattle.std.proofs.lemmas.List.Elements.{filter-append}
-use Rattle.std.proofs.lemmas.Nat.{mul-le}
-use Rattle.loc_spec_plane.specs.Lists.{is_in}
-use Rattle.loc_spec_plane.specs.Points.{Point}
-use Rattle.loc_spec_plane.specs.Tables.{Table}
-use Rattle.loc_spec_plane.specs.declared.Place.{Place}
+use Rattle.std.proofs.{lemmas.List.Elements.filter-append, lemmas.Nat.mul-le}
+use Rattle.loc_spec_plane.specs.{Lists.is_in, Points.Point, Tables.Table, declared.Place.Place}
 use Rattle.loc_spec_plane.specs.declared.Place.TheVariants.{Corner, Border, Area}
 use Rattle.loc_edges.specs.Small.{IsSmallTable}
-use Rattle.loc_place.specs.Answers.{IsInRange}
-use Rattle.loc_place.specs.Found.{place_at}
-use Rattle.loc_place.specs.Steps.{search_bound}
+use Rattle.loc_place.specs.{Answers.IsInRange, Found.place_at, Steps.search_bound}
 use Rattle.loc_cover.specs.Legends.{FitsTable, LegendRows, covering, touching}
 use Rattle.loc_batch.specs.Answering.{IsPlaceIn}
 use Rattle.loc_parts.specs.declared.parts.Part.{Part}

@@ -2,15 +2,11 @@
 use Rattle.std.proofs.Common.{◌≡◌, ℕ, ◌+◌, ◌<◌, ◌≤◌, Bool, true, false, ◌&&◌, ◌||◌, List, [], ◌∷◌, ◌++◌, length, take, get_or, refl, sym, ◌∙◌, ap, ap₂, arith, append_assoc, length-append}
 use Rattle.std.specs.Prelude.{◌==◌, nat_lt, sum_by}
 use Rattle.std.specs.List.{list_any}
-use Rattle.std.proofs.Math.Bool.{or-false}
-use Rattle.std.proofs.lemmas.List.{get_or-map, length-map, take_more}
-use Rattle.std.proofs.lemmas.List.Folds.{list_any-append}
-use Rattle.std.proofs.lemmas.List.FromFn.{length-range_with_len}
+use Rattle.std.proofs.{Math.Bool.or-false, lemmas.List.get_or-map, lemmas.List.length-map, lemmas.List.take_more}
+use Rattle.std.proofs.{lemmas.List.Folds.list_any-append, lemmas.List.FromFn.length-range_with_len}
 use Rattle.std.proofs.lemmas.List.Sums.{sum_by-append, sum_by-cons, sum_by-take-le, sum_by_more_le}
-use Rattle.loc_spec_plane.specs.Lists.{is_in, numbers, sorted_set}
-use Rattle.loc_spec_plane.specs.Points.{Point}
-use Rattle.loc_spec_plane.specs.Rings.{Rings, touches, covers}
-use Rattle.loc_spec_plane.specs.Tables.{layer_segments}
+use Rattle.loc_spec_plane.specs.{Lists.is_in, Lists.numbers, Lists.sorted_set, Points.Point}
+use Rattle.loc_spec_plane.specs.{Rings.Rings, Rings.touches, Rings.covers, Tables.layer_segments}
 use Rattle.loc_laws_order.proofs.Kept.{is_in-filter}
 use Rattle.loc_laws_any.specs.Unions.{passing}
 use Rattle.loc_laws_any.proofs.Joining.{joined}
@@ -18,9 +14,7 @@ use Rattle.loc_rings.specs.Values.{Feature, rings_of}
 use Rattle.loc_edges.specs.Layers.{layer_rings}
 use Rattle.loc_batch.specs.Lists.{ListsState}
 use Rattle.loc_parts.specs.Parts.{IsParted, numbers_in, left_numbers, part_numbers}
-use Rattle.loc_parts.specs.declared.parts.Left.{Left}
-use Rattle.loc_parts.specs.declared.parts.Part.{Part}
-use Rattle.loc_parts.specs.declared.parts.Parted.{Parted}
+use Rattle.loc_parts.specs.{declared.parts.Left.Left, declared.parts.Part.Part, declared.parts.Parted.Parted}
 use Rattle.loc_parts.proofs.Numbered.{in_all}
 use Rattle.loc_features.specs.Gathered.{Names, segments_at}
 use Rattle.loc_features.proofs.Naming.{all_segments}

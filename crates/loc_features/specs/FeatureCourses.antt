@@ -4,15 +4,12 @@
 --   features_course  a layer and then the points
 use Rattle.std.specs.Prelude.{ℕ, ◌+◌, List, Ok, codes, length}
 use Rattle.loc_spec_plane.specs.Tables.{layer_segments}
-use Rattle.loc_spec_text.specs.Bytes.{Text}
-use Rattle.loc_spec_text.specs.Points.{ended}
+use Rattle.loc_spec_text.specs.{Bytes.Text, Points.ended, Limits.most_text}
 use Rattle.loc_rings.specs.Values.{Feature}
 use Rattle.loc_edges.specs.Layers.{layer_rings}
 use Rattle.loc_batch.specs.PointLines.{is_point_line}
-use Rattle.loc_course.specs.Courses.{Course, answers}
-use Rattle.loc_course.specs.Stops.{source}
+use Rattle.loc_course.specs.{Courses.Course, Courses.answers, Stops.source}
 use Rattle.loc_maps.specs.MapCourses.{LayerFile, read_course}
-use Rattle.loc_spec_text.specs.Limits.{most_text}
 use Rattle.loc_features.specs.Features.{features_line}
 
 -- the most steps of a line: 1,008, and one for each segment of the layer

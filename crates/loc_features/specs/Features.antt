@@ -4,12 +4,9 @@
 --   features_line    the answer to a line at a scale
 --   features_output  the answers to all lines of a points text
 use Rattle.std.specs.Prelude.{ℕ, List, [], ◌∷◌, ◌++◌, codes}
-use Rattle.std.specs.List.{flat_map}
-use Rattle.std.specs.Option.{option_map_or}
-use Rattle.loc_spec_plane.specs.Points.{Point}
-use Rattle.loc_spec_plane.specs.Rings.{touches, covers}
-use Rattle.loc_spec_text.specs.Bytes.{Text, lines}
-use Rattle.loc_spec_text.specs.Points.{ended, ids_text, point_of}
+use Rattle.std.specs.{List.flat_map, Option.option_map_or}
+use Rattle.loc_spec_plane.specs.{Points.Point, Rings.touches, Rings.covers}
+use Rattle.loc_spec_text.specs.{Bytes.Text, Bytes.lines, Points.ended, Points.ids_text, Points.point_of}
 use Rattle.loc_rings.specs.Values.{Feature}
 use Rattle.loc_query.specs.Answered.{ids_where}
 

@@ -3,24 +3,16 @@
 --   steps_in         the most steps of a line, where the layer reads
 --   FeaturesTold     all that a user is told
 use Rattle.std.specs.Prelude.{◌≡◌, ℕ, ◌+◌, ◌*◌, ◌<◌, ◌≤◌, List, length, take, Ok, Err, codes}
-use Rattle.std.specs.Io.KnownBytes.{Appends}
-use Rattle.std.specs.List.{flat_map}
-use Rattle.loc_io.specs.Streams.{Stream}
-use Rattle.loc_io.specs.Meaning.{holds}
-use Rattle.loc_spec_text.specs.Bytes.{Text, ended_lines, lines}
-use Rattle.loc_spec_text.specs.Points.{ended}
+use Rattle.std.specs.{Io.KnownBytes.Appends, List.flat_map}
+use Rattle.loc_io.specs.{Streams.Stream, Meaning.holds}
+use Rattle.loc_spec_text.specs.{Bytes.Text, Bytes.ended_lines, Bytes.lines, Points.ended, Limits.most_text}
 use Rattle.loc_rings.specs.Values.{Feature}
-use Rattle.loc_csvform.specs.Layer.{LayerRead, layer_of}
-use Rattle.loc_csvform.specs.declared.faults.LayerFault.{LayerFault}
+use Rattle.loc_csvform.specs.{Layer.LayerRead, Layer.layer_of, declared.faults.LayerFault.LayerFault}
 use Rattle.loc_batch.specs.PointLines.{point_count}
-use Rattle.loc_course.specs.Moments.{Moment}
-use Rattle.loc_course.specs.Sentences.{Steady, Wrote}
-use Rattle.loc_maps.specs.LineTexts.{layer_fault_text}
-use Rattle.loc_maps.specs.MapCourses.{IsRead, LayerFile}
-use Rattle.loc_spec_text.specs.Limits.{most_text}
+use Rattle.loc_course.specs.{Moments.Moment, Sentences.Steady, Sentences.Wrote}
+use Rattle.loc_maps.specs.{LineTexts.layer_fault_text, MapCourses.IsRead, MapCourses.LayerFile}
 use Rattle.loc_told.specs.Answers.{IsDone, IsRefused, OrMemory}
-use Rattle.loc_features.specs.FeatureCourses.{features_steps}
-use Rattle.loc_features.specs.Features.{features_line, features_output}
+use Rattle.loc_features.specs.{FeatureCourses.features_steps, Features.features_line, Features.features_output}
 
 -- the answers to those lines that end within the first bytes of a points text
 abbrev pub features_within : ℕ → ℕ → List Feature → Text → Text

@@ -7,8 +7,7 @@
 --   Names          two lists name the features with these numbers that touch a point, and those that cover it
 use Rattle.std.specs.Prelude.{◌≡◌, ℕ, ◌≤◌, Bool, true, false, ◌&&◌, List, [], ◌∷◌, ◌++◌, filter, get_or, length, map, sum_by, take, Option, Some, None}
 use Rattle.std.specs.List.{list_any}
-use Rattle.loc_spec_plane.specs.Lists.{is_in}
-use Rattle.loc_spec_plane.specs.Points.{Point}
+use Rattle.loc_spec_plane.specs.{Lists.is_in, Points.Point}
 use Rattle.loc_spec_plane.specs.Rings.{Rings, segments, touches, covers}
 use Rattle.loc_batch.specs.Lists.{ListsState}
 use Rattle.loc_spans.specs.Boxes.{BoxedState, Kept, feature_of, rings_at}

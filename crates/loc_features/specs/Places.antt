@@ -2,12 +2,8 @@
 --   places_at, found_at  the place of a point in each part, as it is found; and with the point
 --   IsAt, AreAt          a place is that of a point in a part; so are the first of a list in all parts
 use Rattle.std.specs.Prelude.{ℕ, ◌-◌, ◌<◌, List, ◌++◌, get_or, length, map, replicate, None}
-use Rattle.loc_spec_plane.specs.Points.{Point}
-use Rattle.loc_spec_plane.specs.Places.{IsPlace}
-use Rattle.loc_spec_plane.specs.declared.Place.{Place}
-use Rattle.loc_spec_plane.specs.declared.Place.TheVariants.{Area}
-use Rattle.loc_place.specs.Answers.{IsInRange}
-use Rattle.loc_place.specs.Found.{place_at}
+use Rattle.loc_spec_plane.specs.{Points.Point, Places.IsPlace, declared.Place.Place, declared.Place.TheVariants.Area}
+use Rattle.loc_place.specs.{Answers.IsInRange, Found.place_at}
 use Rattle.loc_parts.specs.declared.parts.Part.{Part}
 use Rattle.loc_features.specs.declared.placing.Found.{Found}
 

@@ -1,7 +1,6 @@
 -- The lists of a query are those that stand here. The words: `NamesFeatures`, `QueryLaw`.
 use Rattle.std.specs.Prelude.{◌≡◌, ℕ, Bool, List}
-use Rattle.loc_spec_plane.specs.Points.{Point}
-use Rattle.loc_spec_plane.specs.Rings.{touches, covers}
+use Rattle.loc_spec_plane.specs.{Points.Point, Rings.touches, Rings.covers}
 use Rattle.loc_spec_text.specs.Points.{Answer, on_corner, on_border, in_face, no_point}
 use Rattle.loc_rings.specs.Values.{Feature}
 use Rattle.loc_query.specs.Answered.{ids_where, located}

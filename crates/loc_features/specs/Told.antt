@@ -4,14 +4,10 @@
 --   told_lists        the answer line by two lists of features
 --   told_at           the answer line to a point
 use Rattle.std.specs.Prelude.{ℕ, List, [], get_or, length, map}
-use Rattle.loc_spec_plane.specs.Points.{Point}
-use Rattle.loc_spec_plane.specs.Rings.{touches, covers}
+use Rattle.loc_spec_plane.specs.{Points.Point, Rings.touches, Rings.covers}
 use Rattle.loc_spec_text.specs.Points.{ended}
 use Rattle.loc_rings.specs.Values.{Feature}
-use Rattle.loc_batch.specs.Lists.{ListsState}
-use Rattle.loc_batch.specs.Streams.{plus}
-use Rattle.loc_batch.specs.Told.{Told}
-use Rattle.loc_batch.specs.declared.tally.Tally.{Tally}
+use Rattle.loc_batch.specs.{Lists.ListsState, Streams.plus, Told.Told, declared.tally.Tally.Tally}
 use Rattle.loc_query.specs.Answered.{ids_where}
 use Rattle.loc_features.specs.Features.{features_at, features_text}
 

@@ -1,11 +1,10 @@
 //! The features at the points of a file, from the bytes in to the bytes out.
 
 ghost use Rattle.std.specs.Prelude.{◌≤◌, length};
-ghost use Rattle.loc_course.specs.Following.{Follows, moment};
-ghost use Rattle.loc_course.specs.Stops.{end_of};
 ghost use Rattle.loc_maps.specs.MapCourses.{layer_file};
 ghost use Rattle.loc_parts.specs.Parts.{IsParted};
 ghost use Rattle.loc_features.specs.FeatureCourses.{features_course, features_points};
+ghost use Rattle.loc_course.specs.Runs.{Runs};
 
 use crate::answering::ByParts;
 use crate::placing::Found;
@@ -35,9 +34,7 @@ fn answer_by<const N: usize, F: Shelf, O: Sink, L: Ledger>(
     requires room { N ≤ 16 }
     requires parted { IsParted layer.now parted.now }
     requires few { length parted.now.parts.items ≤ N }
-    ensures { Follows (features_points scale points.now layer.now)
-        (moment (F.meaning shelf.old) (O.meaning out.old) steps.old)
-        (moment (F.meaning shelf.new) (O.meaning out.new) steps.new) (end_of result) }
+    ensures { Runs (features_points scale points.now layer.now) F.meaning shelf O.meaning out steps result }
 {
     let mut batch: Batch<Found<N>> = Batch::make(alloc, scale.decimals(), MOST_TEXT as u64)?;
     let by: ByParts<N> = ByParts { parted, layer };
@@ -62,9 +59,7 @@ fn answer_points<F: Shelf, O: Sink, L: Ledger>(
     out: &mut O,
     steps: &mut Steps<L>,
 ) -> Result<(), Stop>
-    ensures { Follows (features_points scale points.now layer.now)
-        (moment (F.meaning shelf.old) (O.meaning out.old) steps.old)
-        (moment (F.meaning shelf.new) (O.meaning out.new) steps.new) (end_of result) }
+    ensures { Runs (features_points scale points.now layer.now) F.meaning shelf O.meaning out steps result }
 {
     let parted = Parted::make(alloc, layer)?;
     let count = parted.parts.len();
@@ -89,9 +84,8 @@ pub fn features<F: Shelf, O: Sink, L: Ledger>(
     out: &mut O,
     steps: &mut Steps<L>,
 ) -> Result<(), Stop>
-    ensures { Follows (features_course (layer_file layer_name.now form scale) points_name.now)
-        (moment (F.meaning shelf.old) (O.meaning out.old) steps.old)
-        (moment (F.meaning shelf.new) (O.meaning out.new) steps.new) (end_of result) }
+    ensures { Runs (features_course (layer_file layer_name.now form scale) points_name.now)
+        F.meaning shelf O.meaning out steps result }
 {
     let layer = read_features_file(alloc, shelf, layer_name, form, scale)?;
     answer_points(alloc, &layer, scale, points_name, shelf, out, steps)

@@ -1,14 +1,10 @@
 -- The rows of the cover lists: a list is as many members behind its length.
 use Rattle.std.proofs.Common.{◌≡◌, ℕ, ◌+◌, ◌-◌, ◌^◌, ◌<◌, ◌≤◌, Bool, ◌&&◌, List, [], ◌∷◌, ◌++◌, length, map, refl, sym, ◌∙◌, ap, subst, arith}
 use Rattle.std.specs.Prelude.{Option, None, min, nat_lt, sum_by}
-use Rattle.std.specs.Int.{w32}
-use Rattle.std.specs.List.{last_or}
-use Rattle.std.proofs.lemmas.List.{length-append}
-use Rattle.std.proofs.lemmas.List.Sums.{sum_by-append}
-use Rattle.loc_spec_plane.specs.Lists.{is_rising}
-use Rattle.loc_spec_plane.specs.Covers.{list_before}
-use Rattle.loc_spec_index.specs.declared.IndexFault.{IndexFault}
-use Rattle.loc_spec_index.specs.declared.Part.TheVariants.{Covers}
+use Rattle.std.specs.{Int.w32, List.last_or}
+use Rattle.std.proofs.{lemmas.List.length-append, lemmas.List.Sums.sum_by-append}
+use Rattle.loc_spec_plane.specs.{Lists.is_rising, Covers.list_before}
+use Rattle.loc_spec_index.specs.{declared.IndexFault.IndexFault, declared.Part.TheVariants.Covers}
 use Rattle.loc_spec_index.specs.IndexFile.{Field, number, order, follows, cover_fields, cover_row}
 use Rattle.loc_file.specs.Readings.{Left, IsRead, IsWrong, IsFaultIn, IsRowStop, IsRowsStop, AreRows, stop, no_memory, alone, one}
 use Rattle.loc_laws_index.proofs.Progress.{map-rows}

@@ -2,13 +2,11 @@
 use Rattle.std.proofs.Common.{◌≡◌, ◌≢◌, ℕ, zero, suc, ◌+◌, ◌-◌, ◌*◌, ◌^◌, ◌<◌, ◌≤◌, Bool, true, false, List, [], ◌∷◌, length, max, refl, sym, ap, subst, arith, ◌⊎◌, inl, inr}
 use Rattle.std.specs.Prelude.{nat_le, if◌then◌else◌}
 use Rattle.std.specs.List.{list_all, range_with_len}
-use Rattle.std.proofs.Math.Pow.{pow_mono}
+use Rattle.std.proofs.{Math.Pow.pow_mono, lemmas.Nat.mul-le}
 use Rattle.std.proofs.lemmas.Bool.{and_from, and_parts, not-true, ltb-false, cases_lt, le-leb, leb-true}
-use Rattle.std.proofs.lemmas.Nat.{mul-le}
 use Rattle.loc_spec_plane.specs.Tables.{Table}
-use Rattle.loc_spec_index.specs.declared.NodeRow.{NodeRow}
+use Rattle.loc_spec_index.specs.{declared.NodeRow.NodeRow, Content.Content, Content.root_of}
 use Rattle.loc_spec_index.specs.Nodes.{Side, Left, Right, child, child_of, row_of, led_to, IsShallow}
-use Rattle.loc_spec_index.specs.Content.{Content, root_of}
 use Rattle.loc_place.specs.Steps.{version_bound, most_steps}
 use Rattle.loc_place.proofs.SearchBounds.{both_within, within_most}
 use Rattle.loc_file.specs.Depths.{depth_from, is_level, most_of}

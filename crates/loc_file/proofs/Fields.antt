@@ -4,13 +4,11 @@ use Rattle.std.specs.Prelude.{Some, nat_lt, ◌==◌, codes, unsigned_abs, FitsS
 use Rattle.std.specs.Str.{bytes_eq}
 use Rattle.std.specs.Int.{w8, w32, w64, to_be_bytes, from_be_bytes, cast_signed, cast_unsigned}
 use Rattle.std.proofs.lemmas.Nat.{be_bytes_4, be_bytes_8}
-use Rattle.byteorder.specs.Endian.{big_number}
-use Rattle.byteorder.specs.Numbers.{big_from-lt}
+use Rattle.byteorder.specs.{Endian.big_number, Numbers.big_from-lt}
 use Rattle.std.proofs.lemmas.Bool.{le-ltb, lt-ltb, ne_eqb, or_from}
 use Rattle.std.proofs.lemmas.Int.{of_z-to_z, to_z-of_z, ints}
-use Rattle.loc_spec_index.specs.declared.IndexFault.{IndexFault}
+use Rattle.loc_spec_index.specs.{declared.IndexFault.IndexFault, declared.Part.Part}
 use Rattle.loc_spec_index.specs.declared.IndexFault.TheVariants as fault
-use Rattle.loc_spec_index.specs.declared.Part.{Part}
 use Rattle.loc_spec_index.specs.IndexFile.{Field, magic, version, is_version, number, coordinate, order, spelled, is_right, fault_at, with_bytes, unless}
 use Rattle.loc_spec_plane.specs.Points.{OnGrid}
 use Rattle.loc_laws_index.proofs.RightFields.{unless-holds}

@@ -3,8 +3,7 @@ use Rattle.std.proofs.Common.{◌≡◌, ℕ, zero, suc, ◌+◌, ◌<◌, ◌�
 use Rattle.std.specs.Prelude.{Some, None, ◌≢◌, ◌==◌, filter}
 use Rattle.std.specs.List.{range_with_len, AllByRecursion}
 use Rattle.std.proofs.lemmas.Bool.{cases_eq, cond-false, cond-true, eq-eqb, ne_eqb}
-use Rattle.loc_spec_plane.specs.Lists.{is_rising, numbers}
-use Rattle.loc_spec_plane.specs.declared.Mark.{Mark}
+use Rattle.loc_spec_plane.specs.{Lists.is_rising, Lists.numbers, declared.Mark.Mark}
 use Rattle.loc_spec_index.specs.IndexFile.{mark_row_before}
 use Rattle.loc_laws_index.proofs.RightRows.{Chain, by-first, rising-chain}
 use Rattle.loc_edges.specs.Ending.{row_of}

@@ -2,26 +2,18 @@
 use Rattle.std.proofs.Common.{◌≡◌, ℕ, zero, suc, ◌-◌, ◌^◌, ◌<◌, ◌≤◌, true, List, [], ◌∷◌, length, map, get_or, refl, sym, ◌∙◌, ap, subst, arith}
 use Rattle.std.specs.Prelude.{IfSome, All, nat_lt}
 use Rattle.std.proofs.lemmas.List.{length-map, get_or_read}
-use Rattle.loc_spec_plane.specs.Lists.{is_rising, numbers}
-use Rattle.loc_spec_plane.specs.Points.{Point, before}
-use Rattle.loc_spec_plane.specs.declared.Mark.{Mark}
+use Rattle.loc_spec_plane.specs.{Lists.is_rising, Lists.numbers, Points.Point, Points.before, declared.Mark.Mark}
 use Rattle.loc_spec_plane.specs.Tables.{Table, IsTable, pair_before}
 use Rattle.loc_spec_index.specs.Content.{Content, EdgeRow, table_in, cover_numbers}
-use Rattle.loc_spec_index.specs.IndexFile.{IsFileOf, bytes_of}
-use Rattle.loc_edges.specs.Parts.{GoesUpBelow, table_of_parts}
+use Rattle.loc_spec_index.specs.{IndexFile.IsFileOf, IndexFile.bytes_of, declared.NodeRow.NodeRow}
+use Rattle.loc_edges.specs.{Parts.GoesUpBelow, Parts.table_of_parts, Ending.row_of}
 use Rattle.loc_cover.specs.Legends.{LegendRows, FitsTable, AreLists}
-use Rattle.loc_laws_index.proofs.RightRows.{IsEdgeIn}
-use Rattle.loc_laws_index.proofs.FileFacts.{Facts, facts}
-use Rattle.loc_laws_index.proofs.HeldTable.{file_holds_table}
+use Rattle.loc_laws_index.proofs.{RightRows.IsEdgeIn, FileFacts.Facts, FileFacts.facts, HeldTable.file_holds_table}
 use Rattle.loc_laws_index.proofs.AgreeTable.{content-same, most-small}
-use Rattle.loc_file.specs.declared.edges.EdgeOf.{EdgeOf}
-use Rattle.loc_file.specs.Told.{told, told_source}
+use Rattle.loc_file.specs.{declared.edges.EdgeOf.EdgeOf, Told.told, Told.told_source, Searches.IsNodeIn}
 use Rattle.loc_file.specs.Keeping.{edge_rows, marks_from, content_of, IsHeld}
 use Rattle.loc_write.proofs.Held.{covers-of}
-use Rattle.loc_edges.specs.Ending.{row_of}
-use Rattle.loc_spec_index.specs.declared.NodeRow.{NodeRow}
 use Rattle.loc_file.proofs.Flatten.{marks-flat}
-use Rattle.loc_file.specs.Searches.{IsNodeIn}
 
 -- what holds of the images of rows, read by another way
 all-image : {X Y Z : Type 0} (g : X → Z) (f : X → Y) (P : Z → Type 0) (Q : Y → Type 0) → ((x : X) → P (g x) → Q (f x)) → (xs : List X) → ((i : ℕ) (d : Z) → i < length (map g xs) → P (get_or (map g xs) i d)) → (i : ℕ) (d : Y) → i < length (map f xs) → Q (get_or (map f xs) i d)

@@ -1,7 +1,6 @@
 -- The loops of a reader: the rows so far, and what comes of one row more.
 use Rattle.std.proofs.Common.{◌≡◌, ℕ, ◌+◌, ◌-◌, ◌<◌, List, [], ◌∷◌, ◌++◌, length, refl, sym, ◌∙◌, subst, arith}
-use Rattle.std.specs.Prelude.{Option, Some, None}
-use Rattle.std.specs.List.{last_or}
+use Rattle.std.specs.{Prelude.Option, Prelude.Some, Prelude.None, List.last_or}
 use Rattle.std.proofs.lemmas.List.{length-append}
 use Rattle.loc_spec_index.specs.declared.IndexFault.{IndexFault}
 use Rattle.loc_spec_index.specs.IndexFile.{Field, rows_from, rows_of}

@@ -1,17 +1,14 @@
 -- Whether a row follows the one before it, as the code tells it.
 use Rattle.std.proofs.Common.{◌≡◌, ℕ, Bool, true, ◌&&◌, List, [], ◌∷◌, ◌++◌, refl, sym, ◌∙◌, ap, arith}
 use Rattle.std.specs.Prelude.{Option, Some, None, nat_lt, slice_get, option_map, map, length, ◌-◌}
-use Rattle.std.specs.List.{last_or}
-use Rattle.std.specs.Ordering.{MatchOrdering, is_lt, nat_cmp}
+use Rattle.std.specs.{List.last_or, Ordering.MatchOrdering, Ordering.is_lt, Ordering.nat_cmp}
 use Rattle.std.specs.declared.cmp.Ordering.{Ordering}
 use Rattle.std.specs.declared.cmp.Ordering.TheVariants.{Less, Equal, Greater}
-use Rattle.std.specs.Cmp.{both_ways}
+use Rattle.std.specs.{Cmp.both_ways, Cmp.Lexicographic.slice_cmp}
 use Rattle.std.proofs.lemmas.Bool.{and_parts, and_from, false_from_ne_true, ltb-true, lt-ltb}
 use Rattle.loc_laws_index.proofs.RightRows.{Chain, chain-rising, rising-chain}
-use Rattle.std.specs.Cmp.Lexicographic.{slice_cmp}
-use Rattle.loc_spec_plane.specs.Covers.{list_before}
+use Rattle.loc_spec_plane.specs.{Covers.list_before, Lists.is_rising}
 use Rattle.loc_cover.proofs.Lexicographic.{lists_ranked, lists_by_before}
-use Rattle.loc_spec_plane.specs.Lists.{is_rising}
 use Rattle.loc_spec_index.specs.IndexFile.{follows}
 
 module _ (x : ℕ) where

@@ -1,9 +1,8 @@
 -- What a reader of all parts says of the bytes: they are a file, or they have their first fault.
 use Rattle.std.proofs.Common.{◌≡◌, ℕ, ◌+◌, ◌<◌, List, ◌++◌, length, refl, sym, ◌∙◌, ap, subst, append-nil, arith}
 use Rattle.std.proofs.lemmas.List.{nil_from_length}
-use Rattle.loc_spec_index.specs.declared.IndexFault.{IndexFault}
+use Rattle.loc_spec_index.specs.{declared.IndexFault.IndexFault, Content.Content}
 use Rattle.loc_spec_index.specs.declared.IndexFault.TheVariants as fault
-use Rattle.loc_spec_index.specs.Content.{Content}
 use Rattle.loc_spec_index.specs.IndexFile.{Field, fields, spelled, spelled_all, bytes_of, fault_at, with_bytes, IsShaped, IsFileOf, AreReached, HasFault}
 use Rattle.loc_spec_index.specs.IndexFile as file
 use Rattle.loc_file.specs.Readings.{Left, IsRead, IsWrong, IsFaultIn, IsStop, short, wrong, stop, no_memory}

@@ -1,23 +1,16 @@
 -- What the search finds, by where the point stands among the corners.
 use Rattle.std.proofs.Common.{◌≡◌, ℕ, zero, suc, true, ◌-◌, List, get_or, refl, sym, ◌∙◌, ap, subst, arith}
 use Rattle.std.specs.Prelude.{Some, None, Ok, Err, IfOk, IsOkAnd, count_by}
-use Rattle.loc_spec_plane.specs.Points.{Point, before}
-use Rattle.loc_spec_plane.specs.Tables.{Table, IsTable}
-use Rattle.loc_spec_plane.specs.Places.{is_corner_of, IsPlace}
-use Rattle.loc_spec_plane.specs.declared.Place.{Place}
+use Rattle.loc_spec_plane.specs.{Points.Point, Points.before, Tables.Table, Tables.IsTable}
+use Rattle.loc_spec_plane.specs.{Places.is_corner_of, Places.IsPlace, declared.Place.Place}
 use Rattle.loc_spec_plane.specs.declared.Place.TheVariants.{Corner, Border, Area}
-use Rattle.loc_spec_index.specs.declared.NodeRow.{NodeRow}
-use Rattle.loc_spec_index.specs.Content.{Content, table_in, search_in}
-use Rattle.loc_spec_index.specs.IndexFile.{IsFileOf}
+use Rattle.loc_spec_index.specs.{declared.NodeRow.NodeRow, Content.Content, Content.table_in, Content.search_in}
+use Rattle.loc_spec_index.specs.{IndexFile.IsFileOf, Laws.IsPlaceIn}
 use Rattle.loc_spec_index.specs.Search.{Found, walk, search_from, search_for}
-use Rattle.loc_spec_index.specs.Laws.{IsPlaceIn}
-use Rattle.loc_laws_index.proofs.FlawKinds.{as_many}
-use Rattle.loc_laws_index.proofs.InRange.{search_in_range}
+use Rattle.loc_laws_index.proofs.{FlawKinds.as_many, InRange.search_in_range}
 use Rattle.loc_laws_search.proofs.Counted.{finds-corner, finds-none, counts-passed}
-use Rattle.loc_place.specs.Answers.{Answer, IsInRange}
-use Rattle.loc_place.specs.Standing.{IsBehind}
-use Rattle.loc_file.specs.Searches.{answer_of, IsIndexFor}
-use Rattle.loc_file.specs.Standing.{index_finds}
+use Rattle.loc_place.specs.{Answers.Answer, Answers.IsInRange, Standing.IsBehind}
+use Rattle.loc_file.specs.{Searches.answer_of, Searches.IsIndexFor, Standing.index_finds}
 
 module _ (t : Table) (ok : IsTable t) (p : Point) (rows : List NodeRow) (roots : List ℕ) where
   pub search-corner : (n : ℕ) → is_corner_of t p n ≡ true → answer_of (search_for t rows p roots) ≡ Ok (Corner n)

@@ -1,18 +1,12 @@
 -- Where a part stops: all parts before it were read, and those behind it can be any.
 use Rattle.std.proofs.Common.{ℕ, ◌+◌, true, List, [], ◌++◌, replicate, pos}
-use Rattle.std.specs.Prelude.{Option, None}
+use Rattle.std.specs.{Prelude.Option, Prelude.None, Int.w32}
 use Rattle.std.proofs.lemmas.List.{length-replicate}
-use Rattle.std.specs.Int.{w32}
-use Rattle.loc_spec_plane.specs.Points.{Point}
-use Rattle.loc_spec_plane.specs.declared.Mark.{Mark}
-use Rattle.loc_spec_index.specs.declared.IndexFault.{IndexFault}
-use Rattle.loc_spec_index.specs.declared.NodeRow.{NodeRow}
-use Rattle.loc_spec_index.specs.Nodes.{no_row}
+use Rattle.loc_spec_plane.specs.{Points.Point, declared.Mark.Mark}
+use Rattle.loc_spec_index.specs.{declared.IndexFault.IndexFault, declared.NodeRow.NodeRow, Nodes.no_row}
 use Rattle.loc_spec_index.specs.IndexFile.{fields, rows_from, IsShaped, corner_row, cover_fields, floor_field, id_fields, mark_row, node_fields, number, rows_of}
-use Rattle.loc_file.specs.declared.edges.EdgeOf.{EdgeOf}
-use Rattle.loc_file.specs.declared.header.Header.{Header}
+use Rattle.loc_file.specs.{declared.edges.EdgeOf.EdgeOf, declared.header.Header.Header, Told.header_row, Told.told_row}
 use Rattle.loc_file.specs.Readings.{Left, IsRead, IsStop, IsRowStop, IsRowsStop, AreRows, stop, no_memory, alone, one}
-use Rattle.loc_file.specs.Told.{header_row, told_row}
 use Rattle.loc_file.proofs.Steps.{fault-behind, fault-front, read-append}
 use Rattle.loc_file.proofs.Whole.{content, content-stop, content-read, shaped}
 

@@ -3,11 +3,9 @@ use Rattle.std.proofs.Common.{◌≡◌, ℕ, List, [], ◌∷◌, length, repli
 use Rattle.std.specs.Prelude.{Result, Ok, Err, IfErr}
 use Rattle.std.specs.Int.{w8}
 use Rattle.std.proofs.lemmas.List.{length-replicate}
-use Rattle.loc_spec_index.specs.declared.IndexFault.{IndexFault}
-use Rattle.loc_spec_index.specs.IndexFile.{number, text, id_fields}
+use Rattle.loc_spec_index.specs.{declared.IndexFault.IndexFault, IndexFile.number, IndexFile.text, IndexFile.id_fields}
 use Rattle.loc_file.specs.Readings.{Left, IsShort, IsRead, IsWrong, IsRowStop, stop}
-use Rattle.loc_file.proofs.Fields.{short-at}
-use Rattle.loc_file.proofs.Steps.{read-along, fault-first, fault-next}
+use Rattle.loc_file.proofs.{Fields.short-at, Steps.read-along, Steps.fault-first, Steps.fault-next}
 
 pub text-short : {T : Type 0} (r : Result T IndexFault) (count : ℕ) (a : Left) → IfErr r (IsShort count a) → IfErr r (λ f. (held : List ℕ) → length held ≡ count → IsWrong (text held) a f)
 text-short (Ok x) count a h = tt

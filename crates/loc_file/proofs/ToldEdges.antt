@@ -1,11 +1,9 @@
 -- Edges as they are read, as rows of a version.
 use Rattle.std.proofs.Common.{◌≡◌, ℕ, Bool, true, false, List, [], ◌∷◌, map, refl}
 use Rattle.std.specs.Prelude.{Option, Some, option_map, if◌then◌else◌}
-use Rattle.std.specs.Int.{w32}
-use Rattle.std.specs.List.{last_or}
+use Rattle.std.specs.{Int.w32, List.last_or}
 use Rattle.loc_spec_index.specs.IndexFile.{names_sources, number, source_fields}
-use Rattle.loc_file.specs.declared.edges.EdgeOf.{EdgeOf}
-use Rattle.loc_file.specs.Told.{told, told_source}
+use Rattle.loc_file.specs.{declared.edges.EdgeOf.EdgeOf, Told.told, Told.told_source}
 
 -- the last of the rows is that of the last edge
 pub last-told : (v : ℕ) (o : Option EdgeOf) (es : List EdgeOf) → last_or (option_map (told v) o) (map (told v) es) ≡ option_map (told v) (last_or o es)

@@ -1,24 +1,17 @@
 -- The steps of a search in a true index: those of a walk in the version of the edges alive at the point.
 use Rattle.std.proofs.Common.{◌≡◌, ℕ, zero, suc, ◌+◌, ◌-◌, ◌*◌, ◌^◌, ◌<◌, ◌≤◌, Bool, true, false, not, ◌&&◌, List, [], ◌∷◌, length, refl, sym, ◌∙◌, ap, subst, arith, inl, inr}
 use Rattle.std.specs.Prelude.{nat_lt, filter, cond}
-use Rattle.std.proofs.Math.Pow.{pow_mono}
-use Rattle.std.proofs.lemmas.Bool.{and_left, cases_lt, le-ltb}
-use Rattle.std.proofs.lemmas.Nat.{mul-le}
-use Rattle.std.proofs.lemmas.List.Sums.{length-filter}
-use Rattle.loc_spec_plane.specs.Points.{Point}
+use Rattle.std.proofs.{Math.Pow.pow_mono, lemmas.Bool.and_left, lemmas.Bool.cases_lt, lemmas.Bool.le-ltb}
+use Rattle.std.proofs.{lemmas.Nat.mul-le, lemmas.List.Sums.length-filter}
+use Rattle.loc_spec_plane.specs.{Points.Point, Places.alive, Places.alive_at, Places.is_edge}
 use Rattle.loc_spec_plane.specs.Tables.{Table, IsTable, corner, edge, edge_numbers, lo_of, hi_of}
-use Rattle.loc_spec_plane.specs.Places.{alive, alive_at, is_edge}
 use Rattle.loc_spec_index.specs.Content.{Content, table_in, root_of}
 use Rattle.loc_spec_index.specs.TrueIndex.{alive_count as count_at}
 use Rattle.loc_laws_index.proofs.FlawKinds.{as_many, as_many_corners}
-use Rattle.loc_place.specs.Standing.{IsBehind}
-use Rattle.loc_place.proofs.Behind.{alive_is}
+use Rattle.loc_place.specs.{Standing.IsBehind, Steps.alive_count, Steps.search_bound, Steps.most_steps}
+use Rattle.loc_place.proofs.{Behind.alive_is, SearchBounds.both_within, ListCounts.alive_few, ListCounts.square_rises}
 use Rattle.loc_status.proofs.AtCorner.{alive_at_corner}
-use Rattle.loc_place.specs.Steps.{alive_count, search_bound, most_steps}
-use Rattle.loc_place.proofs.SearchBounds.{both_within}
-use Rattle.loc_place.proofs.ListCounts.{alive_few, square_rises}
-use Rattle.loc_file.specs.Searches.{IsIndexFor}
-use Rattle.loc_file.specs.Depths.{depth_from, most_of}
+use Rattle.loc_file.specs.{Searches.IsIndexFor, Depths.depth_from, Depths.most_of}
 use Rattle.loc_file.proofs.Deep.{depth-shallow, level-from}
 
 -- behind a corner the edges alive are those alive there

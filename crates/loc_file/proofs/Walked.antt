@@ -1,9 +1,7 @@
 -- The nodes that a walk meets are there.
 use Rattle.std.proofs.Common.{◌≡◌, ℕ, ◌≤◌, length, ◌∙◌, ap}
 use Rattle.loc_spec_plane.specs.Tables.{Table}
-use Rattle.loc_spec_index.specs.declared.NodeRow.{NodeRow}
-use Rattle.loc_spec_index.specs.Nodes.{Side, child}
-use Rattle.loc_spec_index.specs.Content.{Content, table_in}
+use Rattle.loc_spec_index.specs.{declared.NodeRow.NodeRow, Nodes.Side, Nodes.child, Content.Content, Content.table_in}
 use Rattle.loc_laws_index.proofs.FileFacts as laws
 use Rattle.loc_laws_index.proofs.FlawKinds.{as_many}
 use Rattle.loc_file.specs.Searches.{IsNodeIn}

@@ -1,19 +1,13 @@
 -- A file as its parts: the fields of a content are those of its header and of its rows, and where a part stops, the rest can be any.
 use Rattle.std.proofs.Common.{◌≡◌, ℕ, ◌+◌, Bool, true, false, ◌||◌, List, [], ◌∷◌, ◌++◌, length, map, refl, sym, ◌∙◌, ap, ap₂, append-nil, subst}
 use Rattle.std.specs.Prelude.{Option, None, if◌then◌else◌}
-use Rattle.std.specs.Int.{w32}
-use Rattle.std.specs.List.{flat_map, list_all}
-use Rattle.std.proofs.lemmas.Bool.{and_from, eq-eqb}
-use Rattle.std.proofs.lemmas.List.{length-map}
-use Rattle.loc_spec_plane.specs.Points.{Point}
-use Rattle.loc_spec_plane.specs.declared.Mark.{Mark}
-use Rattle.loc_spec_index.specs.declared.IndexFault.{IndexFault}
-use Rattle.loc_spec_index.specs.declared.NodeRow.{NodeRow}
-use Rattle.loc_spec_index.specs.Content.{Content}
+use Rattle.std.specs.{Int.w32, List.flat_map, List.list_all}
+use Rattle.std.proofs.{lemmas.Bool.and_from, lemmas.Bool.eq-eqb, lemmas.List.length-map}
+use Rattle.loc_spec_plane.specs.{Points.Point, declared.Mark.Mark}
+use Rattle.loc_spec_index.specs.{declared.IndexFault.IndexFault, declared.NodeRow.NodeRow, Content.Content}
 use Rattle.loc_spec_index.specs.IndexFile.{Field, number, fields, rows_from, edge_fields, edge_row, header_of, is_own_source, names_sources, parts_behind, IsShaped, corner_row, cover_fields, floor_field, id_fields, mark_row, node_fields, rows_of}
 use Rattle.loc_laws_index.proofs.Progress.{flat-rows, map-rows, same-numbers}
-use Rattle.loc_file.specs.declared.edges.EdgeOf.{EdgeOf}
-use Rattle.loc_file.specs.declared.header.Header.{Header}
+use Rattle.loc_file.specs.{declared.edges.EdgeOf.EdgeOf, declared.header.Header.Header}
 use Rattle.loc_file.specs.Readings.{Left, IsRead, IsFaultIn, IsStop, stop, alone, one}
 use Rattle.loc_file.specs.Told.{header_row, told, told_row}
 use Rattle.loc_file.proofs.ToldEdges.{last-told}

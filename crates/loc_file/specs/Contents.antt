@@ -1,8 +1,7 @@
 -- What was read, as the content of a file: `content_in`.
 use Rattle.std.specs.Prelude.{map}
 use Rattle.loc_spec_index.specs.Content.{Content}
-use Rattle.loc_file.specs.declared.parts.Parts.{Parts}
-use Rattle.loc_file.specs.Told.{told}
+use Rattle.loc_file.specs.{declared.parts.Parts.Parts, Told.told}
 
 -- the content of all parts that were read
 abbrev pub content_in : Parts → Content

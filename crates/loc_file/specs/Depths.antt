@@ -4,10 +4,8 @@
 --   most_of      the tree's bound where the file is level, else all corners and 42 nodes
 use Rattle.std.specs.Prelude.{ℕ, zero, suc, ◌+◌, ◌^◌, max, Bool, List, length, if◌then◌else◌, nat_le}
 use Rattle.std.specs.List.{list_all}
-use Rattle.loc_spec_plane.specs.Lists.{numbers}
-use Rattle.loc_spec_plane.specs.Tables.{Table}
-use Rattle.loc_spec_index.specs.declared.NodeRow.{NodeRow}
-use Rattle.loc_spec_index.specs.Nodes.{Left, Right, child_of}
+use Rattle.loc_spec_plane.specs.{Lists.numbers, Tables.Table}
+use Rattle.loc_spec_index.specs.{declared.NodeRow.NodeRow, Nodes.Left, Nodes.Right, Nodes.child_of}
 use Rattle.loc_spec_index.specs.Content.{Content, root_of}
 use Rattle.loc_place.specs.Steps.{version_bound, most_steps}
 

@@ -3,8 +3,7 @@
 --   IsHeld  a content is that of a file, and a table and a legend are its own
 use Rattle.std.specs.Prelude.{◌≡◌, ℕ, length}
 use Rattle.loc_spec_plane.specs.Tables.{Table}
-use Rattle.loc_spec_index.specs.Content.{Content, table_in}
-use Rattle.loc_spec_index.specs.IndexFile.{IsFileOf, bytes_of}
+use Rattle.loc_spec_index.specs.{Content.Content, Content.table_in, IndexFile.IsFileOf, IndexFile.bytes_of}
 use Rattle.loc_cover.specs.Legends.{LegendRows, FitsTable}
 pub use Rattle.loc_write.specs.Written.{edge_rows, marks_from, content_of}
 

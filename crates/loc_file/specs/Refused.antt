@@ -1,8 +1,7 @@
 -- Why bytes are refused: `IsRefused`; and what follows, as statements: `OneRefusal` and `NoRefusalOfFile`.
 use Rattle.std.specs.Prelude.{◌≡◌, ◌≢◌, ℕ, List}
-use Rattle.loc_spec_index.specs.declared.IndexFault.{IndexFault}
+use Rattle.loc_spec_index.specs.{declared.IndexFault.IndexFault, Content.Content}
 use Rattle.loc_spec_index.specs.declared.IndexFault.TheVariants as fault
-use Rattle.loc_spec_index.specs.Content.{Content}
 use Rattle.loc_spec_index.specs.IndexFile.{IsFileOf, HasFault}
 
 -- the first fault of the bytes; or memory was wanting, which says nothing of them

@@ -4,10 +4,8 @@
 --   IsNodeIn    the numbers of a node are those of an edge and of nodes
 use Rattle.std.specs.Prelude.{◌≡◌, ℕ, ◌<◌, ◌≤◌, length, Ok, Err}
 use Rattle.loc_spec_text.specs.Limits.{most_pieces}
-use Rattle.loc_spec_index.specs.declared.NodeRow.{NodeRow}
+use Rattle.loc_spec_index.specs.{declared.NodeRow.NodeRow, Content.Content, Content.table_in, TrueIndex.IsTrueIndex}
 use Rattle.loc_spec_plane.specs.Tables.{Table, IsTable}
-use Rattle.loc_spec_index.specs.Content.{Content, table_in}
-use Rattle.loc_spec_index.specs.TrueIndex.{IsTrueIndex}
 use Rattle.loc_spec_index.specs.Search.{Found}
 use Rattle.loc_place.specs.Answers.{Answer}
 

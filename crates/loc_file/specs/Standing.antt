@@ -2,11 +2,8 @@
 -- `index_apart`, `index_finds`.
 use Rattle.std.specs.Prelude.{IsOkAnd}
 use Rattle.std.proofs.Common.{sym, subst}
-use Rattle.loc_spec_plane.specs.Points.{Point}
-use Rattle.loc_spec_plane.specs.Tables.{Table, IsTable, NoConflict}
-use Rattle.loc_spec_plane.specs.Places.{IsPlace}
-use Rattle.loc_spec_index.specs.Content.{Content, table_in}
-use Rattle.loc_spec_index.specs.Search.{search_for}
+use Rattle.loc_spec_plane.specs.{Points.Point, Tables.Table, Tables.IsTable, Tables.NoConflict, Places.IsPlace}
+use Rattle.loc_spec_index.specs.{Content.Content, Content.table_in, Search.search_for}
 use Rattle.loc_laws_search.proofs.FindsPlace.{search_finds_place}
 use Rattle.loc_file.specs.Searches.{answer_of, IsIndexFor}
 

@@ -5,8 +5,7 @@
 use Rattle.std.specs.Prelude.{ℕ, List, Option, option_map, if◌then◌else◌}
 use Rattle.loc_spec_index.specs.Content.{EdgeRow}
 use Rattle.loc_spec_index.specs.IndexFile.{Field, edge_row, header_of, names_sources}
-use Rattle.loc_file.specs.declared.edges.EdgeOf.{EdgeOf}
-use Rattle.loc_file.specs.declared.header.Header.{Header}
+use Rattle.loc_file.specs.{declared.edges.EdgeOf.EdgeOf, declared.header.Header.Header}
 
 -- the source of an edge in a version
 abbrev pub told_source : ℕ → EdgeOf → ℕ × ℕ

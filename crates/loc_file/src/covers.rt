@@ -15,27 +15,27 @@ use loc_spec_index::{IndexFault, Part};
 use loc_spec_text::MOST_MEMBERS;
 use std::alloc::Global;
 
-// The members of a list, and whether they rise.
-fn read_members(
+// So many numbers below a bound, as the members of a list or the roots, and whether they rise.
+pub(crate) fn read_numbers(
     alloc: Global,
     cursor: &mut Cursor<'_>,
-    features: u32,
+    bound: u32,
     count: u32,
 ) -> Result<(Vec<u32>, bool), IndexFault>
-    ensures ok { IfOk result (λ found. AreRows (alone (one (number w32 features))) count found.0.items cursor.old cursor.new) }
+    ensures ok { IfOk result (λ found. AreRows (alone (one (number w32 bound))) count found.0.items cursor.old cursor.new) }
     ensures rising { IfOk result (λ found. found.1 ≡ is_rising nat_lt found.0.items) }
-    ensures err { IfErr result (IsRowsStop (alone (one (number w32 features))) count cursor.old) }
+    ensures err { IfErr result (IsRowsStop (alone (one (number w32 bound))) count cursor.old) }
 {
-    let mut members = Vec::new(alloc);
+    let mut numbers = Vec::new(alloc);
     let mut last = None;
     let mut rises = true;
     for _row in 0..count {
-        let member = cursor.number(features)?;
-        rises = is_still(rises, last, member);
-        keep(&mut members, member)?;
-        last = Some(member);
+        let number = cursor.number(bound)?;
+        rises = is_still(rises, last, number);
+        keep(&mut numbers, number)?;
+        last = Some(number);
     }
-    Ok((members, rises))
+    Ok((numbers, rises))
 }
 
 // Whether a member is above the one before it, if there is one.
@@ -97,7 +97,7 @@ fn next_cover(
     ensures err { IfErr result (IsRowStop (cover_row features members row (last_or None (map (λ other. other.items) others.now))) cursor.old) }
 {
     let count = cursor.number(bound_of(features, members))?;
-    let (list, rises) = read_members(alloc, cursor, features, count)?;
+    let (list, rises) = read_numbers(alloc, cursor, features, count)?;
     let holds = is_in_order(rises, others, list.as_slice());
     cursor.in_order(holds, Part::Covers, row)?;
     Ok(list)

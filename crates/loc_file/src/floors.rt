@@ -1,8 +1,7 @@
-// The parts of the floors and of the roots.
+// The part of the floors.
 
 ghost use Rattle.std.specs.Prelude.{◌+◌, ◌<◌, ◌^◌, IfOk, IfErr};
-ghost use Rattle.std.specs.Int.{w32};
-ghost use Rattle.loc_spec_index.specs.IndexFile.{floor_field, number};
+ghost use Rattle.loc_spec_index.specs.IndexFile.{floor_field};
 ghost use Rattle.loc_file.specs.Readings.{IsRead, IsRowStop, AreRows, IsRowsStop, alone, one};
 
 use crate::cursor::Cursor;
@@ -41,22 +40,4 @@ pub(crate) fn read_floors(
         keep(&mut floors, floor)?;
     }
     Ok(floors)
-}
-
-// The roots of the versions.
-pub(crate) fn read_roots(
-    alloc: Global,
-    cursor: &mut Cursor<'_>,
-    bound: u32,
-    count: u32,
-) -> Result<Vec<u32>, IndexFault>
-    ensures ok { IfOk result (λ roots. AreRows (alone (one (number w32 bound))) count roots.items cursor.old cursor.new) }
-    ensures err { IfErr result (IsRowsStop (alone (one (number w32 bound))) count cursor.old) }
-{
-    let mut roots = Vec::new(alloc);
-    for _row in 0..count {
-        let root = cursor.number(bound)?;
-        keep(&mut roots, root)?;
-    }
-    Ok(roots)
 }

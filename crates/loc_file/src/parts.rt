@@ -6,10 +6,10 @@ ghost use Rattle.loc_file.specs.Readings.{IsRead, IsStop};
 ghost use Rattle.loc_file.specs.Contents.{content_in};
 
 use crate::corners::read_corners;
-use crate::covers::read_covers;
+use crate::covers::{read_covers, read_numbers};
 use crate::cursor::Cursor;
 use crate::edges::{EdgeOf, read_edges};
-use crate::floors::{read_floors, read_roots};
+use crate::floors::read_floors;
 use crate::header::read_header;
 use crate::ids::read_ids;
 use crate::marks::read_marks;
@@ -54,7 +54,7 @@ pub(crate) fn read_parts(alloc: Global, cursor: &mut Cursor<'_>) -> Result<Parts
     let marks = read_marks(alloc, cursor, header.edges, header.features, header.marks)?;
     let covers = read_covers(alloc, cursor, header.features, header.covers)?;
     let floors = read_floors(alloc, cursor, header.edges, header.corners)?;
-    let roots = read_roots(alloc, cursor, header.nodes + 1, header.corners)?;
+    let (roots, _rise) = read_numbers(alloc, cursor, header.nodes + 1, header.corners)?;
     let nodes = read_nodes(alloc, cursor, header.edges, header.corners, header.nodes)?;
     Ok(Parts {
         version: header.version,

@@ -1,7 +1,6 @@
 -- Examples, computed: layers and points.
 use Rattle.std.proofs.Common.{◌≡◌, [], ◌∷◌, refl, codes}
-use Rattle.std.specs.Prelude.{pos}
-use Rattle.std.specs.Fmt.{digits}
+use Rattle.std.specs.{Prelude.pos, Fmt.digits}
 use Rattle.loc_spec_plane.specs.Points.{point_at}
 use Rattle.loc_gen.specs.declared.kinds.Kind.TheVariants.{Grid, Nest, Strips}
 use Rattle.loc_gen.specs.Layers.{features, layer_text, point_number, rectangle, start_of}

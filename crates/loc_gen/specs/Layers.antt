@@ -7,10 +7,8 @@
 --   corner_text, feature_text, layer_text  a corner, the line of a feature and a whole layer in print
 --   point_number                    the point with a number
 use Rattle.std.specs.Prelude.{ℕ, ◌+◌, ◌-◌, ◌*◌, ◌%◌, List, ◌++◌, map, codes, pos}
-use Rattle.std.specs.Fmt.{decimal}
-use Rattle.std.specs.List.{flat_map}
-use Rattle.loc_spec_plane.specs.Lists.{numbers}
-use Rattle.loc_spec_plane.specs.Points.{Point, point_at}
+use Rattle.std.specs.{Fmt.decimal, List.flat_map}
+use Rattle.loc_spec_plane.specs.{Lists.numbers, Points.Point, Points.point_at}
 use Rattle.loc_gen.specs.declared.kinds.Kind.{Kind}
 use Rattle.loc_gen.specs.declared.kinds.Kind.TheVariants.{Grid, Nest, Strips}
 use Rattle.loc_gen.specs.declared.features.Rectangle.{Rectangle}

@@ -2,8 +2,7 @@
 use Rattle.std.proofs.Common.{◌≡◌, ℤ, pos, negsuc, Bool, true, false, List, [], ◌∷◌, map, refl, arith}
 use Rattle.std.proofs.lemmas.Int.{ints}
 use Rattle.loc_spec_plane.specs.Points.{Point, Edge, OnGrid, turn, is_above, is_on, is_below, lies_on, edge_before, touch, cross, conflict}
-use Rattle.loc_spec_plane.specs.Places.{lower}
-use Rattle.loc_spec_plane.specs.Rings.{segment_between}
+use Rattle.loc_spec_plane.specs.{Places.lower, Rings.segment_between}
 
 -- the greatest coordinate, and the least
 abbrev far : ℤ

@@ -1,13 +1,11 @@
 -- What does not depend on the order of two points or edges.
 use Rattle.std.proofs.Common.{◌≡◌, true, false, not, ◌&&◌, sym, ◌∙◌, ap, arith, ℤ, pos, ◌-ℤ◌, int_lt, inl, inr}
-use Rattle.std.proofs.lemmas.Int.{ints}
+use Rattle.std.proofs.{lemmas.Int.ints, lemmas.Bool.Decides.Decides-int_eq}
 use Rattle.std.proofs.lemmas.Bool.{cases_Bool, and_parts, not_from_false, false_from_ne_true}
-use Rattle.std.proofs.lemmas.Bool.Decides.{Decides-int_eq}
 use Rattle.std.specs.Ordering.{int_eq}
 use Rattle.loc_spec_plane.specs.Points.{Point, Edge, same_point, turn, is_above, is_on, is_below}
 use Rattle.loc_spec_plane.specs.Places.{lower}
-use Rattle.loc_laws_order.proofs.Sides.{turn_swap, same_point-true, lower-asym}
-use Rattle.loc_laws_order.proofs.Booleans.{same-from_both}
+use Rattle.loc_laws_order.proofs.{Sides.turn_swap, Sides.same_point-true, Sides.lower-asym, Booleans.same-from_both}
 
 -- of the negative of a number the signs are exchanged
 less_flip : (m n : ℤ) → m ≡ pos 0 -ℤ n → int_lt (pos 0) m ≡ int_lt n (pos 0)

@@ -9,7 +9,7 @@ pub enum Side {
 }
 
 /// How two edges meet. They conflict where they touch or cross.
-#[derive(Clone, Copy, Debug, Drop)]
+#[derive(Clone, Copy, Drop)]
 pub enum Meeting {
     Apart,
     Touch,

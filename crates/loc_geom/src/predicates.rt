@@ -10,7 +10,6 @@ use crate::kinds::Side;
 use crate::points::{Point, is_up_to};
 
 // The product of two differences of coordinates.
-#[tactic(auto, using(crate::proofs::Products::area))]
 fn product(a: i128, b: i128) -> i128
     requires a_small { IsSpan a }
     requires b_small { IsSpan b }

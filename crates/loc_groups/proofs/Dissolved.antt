@@ -2,32 +2,21 @@
 use Rattle.std.proofs.Common.{◌≡◌, ℕ, ◌≤◌, Bool, true, false, List, length, Option, None, Ok, Err, refl, sym, subst, inl, inr}
 use Rattle.std.specs.Prelude.{IsTrue, codes, not}
 use Rattle.std.proofs.lemmas.Bool.{cases_lt}
-use Rattle.loc_io.specs.Meaning.{Told, holds}
-use Rattle.loc_io.specs.Streams.{Stream}
-use Rattle.loc_spec_plane.specs.Covers.{cover_sum}
-use Rattle.loc_spec_plane.specs.Tables.{piece_count}
-use Rattle.loc_spec_text.specs.Bytes.{Text}
-use Rattle.loc_spec_text.specs.Points.{ended}
+use Rattle.loc_io.specs.{Meaning.Told, Meaning.holds, Streams.Stream}
+use Rattle.loc_spec_plane.specs.{Covers.cover_sum, Tables.piece_count}
+use Rattle.loc_spec_text.specs.{Bytes.Text, Points.ended, Limits.most_members, Limits.most_pieces, Limits.most_text}
 use Rattle.loc_rings.specs.Values.{Feature}
 use Rattle.loc_csvform.specs.Layer.{LayerRead, layer_of}
-use Rattle.loc_spec_text.specs.Limits.{most_members, most_pieces, most_text}
-use Rattle.loc_edges.specs.Conflicts.{has_conflict}
-use Rattle.loc_edges.specs.Layers.{layer_rings}
-use Rattle.loc_course.specs.Moments.{Moment}
-use Rattle.loc_course.specs.Outcomes.{outcome}
-use Rattle.loc_course.specs.Sentences.{EndsSo, Sentences}
+use Rattle.loc_edges.specs.{Conflicts.has_conflict, Layers.layer_rings}
+use Rattle.loc_course.specs.{Moments.Moment, Outcomes.outcome, Sentences.EndsSo, Sentences.Sentences}
 use Rattle.loc_course.proofs.Streamed.{long_or_short}
 use Rattle.loc_maps.specs.Conflicts.{Accepts, names_conflict}
 use Rattle.loc_maps.specs.LineTexts.{covers_text, layer_fault_text, pieces_text}
-use Rattle.loc_maps.specs.Located.{edges_of, table_in}
-use Rattle.loc_maps.specs.MapCourses.{LayerFile}
-use Rattle.loc_maps.specs.Maps.{HasFewPieces}
+use Rattle.loc_maps.specs.{Located.edges_of, Located.table_in, MapCourses.LayerFile, Maps.HasFewPieces}
 use Rattle.loc_query.specs.Headline.{IsAccepted}
 use Rattle.loc_told.proofs.Ends.{done_by, grown, not_done, refused_by, refused_so}
-use Rattle.loc_groups.specs.Dissolves.{Dissolves}
-use Rattle.loc_groups.specs.GroupCourses.{dissolve_course, groups_text}
-use Rattle.loc_groups.proofs.Plainly.{dissolve_plain}
-use Rattle.loc_groups.proofs.ReadBack.{are_dissolved}
+use Rattle.loc_groups.specs.{Dissolves.Dissolves, GroupCourses.dissolve_course, GroupCourses.groups_text}
+use Rattle.loc_groups.proofs.{Plainly.dissolve_plain, ReadBack.are_dissolved}
 use Rattle.loc_groups.proofs.Rows as rows
 
 -- where the command was done, its layer is accepted

@@ -1,8 +1,6 @@
 -- The course of the groups of a layer writes at once and makes no file.
 use Rattle.loc_csvform.specs.Layer.{layer_of}
-use Rattle.loc_course.specs.Courses.{writes}
-use Rattle.loc_course.specs.Outcomes.{exactly}
-use Rattle.loc_course.specs.Sentences.{IsPlain}
+use Rattle.loc_course.specs.{Courses.writes, Outcomes.exactly, Sentences.IsPlain}
 use Rattle.loc_course.proofs.Plain.{plain_reads, plain_refuses, plain_writes}
 use Rattle.loc_maps.specs.MapCourses.{LayerFile, accepted_course}
 use Rattle.loc_maps.proofs.Judged.{accepted_all, layer_all}

@@ -5,20 +5,15 @@ use Rattle.loc_spec_plane.specs.Points.{conflict}
 use Rattle.loc_spec_plane.specs.Tables.{NoConflict, cut_at, edge, layer_corners, noded_table_of}
 use Rattle.loc_spec_text.specs.Bytes.{Text}
 use Rattle.loc_rings.specs.Values.{Feature}
-use Rattle.loc_edges.specs.Conflicts.{has_conflict}
-use Rattle.loc_edges.specs.Layers.{layer_rings}
+use Rattle.loc_edges.specs.{Conflicts.has_conflict, Layers.layer_rings}
 use Rattle.loc_edges.proofs.EdgeLists.{edges_conflict}
-use Rattle.loc_laws_noding.proofs.Counted.{few_marks}
-use Rattle.loc_laws_noding.proofs.Noded.{cutting_noded}
+use Rattle.loc_laws_noding.proofs.{Counted.few_marks, Noded.cutting_noded}
 use Rattle.loc_laws_noding.proofs.Tables.{all_ends, covers_is, few_ends, few_features, is_table, touches_is}
 use Rattle.loc_dissolve.proofs.Layered.{all_covering, all_once}
 use Rattle.loc_laws_regroup.proofs.Dissolved.{accepted_reads, read_even}
-use Rattle.loc_maps.specs.Conflicts.{Accepts}
-use Rattle.loc_maps.specs.Located.{edges_of, table_in}
-use Rattle.loc_maps.specs.MapCourses.{LayerFile}
+use Rattle.loc_maps.specs.{Conflicts.Accepts, Located.edges_of, Located.table_in, MapCourses.LayerFile}
 use Rattle.loc_query.specs.Headline.{IsAccepted}
-use Rattle.loc_groups.specs.Dissolves.{AreDissolved}
-use Rattle.loc_groups.specs.GroupCourses.{groups_text}
+use Rattle.loc_groups.specs.{Dissolves.AreDissolved, GroupCourses.groups_text}
 
 -- in a layer none of whose edges conflict no two edges of the table do
 pub no_conflict : (layer : List Feature) → Accepts layer → NoConflict (noded_table_of (layer_rings layer))

@@ -1,18 +1,12 @@
 -- What the told file of a layer to be dissolved comes to, as rows: each refusal, and the groups.
 use Rattle.std.proofs.Common.{◌≡◌, ◌<◌, ◌≤◌, true, List, length, Ok, Err, ◌∙◌, ap, codes}
-use Rattle.std.proofs.lemmas.Bool.{cond-true}
-use Rattle.std.proofs.lemmas.Bool.Decides.{Decides-ltb}
+use Rattle.std.proofs.{lemmas.Bool.cond-true, lemmas.Bool.Decides.Decides-ltb}
 use Rattle.loc_io.specs.Meaning.{Told, holds}
-use Rattle.loc_spec_plane.specs.Covers.{cover_sum}
-use Rattle.loc_spec_plane.specs.Tables.{piece_count}
-use Rattle.loc_spec_text.specs.Bytes.{Text}
-use Rattle.loc_spec_text.specs.Points.{ended}
+use Rattle.loc_spec_plane.specs.{Covers.cover_sum, Tables.piece_count}
+use Rattle.loc_spec_text.specs.{Bytes.Text, Points.ended, Limits.most_members, Limits.most_pieces, Limits.most_text}
 use Rattle.loc_rings.specs.Values.{Feature}
-use Rattle.loc_csvform.specs.Layer.{LayerRead, layer_of}
-use Rattle.loc_csvform.specs.declared.faults.LayerFault.{LayerFault}
-use Rattle.loc_spec_text.specs.Limits.{most_members, most_pieces, most_text}
-use Rattle.loc_edges.specs.Conflicts.{has_conflict}
-use Rattle.loc_edges.specs.Layers.{layer_rings}
+use Rattle.loc_csvform.specs.{Layer.LayerRead, Layer.layer_of, declared.faults.LayerFault.LayerFault}
+use Rattle.loc_edges.specs.{Conflicts.has_conflict, Layers.layer_rings}
 use Rattle.loc_course.specs.Courses.{Course, Source, refuses, writes}
 use Rattle.loc_course.specs.Outcomes.{Outcome, exactly, outcome, output, refusal}
 use Rattle.loc_course.specs.Stops.{source}

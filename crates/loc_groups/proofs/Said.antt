@@ -1,14 +1,11 @@
 -- The text of the groups that were made is that of the groups of the layer.
 use Rattle.std.proofs.Common.{◌≡◌, ℕ, List, Option, ap, subst}
 use Rattle.loc_spec_text.specs.Bytes.{Text}
-use Rattle.loc_spec_groups.specs.Groups.{Group, dissolved}
-use Rattle.loc_spec_groups.specs.GroupTexts.{dissolved_text}
+use Rattle.loc_spec_groups.specs.{Groups.Group, Groups.dissolved, GroupTexts.dissolved_text}
 use Rattle.loc_rings.specs.Values.{Feature}
 use Rattle.loc_faces.specs.Subdivision.{face_at, next_at}
 use Rattle.loc_dissolve.specs.Grouping.{ids_of}
-use Rattle.loc_course.specs.Courses.{Stopped, writes}
-use Rattle.loc_course.specs.Following.{Follows, Moment}
-use Rattle.loc_course.specs.Outcomes.{exactly}
+use Rattle.loc_course.specs.{Courses.Stopped, Courses.writes, Following.Follows, Following.Moment, Outcomes.exactly}
 use Rattle.loc_maps.specs.Located.{table_in}
 use Rattle.loc_groups.specs.GroupCourses.{groups_text}
 

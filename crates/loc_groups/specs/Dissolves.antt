@@ -3,30 +3,19 @@
 --   Dissolves     all that a user is told
 use Rattle.std.specs.Prelude.{◌≡◌, ℕ, ◌<◌, ◌≤◌, All, List, length, map, Ok, Err, IsTrue, codes}
 use Rattle.std.specs.Io.KnownBytes.{Appends}
-use Rattle.loc_io.specs.Streams.{Stream}
-use Rattle.loc_io.specs.Meaning.{holds}
-use Rattle.loc_spec_plane.specs.Covers.{cover_sum}
-use Rattle.loc_spec_plane.specs.Tables.{piece_count}
-use Rattle.loc_spec_text.specs.Bytes.{Text}
-use Rattle.loc_spec_text.specs.Points.{ended}
-use Rattle.loc_spec_text.specs.declared.Form.TheVariants.{Csv}
-use Rattle.loc_rings.specs.Layers.{IsLayer}
-use Rattle.loc_rings.specs.Values.{Feature}
-use Rattle.loc_csvform.specs.Layer.{layer_of}
-use Rattle.loc_csvform.specs.declared.faults.LayerFault.{LayerFault}
+use Rattle.loc_io.specs.{Streams.Stream, Meaning.holds}
+use Rattle.loc_spec_plane.specs.{Covers.cover_sum, Tables.piece_count}
+use Rattle.loc_spec_text.specs.{Bytes.Text, Points.ended, declared.Form.TheVariants.Csv}
+use Rattle.loc_rings.specs.{Layers.IsLayer, Values.Feature}
+use Rattle.loc_csvform.specs.{Layer.layer_of, declared.faults.LayerFault.LayerFault}
 use Rattle.loc_spec_text.specs.Limits.{most_members, most_pieces, most_text}
-use Rattle.loc_edges.specs.Conflicts.{has_conflict}
-use Rattle.loc_edges.specs.Layers.{layer_rings}
-use Rattle.loc_dissolve.specs.Dissolving.{CoversAsMembers, HasKeptOnce}
-use Rattle.loc_dissolve.specs.Grouping.{ids_of}
+use Rattle.loc_edges.specs.{Conflicts.has_conflict, Layers.layer_rings}
+use Rattle.loc_dissolve.specs.{Dissolving.CoversAsMembers, Dissolving.HasKeptOnce, Grouping.ids_of}
 use Rattle.loc_laws_regroup.specs.Laws.{feature_of, groups_of}
-use Rattle.loc_course.specs.Moments.{Moment}
-use Rattle.loc_course.specs.Sentences.{Steady}
+use Rattle.loc_course.specs.{Moments.Moment, Sentences.Steady}
 use Rattle.loc_maps.specs.Conflicts.{Accepts, names_conflict}
 use Rattle.loc_maps.specs.LineTexts.{covers_text, layer_fault_text, pieces_text}
-use Rattle.loc_maps.specs.Located.{edges_of, table_in}
-use Rattle.loc_maps.specs.MapCourses.{LayerFile}
-use Rattle.loc_maps.specs.Maps.{HasFewPieces}
+use Rattle.loc_maps.specs.{Located.edges_of, Located.table_in, MapCourses.LayerFile, Maps.HasFewPieces}
 use Rattle.loc_query.specs.Headline.{IsAccepted}
 use Rattle.loc_told.specs.Answers.{IsDone, IsRefused, OrMemory}
 use Rattle.loc_groups.specs.GroupCourses.{groups_text}

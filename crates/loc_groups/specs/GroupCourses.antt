@@ -5,13 +5,10 @@ use Rattle.std.specs.Prelude.{ℕ, List}
 use Rattle.loc_spec_text.specs.Bytes.{Text}
 use Rattle.loc_rings.specs.Values.{Feature}
 use Rattle.loc_faces.specs.Subdivision.{face_at, next_at}
-use Rattle.loc_spec_groups.specs.Groups.{dissolved}
-use Rattle.loc_spec_groups.specs.GroupTexts.{dissolved_text}
+use Rattle.loc_spec_groups.specs.{Groups.dissolved, GroupTexts.dissolved_text}
 use Rattle.loc_dissolve.specs.Grouping.{ids_of}
-use Rattle.loc_course.specs.Courses.{Course, writes}
-use Rattle.loc_course.specs.Outcomes.{exactly}
-use Rattle.loc_maps.specs.Located.{table_in}
-use Rattle.loc_maps.specs.MapCourses.{LayerFile, accepted_course, layer_course}
+use Rattle.loc_course.specs.{Courses.Course, Courses.writes, Outcomes.exactly}
+use Rattle.loc_maps.specs.{Located.table_in, MapCourses.LayerFile, MapCourses.accepted_course, MapCourses.layer_course}
 
 -- the groups of a layer, each as a row of a layer in form csv
 unfoldable pub groups_text : ℕ → List Feature → Text

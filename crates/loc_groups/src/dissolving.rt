@@ -1,14 +1,14 @@
 //! The groups of a layer, from the bytes in to the bytes out.
 
-ghost use Rattle.std.specs.Prelude.{◌≡◌, IfOk, ℕ};
+ghost use Rattle.std.specs.Prelude.{◌≡◌, IfOk};
 ghost use Rattle.loc_dissolve.specs.Grouping.{ids_of};
 ghost use Rattle.loc_faces.specs.Subdivision.{face_at, next_at};
-ghost use Rattle.loc_io.specs.Meaning.{Meaning};
 ghost use Rattle.loc_spec_groups.specs.Groups.{dissolved};
 ghost use Rattle.loc_course.specs.Courses.{Course, writes};
-ghost use Rattle.loc_course.specs.Following.{Follows, Moment, moment};
+ghost use Rattle.loc_course.specs.Following.{Moment};
 ghost use Rattle.loc_course.specs.Outcomes.{exactly};
-ghost use Rattle.loc_course.specs.Stops.{GoesOn, end_of};
+ghost use Rattle.loc_course.specs.Runs.{RunsOnFilesAndOut, RunsOnOut};
+ghost use Rattle.loc_course.specs.Stops.{GoesOn};
 ghost use Rattle.loc_maps.specs.Located.{table_in};
 ghost use Rattle.loc_maps.specs.MapCourses.{accepted_course, layer_file, pieces_course};
 ghost use Rattle.loc_spec_groups.specs.GroupTexts.{dissolved_text};
@@ -38,9 +38,7 @@ fn groups_of(alloc: Global, layer: &Layer, scale: Scale) -> Result<Dissolved, St
 
 // Writes groups.
 fn write_groups<O: Sink>(groups: &Dissolved, scale: Scale, out: &mut O) -> Result<(), Stop>
-    ensures { (shelf : Meaning) (k : ℕ) → Follows (writes (exactly (dissolved_text scale groups.now)))
-        (moment shelf (O.meaning out.old) k)
-        (moment shelf (O.meaning out.new) k) (end_of result) }
+    ensures { RunsOnOut (writes (exactly (dissolved_text scale groups.now))) O.meaning out result }
 {
     match write_dissolved(groups, scale.decimals(), out) {
         Ok(()) => Ok(()),
@@ -58,9 +56,8 @@ pub fn dissolve<F: Shelf, O: Sink>(
     shelf: &mut F,
     out: &mut O,
 ) -> Result<(), Stop>
-    ensures { (k : ℕ) → Follows (dissolve_course (layer_file layer_name.now form scale))
-        (moment (F.meaning shelf.old) (O.meaning out.old) k)
-        (moment (F.meaning shelf.new) (O.meaning out.new) k) (end_of result) }
+    ensures { RunsOnFilesAndOut (dissolve_course (layer_file layer_name.now form scale))
+        F.meaning shelf O.meaning out result }
 {
     let layer = read_layer_file(alloc, shelf, layer_name, form, scale)?;
     let groups = groups_of(alloc, &layer, scale)?;

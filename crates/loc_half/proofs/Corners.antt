@@ -6,13 +6,10 @@ use Rattle.std.proofs.lemmas.Bool.{false_from_ne_true, not-true, and_parts, and_
 use Rattle.std.proofs.lemmas.List.Folds.{list_all-append, list_any-append, list_any_at}
 use Rattle.std.proofs.lemmas.List.FromFn.{get_or-range_with_len, length-range_with_len, map-range_with_len_more}
 use Rattle.std.proofs.lemmas.List.{map-id}
-use Rattle.loc_spec_plane.specs.Lists.{is_in, is_rising, numbers}
+use Rattle.loc_spec_plane.specs.{Lists.is_in, Lists.is_rising, Lists.numbers, Places.is_edge}
 use Rattle.loc_spec_plane.specs.Tables.{Table, IsTable, edge_numbers, lo_of, hi_of, ends_at}
-use Rattle.loc_spec_plane.specs.Places.{is_edge}
 use Rattle.loc_laws_order.proofs.Kept.{all_filter, all_range, numbers_rise, range_rises, rising_kept}
-use Rattle.loc_laws_order.proofs.Sets.{all_weaker}
-use Rattle.loc_laws_order.proofs.TableOrder.{numbers_within, rises}
-use Rattle.loc_laws_order.proofs.Unique.{all-at}
+use Rattle.loc_laws_order.proofs.{Sets.all_weaker, TableOrder.numbers_within, TableOrder.rises, Unique.all-at}
 use Rattle.loc_laws_rays.proofs.Members.{in_numbers, is_in-filter}
 use Rattle.loc_laws_order.proofs.Booleans.{same-from_both}
 use Rattle.loc_edges.specs.Ending.{IsBeginning}

@@ -2,8 +2,7 @@
 use Rattle.std.proofs.Common.{◌≡◌, ◌≢◌, ℕ, zero, suc, ◌+◌, ◌-◌, ◌<◌, ◌≤◌, List, [], ◌∷◌, length, refl, sym, ◌∙◌, ap, subst, inl, inr, arith}
 use Rattle.std.specs.Prelude.{◌==◌}
 use Rattle.std.proofs.lemmas.Bool.{cases_Bool, cases_eq, cond-true, cond-false, ne_eqb}
-use Rattle.loc_spec_plane.specs.Lists.{least_of}
-use Rattle.loc_spec_plane.specs.HalfEdges.{way_to}
+use Rattle.loc_spec_plane.specs.{Lists.least_of, HalfEdges.way_to}
 use Rattle.loc_half.specs.Rounds.{next_of, after, IsRound, leader_among}
 
 pub least_of-le : (n : ℕ) (ms : List ℕ) → least_of n ms ≤ n

@@ -5,15 +5,13 @@ use Rattle.std.proofs.lemmas.Bool.{and_parts, or_cases, or_parts, cases_eq, cond
 use Rattle.std.proofs.lemmas.List.{drop_more, get_or-take, length-take-le}
 use Rattle.std.proofs.lemmas.List.Folds.{list_any_more, list_any_at}
 use Rattle.loc_spec_plane.specs.Lists.{is_in, last_or_else, before_from, before_round}
-use Rattle.loc_spec_plane.specs.Tables.{Table, IsTable, ends_at}
-use Rattle.loc_spec_plane.specs.Places.{is_edge}
+use Rattle.loc_spec_plane.specs.{Tables.Table, Tables.IsTable, Tables.ends_at, Places.is_edge}
 use Rattle.loc_spec_plane.specs.HalfEdges.{comes_round, half_edge_count, edge_of, target, leaving, IsTurnList}
-use Rattle.loc_laws_order.proofs.TableOrder.{rises}
+use Rattle.loc_laws_order.proofs.{TableOrder.rises, Unique.comes_round-asym}
 use Rattle.std.proofs.lemmas.Option.{get_or_from_slice_get, slice_get_within}
 use Rattle.loc_status.proofs.Ends.{member_place}
 use Rattle.loc_half.specs.Turns.{arriving}
 use Rattle.loc_half.proofs.Halves.{arriving-fits, arriving-target, edge-arriving, target-arriving}
-use Rattle.loc_laws_order.proofs.Unique.{comes_round-asym}
 
 -- the last of a list that is not empty
 pub last_is : (n : ℕ) (ns : List ℕ) → 0 < length ns → get_or ns (length ns - 1) 0 ≡ last_or_else n ns

@@ -2,10 +2,8 @@
 use Rattle.std.proofs.Common.{◌≡◌, ◌≢◌, ℕ, zero, suc, ◌+◌, ◌-◌, ◌<◌, ◌≤◌, true, List, length, get_or, replicate, sym, ◌∙◌, ap, subst, inl, inr, arith, add-one, set}
 use Rattle.std.specs.Prelude.{◌==◌}
 use Rattle.std.proofs.lemmas.Bool.{cases_eq, cases_lt}
-use Rattle.std.proofs.lemmas.List.{get_or-replicate, length-replicate}
-use Rattle.std.proofs.lemmas.List.Sums.{count_by-le-length}
-use Rattle.loc_spec_plane.specs.Lists.{is_in}
-use Rattle.loc_spec_plane.specs.Tables.{Table, IsTable}
+use Rattle.std.proofs.{lemmas.List.get_or-replicate, lemmas.List.length-replicate, lemmas.List.Sums.count_by-le-length}
+use Rattle.loc_spec_plane.specs.{Lists.is_in, Tables.Table, Tables.IsTable}
 use Rattle.loc_spec_plane.specs.HalfEdges.{half_edge_count, origin, target, cycle, leader}
 use Rattle.loc_half.specs.HalfEdgeLists.{HalfEdgeLists, AreHalfEdges, next_in}
 use Rattle.loc_half.specs.Rounds.{next_of, after, IsPermuting, IsRound, AreMarked, leader_among}

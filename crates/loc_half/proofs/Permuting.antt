@@ -4,12 +4,10 @@ use Rattle.std.specs.Prelude.{◌==◌}
 use Rattle.std.specs.List.{list_all}
 use Rattle.std.proofs.lemmas.Bool.{and_parts, and_from, or_cases, or_left, or_right, both_ways, cases_Bool, cond-true, cond-false, eqb-true, eq-eqb, lt-ltb, ltb-true, false_from_ne_true, true≢false}
 use Rattle.loc_spec_plane.specs.Lists.{is_in, is_rising, last_or_else, before_from, before_round}
-use Rattle.loc_spec_plane.specs.Tables.{Table, IsTable, ends_at}
-use Rattle.loc_spec_plane.specs.Places.{is_edge}
+use Rattle.loc_spec_plane.specs.{Tables.Table, Tables.IsTable, Tables.ends_at, Places.is_edge}
 use Rattle.loc_spec_plane.specs.HalfEdges.{comes_round, half_edge_count, edge_of, origin, target, leaving, IsTurnList, IsNext, IsNextOfAll}
 use Rattle.loc_laws_order.proofs.Unique.{all-at, comes_round-asym, turn_list-unique}
-use Rattle.loc_half.specs.Rounds.{IsPermuting}
-use Rattle.loc_half.specs.Turns.{arriving}
+use Rattle.loc_half.specs.{Rounds.IsPermuting, Turns.arriving}
 use Rattle.loc_half.proofs.Halves.{edge-fits, edge-leaving, leaving-fits, origin-leaving, ends-target, arriving-target}
 
 -- no member stands there twice

@@ -2,11 +2,9 @@
 use Rattle.std.proofs.Common.{◌≡◌, ◌≢◌, ℕ, zero, suc, ◌<◌, ◌≤◌, true, List, [], ◌∷◌, refl, sym, ◌∙◌, ap, subst, inl, inr, arith}
 use Rattle.std.specs.Prelude.{◌==◌}
 use Rattle.std.proofs.lemmas.Bool.{cases_eq, cond-true, cond-false, eq-eqb, ne_eqb, eqb-true, or_cases, or_left, or_right, false_from_ne_true, true≢false}
-use Rattle.loc_spec_plane.specs.Lists.{is_in}
-use Rattle.loc_spec_plane.specs.HalfEdges.{way_to}
+use Rattle.loc_spec_plane.specs.{Lists.is_in, HalfEdges.way_to}
 use Rattle.loc_half.specs.Rounds.{after}
-use Rattle.loc_half.proofs.Going.{after-next}
-use Rattle.loc_half.proofs.Permuting.{AllDiffer}
+use Rattle.loc_half.proofs.{Going.after-next, Permuting.AllDiffer}
 
 -- so many half-edges, from x on
 abbrev pub trail : (ℕ → ℕ) → ℕ → ℕ → List ℕ

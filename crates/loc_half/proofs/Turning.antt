@@ -1,21 +1,17 @@
 -- The edges at a corner in their order: where nothing conflicts, a sort by it makes the turn list.
 use Rattle.std.proofs.Common.{◌≡◌, ◌≢◌, ℕ, suc, ◌<◌, ◌≤◌, max, Bool, true, false, cond, not, ◌&&◌, ◌||◌, List, [], ◌∷◌, length, get_or, refl, sym, ◌∙◌, subst, ◌⊎◌, inl, inr, arith}
 use Rattle.std.specs.Prelude.{◌==◌, eqb}
-use Rattle.std.specs.Cmp.{IsStrictWeakOrder}
-use Rattle.std.specs.List.{list_all, IsDistinct}
+use Rattle.std.specs.{Cmp.IsStrictWeakOrder, List.list_all, List.IsDistinct}
 use Rattle.std.specs.List.Sorted.{IsPermutation, IsSortedBy}
 use Rattle.std.proofs.lemmas.Bool.{and_parts, and_from, or_cases, both_ways, cases_eq, eqb-true, eqb-false, eq-eqb, ne_eqb, ltb-true, false_from_ne_true, true≢false}
-use Rattle.std.proofs.lemmas.List.{get_or_default}
-use Rattle.std.proofs.lemmas.List.Folds.{list_any_at}
+use Rattle.std.proofs.{lemmas.List.get_or_default, lemmas.List.Folds.list_any_at}
 use Rattle.std.proofs.lemmas.List.Sorted.{list_any-IsPermutation, sorted_far}
 use Rattle.std.proofs.lemmas.Map.Keys.{IsDistinct-from_apart, IsDistinct-IsPermutation, apart_from_distinct}
-use Rattle.loc_spec_plane.specs.Lists.{is_in, is_rising}
+use Rattle.loc_spec_plane.specs.{Lists.is_in, Lists.is_rising, Places.alive_at, Places.is_edge, Places.lower_of}
 use Rattle.loc_spec_plane.specs.Tables.{Table, IsTable, NoConflict, corner, lo_of, hi_of, ends_at}
-use Rattle.loc_spec_plane.specs.Places.{alive_at, is_edge, lower_of}
 use Rattle.loc_spec_plane.specs.HalfEdges.{comes_round, IsTurnList}
 use Rattle.loc_laws_order.proofs.AliveAt.{alive_between, alive_from, lower_passes, one_is_lower}
-use Rattle.loc_laws_order.proofs.Sets.{number_swap}
-use Rattle.loc_laws_order.proofs.Unique.{comes_round-asym}
+use Rattle.loc_laws_order.proofs.{Sets.number_swap, Unique.comes_round-asym}
 use Rattle.loc_half.specs.Turns.{stands_at, stands_before, AreEdgesAt}
 
 -- ---- the order round a corner, as a table of cases: x and y say which edges begin there, l and m which of the two is lower

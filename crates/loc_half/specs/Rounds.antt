@@ -4,8 +4,7 @@
 --   AreMarked                  a mark is the least half-edge of the round, and all before a number are marked
 --   leader_among               the least half-edge of an orbit
 use Rattle.std.specs.Prelude.{◌≡◌, ◌≢◌, ℕ, zero, suc, ◌<◌, ◌≤◌, List, ◌∷◌, length, get_or}
-use Rattle.loc_spec_plane.specs.Lists.{least_of}
-use Rattle.loc_spec_plane.specs.HalfEdges.{way_to}
+use Rattle.loc_spec_plane.specs.{Lists.least_of, HalfEdges.way_to}
 
 -- the next of a half-edge
 abbrev pub next_of : List ℕ → ℕ → ℕ

@@ -4,9 +4,7 @@
 --   stands_before  the order round a corner, in which what is no edge there comes last
 --   arriving       the half-edge that arrives at a corner by an edge
 use Rattle.std.specs.Prelude.{◌≡◌, ◌≢◌, ℕ, ◌+◌, ◌*◌, ◌<◌, Bool, not, ◌&&◌, ◌||◌, List, length, get_or, if◌then◌else◌, ◌==◌}
-use Rattle.loc_spec_plane.specs.Lists.{is_in}
-use Rattle.loc_spec_plane.specs.Tables.{Table, hi_of, ends_at}
-use Rattle.loc_spec_plane.specs.Places.{is_edge}
+use Rattle.loc_spec_plane.specs.{Lists.is_in, Tables.Table, Tables.hi_of, Tables.ends_at, Places.is_edge}
 use Rattle.loc_spec_plane.specs.HalfEdges.{comes_round}
 
 -- e is the number of an edge that has an end at corner c

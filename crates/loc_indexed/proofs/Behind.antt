@@ -1,18 +1,14 @@
 -- What a course on an index file makes, and by which lines it may refuse a file whose lines it answers.
 use Rattle.std.proofs.Common.{◌≡◌, ◌⊎◌, ℕ, Bool, Ok, Err, inl, inr}
 use Rattle.std.specs.Prelude.{Result, codes}
-use Rattle.loc_spec_text.specs.Bytes.{Text}
-use Rattle.loc_spec_text.specs.Points.{Answer, ended}
-use Rattle.loc_spec_index.specs.declared.IndexFault.{IndexFault}
-use Rattle.loc_spec_index.specs.Content.{Content, search_in}
+use Rattle.loc_spec_text.specs.{Bytes.Text, Points.Answer, Points.ended}
+use Rattle.loc_spec_index.specs.{declared.IndexFault.IndexFault, Content.Content, Content.search_in}
 use Rattle.loc_laws_index.specs.IndexReading.{reading}
 use Rattle.loc_place.specs.declared.locator.Deep.{Deep}
 use Rattle.loc_file.specs.Searches.{answer_of}
-use Rattle.loc_batch.specs.Answering.{answer_by}
-use Rattle.loc_batch.specs.Faces.{unnumbered}
+use Rattle.loc_batch.specs.{Answering.answer_by, Faces.unnumbered}
 use Rattle.loc_answering.specs.ByLine.{as_bytes, deep_text}
-use Rattle.loc_course.specs.Courses.{Course, refuses}
-use Rattle.loc_course.specs.Outcomes.{exactly}
+use Rattle.loc_course.specs.{Courses.Course, Courses.refuses, Outcomes.exactly}
 use Rattle.loc_course.specs.Sentences.{MakesNone, MayMake, MayRefuseBehind}
 use Rattle.loc_indexed.specs.IndexedCourses.{ask_course, asked_course, index_in, rows_in}
 use Rattle.loc_indexed.specs.IndexTexts.{index_fault_text}

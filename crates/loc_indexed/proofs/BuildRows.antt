@@ -3,33 +3,26 @@ use Rattle.std.proofs.Common.{◌≡◌, ◌⊎◌, ℕ, ◌<◌, ◌≤◌, Boo
 use Rattle.std.specs.Prelude.{IsTrue, codes, nat_lt}
 use Rattle.std.proofs.lemmas.Bool.{cond-true, cond-false, le-ltb}
 use Rattle.std.proofs.lemmas.Bool.Decides.{Decides-ltb}
-use Rattle.loc_spec_text.specs.Bytes.{Text}
-use Rattle.loc_io.specs.Meaning.{Told, holds}
-use Rattle.loc_io.specs.Streams.{Stream}
+use Rattle.loc_spec_text.specs.{Bytes.Text, Points.ended, Limits.most_members, Limits.most_text}
+use Rattle.loc_io.specs.{Meaning.Told, Meaning.holds, Streams.Stream}
 use Rattle.loc_spec_plane.specs.Covers.{cover_sum}
-use Rattle.loc_spec_text.specs.Points.{ended}
 use Rattle.loc_rings.specs.Values.{Feature}
 use Rattle.loc_csvform.specs.Layer.{LayerRead, layer_of}
 use Rattle.loc_edges.specs.Conflicts.{has_conflict}
 use Rattle.loc_course.specs.Courses.{Source, Course, makes, refuses, Stopped}
-use Rattle.loc_course.specs.Endings.{AtEnd}
-use Rattle.loc_course.specs.Moments.{IsToldText, Moment}
+use Rattle.loc_course.specs.{Endings.AtEnd, Moments.IsToldText, Moments.Moment, Stops.source}
 use Rattle.loc_course.specs.Outcomes.{Outcome, by_text, exactly, file, outcome, refusal}
 use Rattle.loc_course.specs.Sentences.{EndsSo, Ended, Sentences, Steady, Wrote, status_of}
-use Rattle.loc_course.specs.Stops.{source}
-use Rattle.loc_course.proofs.Endings.{at_cut}
-use Rattle.loc_course.proofs.Statuses.{ended_so, rose_not, succeeds_case}
+use Rattle.loc_course.proofs.{Endings.at_cut, Statuses.ended_so, Statuses.rose_not, Statuses.succeeds_case}
 use Rattle.loc_course.proofs.Told.{ends_so, it_exactly}
 use Rattle.loc_maps.specs.Conflicts.{Accepts, names_conflict}
 use Rattle.loc_maps.specs.LineTexts.{layer_fault_text, covers_text, pieces_text}
 use Rattle.loc_maps.specs.Located.{edges_of, table_in}
 use Rattle.loc_maps.specs.MapCourses.{LayerFile, accepted_course, covers_course, layer_in}
-use Rattle.loc_spec_text.specs.Limits.{most_members, most_text}
 use Rattle.loc_maps.specs.Maps.{HasFewPieces, has_many_covers, has_many_pieces}
 use Rattle.loc_maps.proofs.Judged.{on_apart, on_few_covers, on_few_pieces}
 use Rattle.loc_query.specs.Headline.{IsAccepted}
-use Rattle.loc_indexed.specs.Asks.{OrMemory}
-use Rattle.loc_indexed.specs.Building.{build_course, is_index_text}
+use Rattle.loc_indexed.specs.{Asks.OrMemory, Building.build_course, Building.is_index_text}
 use Rattle.loc_indexed.specs.Builds.{Builds, Built, IsBuiltOf}
 use Rattle.loc_indexed.proofs.MadeCourses.{AcceptedSo, came, makes_one, out_kept}
 

@@ -3,27 +3,20 @@ use Rattle.std.proofs.Common.{◌≡◌, ℕ, ◌<◌, Bool, true, not, length, 
 use Rattle.std.specs.Prelude.{IsTrue, ◌&&◌, nat_lt}
 use Rattle.std.specs.List.{list_any}
 use Rattle.std.proofs.lemmas.Bool.{and_from, or_left, or_right, not-true, true≢false}
-use Rattle.std.proofs.lemmas.Bool.Decides.{Decides-ltb}
-use Rattle.std.proofs.lemmas.List.{length-map}
-use Rattle.loc_spec_text.specs.Bytes.{Text}
-use Rattle.loc_spec_plane.specs.Lists.{is_in}
-use Rattle.loc_spec_plane.specs.Points.{conflict, cross, touch}
+use Rattle.std.proofs.{lemmas.Bool.Decides.Decides-ltb, lemmas.List.length-map}
+use Rattle.loc_spec_text.specs.{Bytes.Text, Points.ended}
+use Rattle.loc_spec_plane.specs.{Lists.is_in, Points.conflict, Points.cross, Points.touch}
 use Rattle.loc_spec_plane.specs.Tables.{Table, edge, edge_numbers}
-use Rattle.loc_geom.specs.Answers.{IsMeeting}
-use Rattle.loc_geom.specs.declared.kinds.Meeting.{Meeting}
+use Rattle.loc_geom.specs.{Answers.IsMeeting, declared.kinds.Meeting.Meeting}
 use Rattle.loc_geom.specs.declared.kinds.Meeting.TheVariants as m
-use Rattle.loc_spec_text.specs.Points.{ended}
 use Rattle.loc_spec_index.specs.Content.{Content, EdgeRow, table_in}
 use Rattle.loc_spec_index.specs.Flaws.{Flaw, HasFlaw, IsFirst, bare, conflicting, deep, lone, spare_cover, uneven, wrong_cover, wrong_floor, wrong_list, wrong_source}
 use Rattle.loc_laws_judge.specs.FirstFlaw.{FirstIsFound, IsOneOf, IsReadable, first_flaw}
-use Rattle.loc_laws_rays.proofs.Members.{in_numbers}
-use Rattle.loc_laws_rays.proofs.Covering.{any-found}
-use Rattle.loc_verify.specs.Judged.{IsJudged}
-use Rattle.loc_verify.specs.declared.fault.VerifyFault.{VerifyFault}
+use Rattle.loc_laws_rays.proofs.{Members.in_numbers, Covering.any-found}
+use Rattle.loc_verify.specs.{Judged.IsJudged, declared.fault.VerifyFault.VerifyFault}
 use Rattle.loc_verify.specs.declared.fault.VerifyFault.TheVariants as v
-use Rattle.loc_course.specs.Courses.{refused, writes}
+use Rattle.loc_course.specs.{Courses.refused, Courses.writes, Outcomes.exactly}
 use Rattle.loc_course.specs.Following.{Follows, Moment, lacks, refuses_by}
-use Rattle.loc_course.specs.Outcomes.{exactly}
 use Rattle.loc_course.proofs.Told.{exactly_it}
 use Rattle.loc_indexed.specs.FlawTexts.{clash_text, flaw_stop, flaw_text, index_text, is_clash, names_clash, names_pair, says}
 use Rattle.loc_indexed.specs.Verifying.{judged_course}

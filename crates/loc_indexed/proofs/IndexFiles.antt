@@ -1,17 +1,12 @@
 -- A text that is an index file of a layer reads as one, and a file of a true index that reads as one is one.
 use Rattle.std.proofs.Common.{◌≡◌, ℕ, Bool, true, false, not, List, map, Ok, refl, sym, ◌∙◌, ap, subst, ◌==◌}
-use Rattle.std.specs.Bool.{Decides}
-use Rattle.std.specs.Cmp.Lexicographic.{pointwise}
-use Rattle.std.specs.Str.{bytes_eq}
+use Rattle.std.specs.{Bool.Decides, Cmp.Lexicographic.pointwise, Str.bytes_eq}
 use Rattle.std.proofs.lemmas.Bool.{and_from, and_parts, eq-eqb, eqb-true}
 use Rattle.std.proofs.lemmas.Slice.Eq.{bytes_eq-Decides, slice_eq-Decides}
 use Rattle.loc_spec_text.specs.Bytes.{Text}
-use Rattle.loc_spec_plane.specs.declared.Mark.{Mark}
-use Rattle.loc_spec_plane.specs.Lists.{exactly_one}
-use Rattle.loc_spec_plane.specs.Points.{Point, same_point}
+use Rattle.loc_spec_plane.specs.{declared.Mark.Mark, Lists.exactly_one, Points.Point, Points.same_point}
 use Rattle.loc_spec_plane.specs.Tables.{Table, noded_table_of}
-use Rattle.loc_spec_index.specs.Content.{Content, table_in}
-use Rattle.loc_spec_index.specs.IndexFile.{IsFileOf}
+use Rattle.loc_spec_index.specs.{Content.Content, Content.table_in, IndexFile.IsFileOf}
 use Rattle.loc_spec_index.specs.TrueIndex.{IsIndexOf, IsTrueIndex}
 use Rattle.loc_laws_index.specs.IndexReading.{AreBytes, reading}
 use Rattle.loc_laws_order.proofs.Tests.{same_point_decides}

@@ -1,25 +1,17 @@
 -- What the told files of a command on an index file come to, and what the command leaves by it.
 use Rattle.std.proofs.Common.{◌≡◌, ℕ, ◌≤◌, ◌<◌, Bool, length, None, Result, sym, ◌∙◌, ap, subst, inl, inr}
-use Rattle.std.specs.Prelude.{IsTrue, codes, nat_lt}
-use Rattle.std.specs.Io.KnownBytes.{Appends}
+use Rattle.std.specs.{Prelude.IsTrue, Prelude.codes, Prelude.nat_lt, Io.KnownBytes.Appends}
 use Rattle.std.proofs.lemmas.Bool.{cond-true, cond-false, le-ltb}
 use Rattle.std.proofs.lemmas.Bool.Decides.{Decides-ltb}
-use Rattle.loc_spec_text.specs.Bytes.{Text}
-use Rattle.loc_io.specs.Streams.{Stream}
-use Rattle.loc_io.specs.Meaning.{Told, holds}
-use Rattle.loc_spec_text.specs.Points.{ended}
-use Rattle.loc_spec_index.specs.declared.IndexFault.{IndexFault}
-use Rattle.loc_spec_index.specs.Content.{Content}
+use Rattle.loc_spec_text.specs.{Bytes.Text, Points.ended, Limits.most_index}
+use Rattle.loc_io.specs.{Streams.Stream, Meaning.Told, Meaning.holds}
+use Rattle.loc_spec_index.specs.{declared.IndexFault.IndexFault, Content.Content}
 use Rattle.loc_laws_index.specs.IndexReading.{reading}
-use Rattle.loc_course.specs.Courses.{Source, Course}
-use Rattle.loc_course.specs.Moments.{Moment}
+use Rattle.loc_course.specs.{Courses.Source, Courses.Course, Moments.Moment, Stops.source}
 use Rattle.loc_course.specs.Outcomes.{Outcome, by_text, exactly, outcome, output, refusal}
 use Rattle.loc_course.specs.Sentences.{EndsSo, IsDoing, NoneFailed, OutSo, Sentences, Steady, Wrote}
-use Rattle.loc_course.specs.Stops.{source}
 use Rattle.loc_course.proofs.Told.{it_exactly}
-use Rattle.loc_indexed.specs.IndexedCourses.{index_course, index_in}
-use Rattle.loc_spec_text.specs.Limits.{most_index}
-use Rattle.loc_indexed.specs.Asks.{IsDone, OrMemory}
+use Rattle.loc_indexed.specs.{IndexedCourses.index_course, IndexedCourses.index_in, Asks.IsDone, Asks.OrMemory}
 
 module _ (told : Text → Told) (index bytes : Text) (is : told index ≡ holds bytes) (next : Content → Course) where
   abbrev of_index : Source

@@ -2,12 +2,9 @@
 use Rattle.std.proofs.Common.{◌≡◌, Some, Result, Ok, Err, arith}
 use Rattle.std.specs.Prelude.{IsErrAnd, OnOk}
 use Rattle.loc_io.specs.Meaning.{Told}
-use Rattle.loc_spec_index.specs.Content.{Content}
-use Rattle.loc_spec_index.specs.TrueIndex.{IsTrueIndex}
+use Rattle.loc_spec_index.specs.{Content.Content, TrueIndex.IsTrueIndex}
 use Rattle.loc_course.specs.Courses.{Stopped, refused, unread, unwritten, no_memory}
-use Rattle.loc_course.specs.Sentences.{status_of}
-use Rattle.loc_course.specs.Stops.{end_of, stopped}
-use Rattle.loc_course.specs.declared.stop.Stop.{Stop}
+use Rattle.loc_course.specs.{Sentences.status_of, Stops.end_of, Stops.stopped, declared.stop.Stop.Stop}
 use Rattle.loc_indexed.specs.Verifies.{IsToldFile, Judged}
 
 -- a command that stopped has another status than 0

@@ -2,31 +2,24 @@
 use Rattle.std.proofs.Common.{◌≡◌, ◌≢◌, ◌≤◌, Bool, true, false, List, length, Option, Ok, Err, refl}
 use Rattle.std.specs.Prelude.{IsTrue, cond}
 use Rattle.std.proofs.lemmas.Bool.{cond_both, ltb-false, not_from_false}
-use Rattle.loc_spec_text.specs.Bytes.{Text}
+use Rattle.loc_spec_text.specs.{Bytes.Text, Points.ended, Limits.most_members, Limits.most_pieces, Limits.most_text}
 use Rattle.loc_io.specs.Meaning.{Meaning}
-use Rattle.loc_spec_plane.specs.Covers.{cover_sum}
-use Rattle.loc_spec_text.specs.Points.{ended}
+use Rattle.loc_spec_plane.specs.{Covers.cover_sum, Tables.piece_count}
 use Rattle.loc_rings.specs.Values.{Feature}
 use Rattle.loc_csvform.specs.Layer.{LayerRead, layer_of}
-use Rattle.loc_spec_plane.specs.Tables.{piece_count}
-use Rattle.loc_edges.specs.Conflicts.{has_conflict}
-use Rattle.loc_edges.specs.Layers.{layer_rings}
-use Rattle.loc_spec_text.specs.Limits.{most_members, most_pieces, most_text}
+use Rattle.loc_edges.specs.{Conflicts.has_conflict, Layers.layer_rings}
 use Rattle.loc_course.specs.Courses.{Source, Course, reads, refuses, makes, Stopped}
 pub use Rattle.loc_course.specs.Endings.{AtEnd, Did, MadeOf}
 use Rattle.loc_course.specs.Following.{Follows, Moment, lacks, refuses_by, reads_not, reads_by, makes_by}
-use Rattle.loc_course.specs.Moments.{IsToldText}
-use Rattle.loc_course.specs.Outcomes.{exactly}
+use Rattle.loc_course.specs.{Moments.IsToldText, Outcomes.exactly}
 use Rattle.loc_course.specs.Sentences.{AtOnce, MayMake, SearchesNothing}
 use Rattle.loc_course.proofs.Endings.{at_both, did_at}
-use Rattle.loc_maps.specs.Conflicts.{names_conflict}
-use Rattle.loc_maps.specs.Located.{edges_of, table_in}
+use Rattle.loc_maps.specs.{Conflicts.names_conflict, Located.edges_of, Located.table_in}
 use Rattle.loc_maps.specs.MapCourses.{LayerFile, accepted_course, covers_course, layer_in}
-use Rattle.loc_maps.specs.Maps.{has_many_covers, has_many_pieces}
+use Rattle.loc_maps.specs.{Maps.has_many_covers, Maps.has_many_pieces, LineTexts.covers_text, LineTexts.pieces_text}
 use Rattle.loc_maps.proofs.Judged.{accepted_all, layer_all}
 use Rattle.loc_query.specs.Headline.{IsAccepted}
 use Rattle.loc_indexed.specs.Building.{made_course}
-use Rattle.loc_maps.specs.LineTexts.{covers_text, pieces_text}
 
 -- ---- a wider test
 

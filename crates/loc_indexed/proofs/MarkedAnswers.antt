@@ -1,11 +1,10 @@
 -- The answers of a true index are those by its marks, and those of the index of a layer are those of the layer.
 use Rattle.std.proofs.Common.{◌≡◌, ℕ, ◌<◌, ◌≤◌, Bool, true, false, not, List, [], length, map, filter, get_or, Option, Some, None, Ok, refl, sym, ◌∙◌, ap, ap₂, subst, arith}
 use Rattle.std.specs.Prelude.{◌^◌, if◌then◌else◌, nat_lt, option_map, unwrap_or, Result, codes}
-use Rattle.std.proofs.Math.Path.{fun_ext}
-use Rattle.std.proofs.lemmas.Bool.{and_parts, ltb-true}
+use Rattle.std.proofs.{Math.Path.fun_ext, lemmas.Bool.and_parts, lemmas.Bool.ltb-true}
 use Rattle.std.proofs.lemmas.List.Elements.{filter_agree}
 use Rattle.std.proofs.lemmas.List.FromFn.{get_or-map-range_with_len, length-map-range_with_len}
-use Rattle.loc_spec_text.specs.Bytes.{Text}
+use Rattle.loc_spec_text.specs.{Bytes.Text, Limits.most_text}
 use Rattle.loc_spec_asked.specs.declared.Index.TheVariants.{Tree}
 use Rattle.loc_spec_plane.specs.declared.Place.{Place}
 use Rattle.loc_spec_plane.specs.declared.Place.TheVariants.{Corner, Border, Area}
@@ -16,39 +15,28 @@ use Rattle.loc_spec_plane.specs.Points.{Point, is_above, lies_on, same_point}
 use Rattle.loc_spec_plane.specs.Rings.{Rings, covers, touches}
 use Rattle.loc_spec_plane.specs.Tables.{IsTable, Table, corner, covers_by_marks, edge, has, noded_table_of, own_sources, touches_by_marks}
 use Rattle.loc_spec_text.specs.Points.{answer_text, answer_to, ended, no_point, point_of}
-use Rattle.loc_spec_index.specs.Content.{Content, search_in, table_in}
-use Rattle.loc_spec_index.specs.IndexFile.{names_sources}
+use Rattle.loc_spec_index.specs.{Content.Content, Content.search_in, Content.table_in, IndexFile.names_sources}
 use Rattle.loc_indexed.specs.IndexBytes.{IsIndexFile}
 use Rattle.loc_spec_index.specs.TrueIndex.{IsIndexOf, IsTrueIndex}
-use Rattle.loc_laws_index.proofs.FlawKinds.{as_many, as_many_corners}
-use Rattle.loc_laws_index.proofs.HeldTable.{file_holds_table}
+use Rattle.loc_laws_index.proofs.{FlawKinds.as_many, FlawKinds.as_many_corners, HeldTable.file_holds_table}
 use Rattle.loc_laws_order.proofs.Kept.{rising_kept}
 use Rattle.loc_laws_rays.proofs.Covering.{cover_law}
 use Rattle.loc_laws_search.proofs.FindsPlace.{search_finds_place}
 use Rattle.loc_rings.specs.Values.{Feature}
 use Rattle.loc_edges.specs.Layers.{layer_rings}
-use Rattle.loc_place.specs.Steps.{most_steps}
-use Rattle.loc_place.specs.Found.{place_at}
-use Rattle.loc_place.specs.Planar.{IsPlanar}
+use Rattle.loc_place.specs.{Steps.most_steps, Found.place_at, Planar.IsPlanar}
 use Rattle.loc_place.proofs.FoundPlace.{place_is_found}
 use Rattle.loc_cover.specs.Legends.{FitsTable, covering, list_above, list_over, touching}
-use Rattle.loc_cover.proofs.Covered.{touching_touches}
-use Rattle.loc_cover.proofs.Numbering.{above_rises, under_rises}
-use Rattle.loc_file.specs.Searches.{answer_of}
-use Rattle.loc_laws_index.proofs.FileFacts.{facts}
-use Rattle.loc_laws_index.proofs.AgreeTable.{most-small}
-use Rattle.loc_file.specs.Depths.{most_of}
+use Rattle.loc_cover.proofs.{Covered.touching_touches, Numbering.above_rises, Numbering.under_rises}
+use Rattle.loc_file.specs.{Searches.answer_of, Depths.most_of}
+use Rattle.loc_laws_index.proofs.{FileFacts.facts, AgreeTable.most-small}
 use Rattle.loc_file.proofs.TrueSteps.{true-most}
 use Rattle.loc_batch.specs.Answering.{answer_at as answer_by_rows, answer_by, face_at, found_answer, names}
-use Rattle.loc_batch.specs.Faces.{unnumbered}
-use Rattle.loc_batch.specs.Marked.{features_where, ids_marked}
-use Rattle.loc_batch.specs.PointLines.{is_point_line}
+use Rattle.loc_batch.specs.{Faces.unnumbered, Marked.features_where, Marked.ids_marked, PointLines.is_point_line}
 use Rattle.loc_batch.proofs.Marks.{at_place, covering_below, listed, listed_only, touching_below}
 use Rattle.loc_answering.specs.ByLine.{as_bytes}
-use Rattle.loc_course.specs.Courses.{answers}
-use Rattle.loc_course.specs.Stops.{source}
+use Rattle.loc_course.specs.{Courses.answers, Stops.source}
 use Rattle.loc_maps.specs.Located as maps
-use Rattle.loc_spec_text.specs.Limits.{most_text}
 use Rattle.loc_maps.proofs.TableLaws.{covers_is, touches_is}
 use Rattle.loc_query.specs.Answered.{answer_at, answer_line, ids_where, located}
 use Rattle.loc_query.specs.QueryCourses.{points_course}

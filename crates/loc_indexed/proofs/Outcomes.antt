@@ -1,33 +1,24 @@
 -- What asking an index file answers, by what the told files come to.
 use Rattle.std.proofs.Common.{◌≡◌, ℕ, ◌*◌, ◌≤◌, List, length, map, Option, Some, None, Result, Ok, Err, false, refl, sym, ◌∙◌, ap, subst, inl, inr, arith}
-use Rattle.std.specs.Prelude.{codes}
-use Rattle.std.specs.List.{flat_map}
-use Rattle.loc_io.specs.Streams.{Stream}
-use Rattle.loc_io.specs.Meaning.{Told, holds}
-use Rattle.loc_spec_text.specs.Answered.{Answered, answered}
-use Rattle.loc_spec_text.specs.Bytes.{Text, lines}
-use Rattle.loc_spec_text.specs.Points.{ended}
+use Rattle.std.specs.{Prelude.codes, List.flat_map}
+use Rattle.loc_io.specs.{Streams.Stream, Meaning.Told, Meaning.holds}
+use Rattle.loc_spec_text.specs.{Answered.Answered, Answered.answered, Bytes.Text, Bytes.lines, Points.ended}
 use Rattle.loc_spec_text.proofs.AnsweredLaws.{all_of, all_answered, joined}
-use Rattle.loc_spec_index.specs.declared.IndexFault.{IndexFault}
+use Rattle.loc_spec_index.specs.{declared.IndexFault.IndexFault, Content.Content, Content.table_in}
 use Rattle.loc_file.specs.Depths.{most_of}
-use Rattle.loc_spec_index.specs.Content.{Content, table_in}
-use Rattle.loc_indexed.specs.IndexBytes.{IsIndexFile}
+use Rattle.loc_indexed.specs.{IndexBytes.IsIndexFile, IndexTexts.index_fault_text, Marked.marked_line}
 use Rattle.loc_spec_index.specs.TrueIndex.{IsIndexOf, IsTrueIndex}
 use Rattle.loc_laws_index.specs.IndexReading.{AreBytes, reading}
 use Rattle.loc_rings.specs.Values.{Feature, rings_of}
 use Rattle.loc_batch.specs.PointLines.{is_point_line, point_count}
-use Rattle.loc_course.specs.Courses.{Source}
-use Rattle.loc_course.specs.Moments.{IsToldText, Moment}
-use Rattle.loc_course.specs.Outcomes.{by_lines, by_refusal, outcome}
+use Rattle.loc_course.specs.{Courses.Source, Moments.IsToldText, Moments.Moment}
+use Rattle.loc_course.specs.{Outcomes.by_lines, Outcomes.by_refusal, Outcomes.outcome, Stops.source}
 use Rattle.loc_course.specs.Sentences.{NoneFailed, Sentences, Steady, WithinSteps}
-use Rattle.loc_course.specs.Stops.{source}
 use Rattle.loc_course.specs.Streams.{Answering, out_of}
 use Rattle.loc_course.proofs.Streamed.{of_whole, seen_steps}
 use Rattle.loc_spec_text.specs.Limits.{most_index, most_text}
 use Rattle.loc_query.specs.Answered.{output_of}
 use Rattle.loc_indexed.specs.IndexedCourses.{answer_in, ask_course, asked_course, index_in}
-use Rattle.loc_indexed.specs.IndexTexts.{index_fault_text}
-use Rattle.loc_indexed.specs.Marked.{marked_line}
 use Rattle.loc_indexed.specs.Asks.{AreAsked, Asks, IsDone, OrMemory}
 use Rattle.loc_indexed.proofs.Behind.{ask_makes_none}
 use Rattle.loc_indexed.proofs.IndexOutcomes.{finished, index_long, index_read, memory, refused_by}

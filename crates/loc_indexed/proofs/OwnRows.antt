@@ -2,8 +2,7 @@
 use Rattle.std.proofs.Common.{◌≡◌, ℕ, ◌<◌, true, List, [], length, get_or, Option, arith}
 use Rattle.std.specs.Prelude.{nat_lt}
 use Rattle.std.proofs.lemmas.List.FromFn.{fill_by_all}
-use Rattle.loc_spec_plane.specs.Covers.{feature_count, has_at}
-use Rattle.loc_spec_plane.specs.Lists.{IsRisingListOf}
+use Rattle.loc_spec_plane.specs.{Covers.feature_count, Covers.has_at, Lists.IsRisingListOf}
 use Rattle.loc_spec_plane.specs.Tables.{Table, edge_numbers, has}
 use Rattle.loc_spec_index.specs.Content.{Content, cover_numbers, table_in}
 use Rattle.loc_laws_rays.proofs.Members.{feature_below}

@@ -2,18 +2,15 @@
 use Rattle.std.proofs.Common.{◌≡◌, ℕ, true, false, not, List, [], ◌∷◌, ◌++◌, take, drop, Some, Ok, Err, refl, sym, ◌∙◌, ap, subst, arith, ◌==◌}
 use Rattle.std.specs.Prelude.{Result, codes}
 use Rattle.loc_spec_text.specs.Points.{ended}
-use Rattle.loc_spec_index.specs.declared.IndexFault.{IndexFault}
+use Rattle.loc_spec_index.specs.{declared.IndexFault.IndexFault, Content.Content, IndexFile.HasFault}
 use Rattle.loc_spec_index.specs.declared.IndexFault.TheVariants as f
-use Rattle.loc_spec_index.specs.Content.{Content}
-use Rattle.loc_spec_index.specs.IndexFile.{HasFault}
 use Rattle.loc_laws_index.specs.IndexReading.{AreBytes, reading}
 use Rattle.loc_laws_index.proofs.HeldTold.{reads_files}
 use Rattle.loc_file.specs.Refused.{IsRefused, faulty, unheld}
 use Rattle.loc_course.specs.Courses.{Course, refused}
 use Rattle.loc_course.specs.Following.{Moment, Follows, lacks, refuses_by}
 use Rattle.loc_course.proofs.Told.{exactly_it}
-use Rattle.loc_indexed.specs.IndexBytes.{IsIndexFile}
-use Rattle.loc_indexed.specs.IndexedCourses.{index_in}
+use Rattle.loc_indexed.specs.{IndexBytes.IsIndexFile, IndexedCourses.index_in}
 use Rattle.loc_indexed.specs.IndexTexts.{index_fault_text, index_stop}
 
 -- what a file holds is what it reads as

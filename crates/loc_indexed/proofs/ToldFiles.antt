@@ -1,20 +1,17 @@
 -- What was read of a source is the text that is told of its file, and what was read of an index file is the content of that file.
 use Rattle.std.proofs.Common.{◌≡◌, ◌∷◌, ◌++◌, length, Option, Some, refl, ap, arith}
 use Rattle.std.specs.Prelude.{IfOk, Result, Ok, Err, nat_lt}
-use Rattle.std.proofs.lemmas.Bool.{cond_both}
-use Rattle.std.proofs.lemmas.List.{append_cancel_left, length-append}
+use Rattle.std.proofs.{lemmas.Bool.cond_both, lemmas.List.append_cancel_left, lemmas.List.length-append}
 use Rattle.loc_spec_text.specs.Bytes.{Text}
 use Rattle.loc_io.specs.Meaning.{Told, untold, absent, holds}
 use Rattle.loc_file.specs.Keeping.{FileOf}
-use Rattle.loc_indexed.specs.IndexBytes.{IsIndexFile}
+use Rattle.loc_indexed.specs.{IndexBytes.IsIndexFile, Verifies.IsToldFile}
 use Rattle.loc_laws_index.specs.IndexReading.{AreBytes}
 use Rattle.loc_course.specs.Courses.{Source, Course, reads, refuses, Stopped, refused}
-use Rattle.loc_course.specs.Following.{Follows, Moment, refuses_by}
-use Rattle.loc_course.specs.Moments.{IsToldText}
+use Rattle.loc_course.specs.{Following.Follows, Following.Moment, Following.refuses_by, Moments.IsToldText}
 use Rattle.loc_course.specs.Outcomes.{Outcome, by_text, exactly, refusal}
 use Rattle.loc_course.specs.Sentences.{EndsSo}
 use Rattle.loc_course.proofs.Told.{ends_so, exactly_it, it_exactly}
-use Rattle.loc_indexed.specs.Verifies.{IsToldFile}
 
 -- a line that says a text, and is longer than that of a source
 abbrev telling : Source → Text → Text

@@ -3,21 +3,15 @@ use Rattle.std.proofs.Common.{◌≡◌, ◌⊎◌, ℕ, Bool, true, false, ◌&
 use Rattle.std.specs.Prelude.{IsTrue}
 use Rattle.std.proofs.lemmas.Bool.{and_from, and_parts, true≢false}
 use Rattle.loc_spec_text.specs.Bytes.{Text}
-use Rattle.loc_io.specs.Meaning.{Meaning}
-use Rattle.loc_io.specs.Streams.{Stream, stream}
+use Rattle.loc_io.specs.{Meaning.Meaning, Streams.Stream, Streams.stream}
 use Rattle.loc_rings.specs.Values.{Feature}
-use Rattle.loc_course.specs.Courses.{Stopped, unwritten}
-use Rattle.loc_course.specs.Endings.{AtEnd}
+use Rattle.loc_course.specs.{Courses.Stopped, Courses.unwritten, Endings.AtEnd, Moments.IsToldText, Outcomes.exactly}
 use Rattle.loc_course.specs.Following.{Follows, IsCut, IsMade, moment}
-use Rattle.loc_course.specs.Moments.{IsToldText}
-use Rattle.loc_course.specs.Outcomes.{exactly}
 use Rattle.loc_course.specs.Sentences.{status_of}
-use Rattle.loc_course.proofs.Endings.{at_cut, at_done}
-use Rattle.loc_course.proofs.Told.{exactly_it, it_exactly}
+use Rattle.loc_course.proofs.{Endings.at_cut, Endings.at_done, Told.exactly_it, Told.it_exactly}
 use Rattle.loc_maps.specs.MapCourses.{LayerFile}
 use Rattle.loc_indexed.specs.Building.{build_course, is_index_text}
-use Rattle.loc_indexed.specs.Builds.{Built, IsBuiltOf, IsIndexFileOf}
-use Rattle.loc_indexed.specs.Followed.{FollowsTruly}
+use Rattle.loc_indexed.specs.{Builds.Built, Builds.IsBuiltOf, Builds.IsIndexFileOf, Followed.FollowsTruly}
 use Rattle.loc_indexed.proofs.IndexFiles.{index_is, index_passes}
 use Rattle.loc_indexed.proofs.MadeCourses.{AcceptedSo, came, follows_wider}
 

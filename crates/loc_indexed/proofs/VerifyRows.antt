@@ -1,37 +1,24 @@
 -- What the told files of a judgement come to, and what it leaves.
 use Rattle.std.proofs.Common.{◌≡◌, ℕ, ◌<◌, ◌≤◌, Bool, not, length, Option, Some, None, Result, Ok, Err, refl, ◌∙◌, ap, subst, inl, inr}
-use Rattle.std.specs.Prelude.{IsTrue, codes}
+use Rattle.std.specs.{Prelude.IsTrue, Prelude.codes, Io.KnownBytes.Appends}
 use Rattle.std.proofs.lemmas.Bool.{cases_lt}
-use Rattle.std.specs.Io.KnownBytes.{Appends}
-use Rattle.loc_spec_text.specs.Bytes.{Text}
-use Rattle.loc_io.specs.Meaning.{Told, holds}
-use Rattle.loc_io.specs.Streams.{Stream}
-use Rattle.loc_spec_text.specs.Points.{ended}
-use Rattle.loc_spec_index.specs.declared.IndexFault.{IndexFault}
-use Rattle.loc_spec_index.specs.Content.{Content}
-use Rattle.loc_spec_index.specs.Flaws.{Flaw, IsFirst, conflicting}
-use Rattle.loc_indexed.specs.IndexBytes.{IsIndexFile}
-use Rattle.loc_spec_index.specs.TrueIndex.{IsTrueIndex}
+use Rattle.loc_spec_text.specs.{Bytes.Text, Points.ended, Limits.most_index}
+use Rattle.loc_io.specs.{Meaning.Told, Meaning.holds, Streams.Stream}
+use Rattle.loc_spec_index.specs.{declared.IndexFault.IndexFault, Content.Content}
+use Rattle.loc_spec_index.specs.{Flaws.Flaw, Flaws.IsFirst, Flaws.conflicting, TrueIndex.IsTrueIndex}
+use Rattle.loc_indexed.specs.{IndexBytes.IsIndexFile, Asks.IsDone, Asks.OrMemory, IndexTexts.index_fault_text}
 use Rattle.loc_laws_index.specs.IndexReading.{AreBytes, reading}
 use Rattle.loc_laws_judge.specs.FirstFlaw.{first_flaw}
-use Rattle.loc_laws_judge.proofs.First.{true_has_none}
-use Rattle.loc_laws_judge.proofs.Readable.{files_are_readable}
-use Rattle.loc_laws_judge.proofs.Same.{first_is_found}
-use Rattle.loc_course.specs.Courses.{Course}
-use Rattle.loc_course.specs.Moments.{IsToldText, Moment}
+use Rattle.loc_laws_judge.proofs.{First.true_has_none, Readable.files_are_readable, Same.first_is_found}
+use Rattle.loc_course.specs.{Courses.Course, Moments.IsToldText, Moments.Moment}
 use Rattle.loc_course.specs.Outcomes.{Outcome, exactly, outcome, refusal}
 use Rattle.loc_course.specs.Sentences.{EndsSo, IsPlain, NoneFailed, SearchesNothing, Sentences, Steady, Wrote}
 use Rattle.loc_course.proofs.Plain.{plain_reads, plain_refuses, plain_writes}
-use Rattle.loc_indexed.specs.Asks.{IsDone, OrMemory}
 use Rattle.loc_indexed.specs.FlawTexts.{flaw_text, index_text, is_clash, names_clash, says}
-use Rattle.loc_spec_text.specs.Limits.{most_index}
-use Rattle.loc_indexed.specs.IndexTexts.{index_fault_text}
 use Rattle.loc_indexed.specs.Verifies.{AreHeld, IsRefused, Judged, Verifies}
 use Rattle.loc_indexed.specs.Verifying.{judged_course, verify_course}
-use Rattle.loc_indexed.proofs.Behind.{index_all}
-use Rattle.loc_indexed.proofs.Flawed.{one_of, says_exactly}
+use Rattle.loc_indexed.proofs.{Behind.index_all, Flawed.one_of, Flawed.says_exactly, ReadBack.file_reads}
 use Rattle.loc_indexed.proofs.IndexOutcomes.{finished, grown, index_long, index_read, refused_by, refused_so}
-use Rattle.loc_indexed.proofs.ReadBack.{file_reads}
 
 -- the course behind an index
 abbrev judging : Content → Course

@@ -3,16 +3,13 @@ use Rattle.std.proofs.Common.{◌≡◌, ℕ, ◌<◌, ◌≤◌, List, [], ◌�
 use Rattle.std.specs.Prelude.{All, ◌^◌, sum_by}
 use Rattle.std.proofs.lemmas.List.{get_or-map, length-map, take_all, take_more}
 use Rattle.std.proofs.lemmas.List.Elements.{All-append, All-cons}
-use Rattle.loc_spec_text.specs.Bytes.{Text}
+use Rattle.loc_spec_text.specs.{Bytes.Text, Limits.most_id_bytes}
 use Rattle.loc_io.specs.Meaning.{Meaning, Told, untold, absent, holds}
 use Rattle.loc_spec_plane.specs.Covers.{feature_count}
 use Rattle.loc_spec_plane.specs.Tables.{Table, AllEnds, AllEven, NoConflict, noded_table_of}
-use Rattle.loc_spec_index.specs.Content.{Content}
-use Rattle.loc_spec_index.specs.IndexFile.{IsFileOf, bytes_of}
-use Rattle.loc_spec_index.specs.TrueIndex.{IsIndexOf}
+use Rattle.loc_spec_index.specs.{Content.Content, IndexFile.IsFileOf, IndexFile.bytes_of, TrueIndex.IsIndexOf}
 use Rattle.loc_laws_index.specs.IndexReading.{AreBytes}
 use Rattle.loc_rings.specs.Values.{Feature}
-use Rattle.loc_spec_text.specs.Limits.{most_id_bytes}
 use Rattle.loc_edges.specs.Layers.{layer_rings}
 use Rattle.loc_status.specs.Versions.{AreVersions}
 use Rattle.loc_persist.specs.Meaning.{VersionsMeaning, IsMeaning}
@@ -20,15 +17,11 @@ use Rattle.loc_cover.specs.Legends.{LegendRows, IsSound, IsTrueLegend}
 use Rattle.loc_write.specs.Written.{HoldsParts, IsContentOf}
 use Rattle.loc_page.specs.Writing.{IsFront, IsWhole, WritesFile}
 use Rattle.loc_laws_built.specs.Built.{IsPlaneOf}
-use Rattle.loc_laws_built.proofs.Counted.{layer_fits}
-use Rattle.loc_laws_built.proofs.Spelled.{bytes_of_are}
-use Rattle.loc_laws_built.proofs.True.{content_is_true}
-use Rattle.loc_course.specs.Courses.{unwritten}
-use Rattle.loc_course.specs.Following.{IsCut, IsMade, MakesFile}
+use Rattle.loc_laws_built.proofs.{Counted.layer_fits, Spelled.bytes_of_are, True.content_is_true}
+use Rattle.loc_course.specs.{Courses.unwritten, Following.IsCut, Following.IsMade, Following.MakesFile}
 use Rattle.loc_maps.specs.Located.{table_in}
 use Rattle.loc_maps.proofs.TableLaws.{few_features}
-use Rattle.loc_indexed.specs.Builds.{IsIndexFileOf}
-use Rattle.loc_indexed.specs.Followed.{IsLaidOut}
+use Rattle.loc_indexed.specs.{Builds.IsIndexFileOf, Followed.IsLaidOut}
 
 -- ---- all of a list
 

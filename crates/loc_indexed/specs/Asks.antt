@@ -1,28 +1,19 @@
 -- What asking an index file answers, in the words of its user: `Asks`.
 use Rattle.std.specs.Prelude.{◌≡◌, ◌⊎◌, ℕ, ◌+◌, ◌*◌, ◌<◌, ◌≤◌, List, length, map, Some, None, Ok, Err, codes, false}
-use Rattle.std.specs.Io.KnownBytes.{Appends}
-use Rattle.std.specs.List.{flat_map}
-use Rattle.loc_io.specs.Streams.{Stream}
-use Rattle.loc_io.specs.Meaning.{holds}
-use Rattle.loc_spec_text.specs.Answered.{answered}
-use Rattle.loc_spec_text.specs.Bytes.{Text, lines}
-use Rattle.loc_spec_text.specs.Points.{ended}
-use Rattle.loc_spec_index.specs.declared.IndexFault.{IndexFault}
-use Rattle.loc_spec_index.specs.Content.{Content, table_in}
-use Rattle.loc_indexed.specs.IndexBytes.{IsIndexFile}
+use Rattle.std.specs.{Io.KnownBytes.Appends, List.flat_map}
+use Rattle.loc_io.specs.{Streams.Stream, Meaning.holds}
+use Rattle.loc_spec_text.specs.{Answered.answered, Bytes.Text, Bytes.lines, Points.ended}
+use Rattle.loc_spec_index.specs.{declared.IndexFault.IndexFault, Content.Content, Content.table_in}
+use Rattle.loc_indexed.specs.{IndexBytes.IsIndexFile, IndexedCourses.answer_in, IndexTexts.index_fault_text}
 use Rattle.loc_spec_index.specs.TrueIndex.{IsIndexOf, IsTrueIndex}
 use Rattle.loc_laws_index.specs.IndexReading.{AreBytes, reading}
 use Rattle.loc_place.specs.Steps.{most_steps}
 use Rattle.loc_file.specs.Depths.{most_of}
 use Rattle.loc_rings.specs.Values.{Feature, rings_of}
 use Rattle.loc_batch.specs.PointLines.{point_count}
-use Rattle.loc_course.specs.Moments.{Moment}
-use Rattle.loc_course.specs.Sentences.{Steady, Wrote}
-use Rattle.loc_course.specs.Streams.{out_of}
+use Rattle.loc_course.specs.{Moments.Moment, Sentences.Steady, Sentences.Wrote, Streams.out_of}
 use Rattle.loc_spec_text.specs.Limits.{most_index, most_text}
 use Rattle.loc_query.specs.Answered.{output_of}
-use Rattle.loc_indexed.specs.IndexedCourses.{answer_in}
-use Rattle.loc_indexed.specs.IndexTexts.{index_fault_text}
 use Rattle.loc_indexed.specs.Marked.{marked_line}
 
 -- The files are told, and within their limits, and no read and no write failed.

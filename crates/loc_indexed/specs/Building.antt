@@ -6,15 +6,11 @@
 --   made_course     a layer is read and accepted, and a file is made by a test of its text
 --   build_course    the index file of a layer is made
 use Rattle.std.specs.Prelude.{ℕ, Bool, false, not, ◌&&◌, ◌==◌, List, map, Result, Ok, Err}
-use Rattle.std.specs.Cmp.Lexicographic.{pointwise}
-use Rattle.std.specs.Str.{bytes_eq}
+use Rattle.std.specs.{Cmp.Lexicographic.pointwise, Str.bytes_eq}
 use Rattle.loc_spec_text.specs.Bytes.{Text}
-use Rattle.loc_spec_plane.specs.declared.Mark.{Mark}
-use Rattle.loc_spec_plane.specs.Lists.{exactly_one}
-use Rattle.loc_spec_plane.specs.Points.{same_point}
+use Rattle.loc_spec_plane.specs.{declared.Mark.Mark, Lists.exactly_one, Points.same_point}
 use Rattle.loc_spec_plane.specs.Tables.{Table, noded_table_of}
-use Rattle.loc_spec_index.specs.declared.IndexFault.{IndexFault}
-use Rattle.loc_spec_index.specs.Content.{Content, table_in}
+use Rattle.loc_spec_index.specs.{declared.IndexFault.IndexFault, Content.Content, Content.table_in}
 use Rattle.loc_laws_index.specs.IndexReading.{reading}
 use Rattle.loc_rings.specs.Values.{Feature, rings_of}
 use Rattle.loc_course.specs.Courses.{Course, makes}

@@ -4,27 +4,19 @@
 --   Built          what is left under the name of the index
 --   Builds         all that a user is told
 use Rattle.std.specs.Prelude.{◌≡◌, ◌≢◌, ◌⊎◌, ℕ, ◌<◌, ◌≤◌, List, length, map, Ok, Err, IsTrue, codes}
-use Rattle.loc_spec_text.specs.Bytes.{Text}
-use Rattle.loc_io.specs.Meaning.{Meaning, KeepsFiles, holds}
-use Rattle.loc_io.specs.Streams.{Stream}
+use Rattle.loc_spec_text.specs.{Bytes.Text, Points.ended, Limits.most_members, Limits.most_text}
+use Rattle.loc_io.specs.{Meaning.Meaning, Meaning.KeepsFiles, Meaning.holds, Streams.Stream}
 use Rattle.loc_spec_plane.specs.Covers.{cover_sum}
-use Rattle.loc_spec_text.specs.Points.{ended}
-use Rattle.loc_spec_index.specs.Content.{Content}
-use Rattle.loc_spec_index.specs.IndexFile.{IsFileOf}
-use Rattle.loc_spec_index.specs.TrueIndex.{IsIndexOf, IsTrueIndex}
+use Rattle.loc_spec_index.specs.{Content.Content, IndexFile.IsFileOf, TrueIndex.IsIndexOf, TrueIndex.IsTrueIndex}
 use Rattle.loc_laws_index.specs.IndexReading.{AreBytes}
 use Rattle.loc_rings.specs.Values.{Feature, rings_of}
-use Rattle.loc_csvform.specs.Layer.{layer_of}
-use Rattle.loc_csvform.specs.declared.faults.LayerFault.{LayerFault}
+use Rattle.loc_csvform.specs.{Layer.layer_of, declared.faults.LayerFault.LayerFault}
 use Rattle.loc_edges.specs.Conflicts.{has_conflict}
 use Rattle.loc_course.specs.Following.{IsCut, IsMade, IsToldAtMost}
-use Rattle.loc_course.specs.Moments.{Moment, IsToldText}
-use Rattle.loc_course.specs.Sentences.{Steady, Wrote}
+use Rattle.loc_course.specs.{Moments.Moment, Moments.IsToldText, Sentences.Steady, Sentences.Wrote}
 use Rattle.loc_maps.specs.Conflicts.{Accepts, names_conflict}
 use Rattle.loc_maps.specs.LineTexts.{layer_fault_text, covers_text, pieces_text}
-use Rattle.loc_maps.specs.Located.{edges_of, table_in}
-use Rattle.loc_maps.specs.MapCourses.{LayerFile}
-use Rattle.loc_spec_text.specs.Limits.{most_members, most_text}
+use Rattle.loc_maps.specs.{Located.edges_of, Located.table_in, MapCourses.LayerFile}
 use Rattle.loc_maps.specs.Maps.{HasFewPieces, has_many_pieces}
 use Rattle.loc_query.specs.Headline.{IsAccepted}
 use Rattle.loc_indexed.specs.Asks.{OrMemory}

@@ -8,20 +8,17 @@
 --   says         a line says a flaw; where two edges conflict, it names any two that do
 --   flaw_stop    why a command stops where a judge found a fault
 use Rattle.std.specs.Prelude.{ℕ, Bool, true, false, ◌&&◌, ◌||◌, List, ◌++◌, codes, length, nat_lt}
-use Rattle.std.specs.Fmt.{decimal}
-use Rattle.std.specs.List.{list_any}
-use Rattle.loc_spec_text.specs.Bytes.{Text}
+use Rattle.std.specs.{Fmt.decimal, List.list_any}
+use Rattle.loc_spec_text.specs.{Bytes.Text, Points.ended}
 use Rattle.loc_spec_plane.specs.Points.{conflict, cross, touch}
 use Rattle.loc_spec_plane.specs.Tables.{Table, edge, edge_numbers}
-use Rattle.loc_spec_text.specs.Points.{ended}
 use Rattle.loc_spec_index.specs.Content.{Content, table_in}
 use Rattle.loc_spec_index.specs.Flaws.{Flaw, bare, conflicting, deep, lone, spare_cover, uneven, wrong_cover, wrong_floor, wrong_list, wrong_source}
 use Rattle.loc_geom.specs.declared.kinds.Meeting.{Meeting}
 use Rattle.loc_geom.specs.declared.kinds.Meeting.TheVariants as m
 use Rattle.loc_verify.specs.declared.fault.VerifyFault.{VerifyFault}
 use Rattle.loc_verify.specs.declared.fault.VerifyFault.TheVariants as v
-use Rattle.loc_course.specs.Courses.{Stopped, refused, no_memory}
-use Rattle.loc_course.specs.Outcomes.{exactly}
+use Rattle.loc_course.specs.{Courses.Stopped, Courses.refused, Courses.no_memory, Outcomes.exactly}
 use Rattle.loc_maps.specs.LineTexts.{meeting_text}
 
 -- of how many features, corners, edges and nodes an index is

@@ -4,21 +4,15 @@
 --   MakesIndex    the index file of a layer was made, or a write failed
 --   FollowsTruly  a command followed a course in which index files alone pass
 use Rattle.std.specs.Prelude.{ℕ, ◌≤◌, All, Bool, List, length, Option, IsTrue}
-use Rattle.loc_spec_text.specs.Bytes.{Text}
-use Rattle.loc_io.specs.Meaning.{Meaning}
-use Rattle.loc_io.specs.Streams.{Stream}
+use Rattle.loc_spec_text.specs.{Bytes.Text, Limits.most_id_bytes}
+use Rattle.loc_io.specs.{Meaning.Meaning, Streams.Stream}
 use Rattle.loc_spec_plane.specs.Tables.{Table}
 use Rattle.loc_laws_index.specs.IndexReading.{AreBytes}
-use Rattle.loc_rings.specs.Layers.{IsLayer}
-use Rattle.loc_rings.specs.Values.{Feature}
-use Rattle.loc_spec_text.specs.Limits.{most_id_bytes}
+use Rattle.loc_rings.specs.{Layers.IsLayer, Values.Feature}
 use Rattle.loc_cover.specs.Legends.{LegendRows}
-use Rattle.loc_course.specs.Courses.{Stopped}
-use Rattle.loc_course.specs.Following.{Follows, MakesFile, moment}
-use Rattle.loc_maps.specs.MapCourses.{LayerFile}
-use Rattle.loc_maps.specs.Maps.{IsMapOf}
-use Rattle.loc_indexed.specs.Building.{made_course}
-use Rattle.loc_indexed.specs.Builds.{IsIndexFileOf}
+use Rattle.loc_course.specs.{Courses.Stopped, Following.Follows, Following.MakesFile, Following.moment}
+use Rattle.loc_maps.specs.{MapCourses.LayerFile, Maps.IsMapOf}
+use Rattle.loc_indexed.specs.{Building.made_course, Builds.IsIndexFileOf}
 
 -- the layer is within its limits, and each id is a short one
 pub record AreShort (layer : List Feature) : Type 0 where

@@ -2,9 +2,8 @@
 use Rattle.std.specs.Prelude.{List, ℕ, ◌++◌, codes}
 use Rattle.std.specs.Fmt.{decimal}
 use Rattle.loc_spec_text.specs.Points.{ended}
-use Rattle.loc_spec_index.specs.declared.Part.{Part}
+use Rattle.loc_spec_index.specs.{declared.Part.Part, declared.IndexFault.IndexFault}
 use Rattle.loc_spec_index.specs.declared.Part.TheVariants as p
-use Rattle.loc_spec_index.specs.declared.IndexFault.{IndexFault}
 use Rattle.loc_spec_index.specs.declared.IndexFault.TheVariants as f
 use Rattle.loc_course.specs.Courses.{Stopped, refused, no_memory}
 

@@ -5,26 +5,17 @@
 --   asked_course    the lines of a file are answered from a content
 --   ask_course      an index file is asked for the points of another
 use Rattle.std.specs.Prelude.{map, Result, Ok, Err, codes}
-use Rattle.loc_spec_text.specs.Bytes.{Text}
-use Rattle.loc_spec_plane.specs.Covers.{has_at}
-use Rattle.loc_spec_plane.specs.Tables.{corner_numbers, edge_numbers, has}
-use Rattle.loc_spec_text.specs.Points.{ended}
+use Rattle.loc_spec_text.specs.{Bytes.Text, Points.ended, Limits.most_index, Limits.most_text}
+use Rattle.loc_spec_plane.specs.{Covers.has_at, Tables.corner_numbers, Tables.edge_numbers, Tables.has}
 use Rattle.loc_spec_index.specs.declared.IndexFault.{IndexFault}
 use Rattle.loc_spec_index.specs.Content.{Content, cover_numbers, search_in, table_in}
 use Rattle.loc_laws_index.specs.IndexReading.{reading}
 use Rattle.loc_cover.specs.Legends.{LegendRows}
-use Rattle.loc_file.specs.Depths.{most_of}
-use Rattle.loc_file.specs.Searches.{answer_of}
-use Rattle.loc_batch.specs.Answering.{answer_by}
-use Rattle.loc_batch.specs.Faces.{unnumbered}
+use Rattle.loc_file.specs.{Depths.most_of, Searches.answer_of}
+use Rattle.loc_batch.specs.{Answering.answer_by, Faces.unnumbered, Marked.features_where, PointLines.is_point_line}
 use Rattle.loc_answering.specs.ByLine.{by_line}
-use Rattle.loc_batch.specs.Marked.{features_where}
-use Rattle.loc_batch.specs.PointLines.{is_point_line}
 use Rattle.loc_course.specs.Courses.{Course, answers, reads, refuses}
-use Rattle.loc_course.specs.Outcomes.{exactly}
-use Rattle.loc_course.specs.Stops.{source}
-use Rattle.loc_course.specs.Streams.{Answering}
-use Rattle.loc_spec_text.specs.Limits.{most_index, most_text}
+use Rattle.loc_course.specs.{Outcomes.exactly, Stops.source, Streams.Answering}
 use Rattle.loc_indexed.specs.IndexTexts.{index_fault_text}
 
 -- What answers are made of: the features that touch a corner or an edge are those of the marks; all else is as the file has it.

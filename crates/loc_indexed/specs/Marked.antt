@@ -1,16 +1,12 @@
 -- What is answered by the marks of an index alone, without its nodes, its floors and its cover lists. The words: `marked`, `marked_line`, `marked_course`.
 use Rattle.std.specs.Prelude.{ℕ, List, Ok, codes}
-use Rattle.loc_spec_text.specs.Bytes.{Text}
+use Rattle.loc_spec_text.specs.{Bytes.Text, Limits.most_text}
 use Rattle.loc_spec_plane.specs.Points.{Point}
 use Rattle.loc_spec_text.specs.Points.{Answer, answer_text, answer_to, ended, point_of}
 use Rattle.loc_spec_index.specs.Content.{Content, table_in}
 use Rattle.loc_place.specs.Steps.{most_steps}
-use Rattle.loc_batch.specs.Faces.{unnumbered}
-use Rattle.loc_batch.specs.Marked.{answer_marked}
-use Rattle.loc_batch.specs.PointLines.{is_point_line}
-use Rattle.loc_course.specs.Courses.{Course, answers}
-use Rattle.loc_course.specs.Stops.{source}
-use Rattle.loc_spec_text.specs.Limits.{most_text}
+use Rattle.loc_batch.specs.{Faces.unnumbered, Marked.answer_marked, PointLines.is_point_line}
+use Rattle.loc_course.specs.{Courses.Course, Courses.answers, Stops.source}
 
 -- what is answered to a point: its place in the table, and the features that touch and cover it by the marks
 unfoldable pub marked : Content → Point → Answer

@@ -6,22 +6,14 @@
 --   Verifies    all that a user is told
 use Rattle.std.specs.Prelude.{◌≡◌, ◌≢◌, ℕ, ◌<◌, ◌≤◌, length, Err, IsTrue, not, codes}
 use Rattle.std.specs.Io.KnownBytes.{Appends}
-use Rattle.loc_spec_text.specs.Bytes.{Text}
-use Rattle.loc_io.specs.Meaning.{Told, holds}
-use Rattle.loc_io.specs.Streams.{Stream}
-use Rattle.loc_spec_text.specs.Points.{ended}
-use Rattle.loc_spec_index.specs.declared.IndexFault.{IndexFault}
-use Rattle.loc_spec_index.specs.Content.{Content}
-use Rattle.loc_spec_index.specs.Flaws.{Flaw, IsFirst, conflicting}
-use Rattle.loc_indexed.specs.IndexBytes.{IsIndexFile}
-use Rattle.loc_spec_index.specs.TrueIndex.{IsTrueIndex}
+use Rattle.loc_spec_text.specs.{Bytes.Text, Points.ended, Limits.most_index}
+use Rattle.loc_io.specs.{Meaning.Told, Meaning.holds, Streams.Stream}
+use Rattle.loc_spec_index.specs.{declared.IndexFault.IndexFault, Content.Content}
+use Rattle.loc_spec_index.specs.{Flaws.Flaw, Flaws.IsFirst, Flaws.conflicting, TrueIndex.IsTrueIndex}
+use Rattle.loc_indexed.specs.{IndexBytes.IsIndexFile, Asks.IsDone, Asks.OrMemory, IndexTexts.index_fault_text}
 use Rattle.loc_laws_index.specs.IndexReading.{AreBytes, reading}
-use Rattle.loc_course.specs.Moments.{Moment, IsToldText}
-use Rattle.loc_course.specs.Sentences.{Steady, Wrote}
-use Rattle.loc_indexed.specs.Asks.{IsDone, OrMemory}
+use Rattle.loc_course.specs.{Moments.Moment, Moments.IsToldText, Sentences.Steady, Sentences.Wrote}
 use Rattle.loc_indexed.specs.FlawTexts.{flaw_text, index_text, is_clash, names_clash}
-use Rattle.loc_spec_text.specs.Limits.{most_index}
-use Rattle.loc_indexed.specs.IndexTexts.{index_fault_text}
 
 -- the text of a file, where it is told, is the index file of the content
 abbrev pub IsToldFile : Told → Content → Type 0

@@ -2,15 +2,11 @@
 --   judged_course  the counts of an index are written where it has no flaw, and else it is refused by a line that says its flaw
 --   verify_course  an index file is read and judged
 use Rattle.std.specs.Prelude.{Option, Some, None}
-use Rattle.loc_spec_text.specs.Bytes.{Text}
-use Rattle.loc_spec_text.specs.Points.{ended}
-use Rattle.loc_spec_index.specs.Content.{Content}
-use Rattle.loc_spec_index.specs.Flaws.{Flaw}
+use Rattle.loc_spec_text.specs.{Bytes.Text, Points.ended}
+use Rattle.loc_spec_index.specs.{Content.Content, Flaws.Flaw}
 use Rattle.loc_laws_judge.specs.FirstFlaw.{first_flaw}
-use Rattle.loc_course.specs.Courses.{Course, refuses, writes}
-use Rattle.loc_course.specs.Outcomes.{exactly}
-use Rattle.loc_indexed.specs.FlawTexts.{index_text, says}
-use Rattle.loc_indexed.specs.IndexedCourses.{index_course}
+use Rattle.loc_course.specs.{Courses.Course, Courses.refuses, Courses.writes, Outcomes.exactly}
+use Rattle.loc_indexed.specs.{FlawTexts.index_text, FlawTexts.says, IndexedCourses.index_course}
 
 -- the counts of the index are written where it has no flaw, and else it is refused by a line that says its flaw
 abbrev pub judged_course : Content → Option Flaw → Course

@@ -1,8 +1,7 @@
 //! An index file that is asked for the points of another, from the bytes in to the bytes out.
 
-ghost use Rattle.loc_course.specs.Following.{Follows, moment};
-ghost use Rattle.loc_course.specs.Stops.{end_of};
 ghost use Rattle.loc_indexed.specs.IndexedCourses.{ask_course, asked_course};
+ghost use Rattle.loc_course.specs.Runs.{Runs};
 
 use crate::indexes::read_index_file;
 use loc_answering::answer_source;
@@ -24,9 +23,7 @@ fn answer_points<F: Shelf, O: Sink, L: Ledger>(
     out: &mut O,
     steps: &mut Steps<L>,
 ) -> Result<(), Stop>
-    ensures { Follows (asked_course points.now held.now.content)
-        (moment (F.meaning shelf.old) (O.meaning out.old) steps.old)
-        (moment (F.meaning shelf.new) (O.meaning out.new) steps.new) (end_of result) }
+    ensures { Runs (asked_course points.now held.now.content) F.meaning shelf O.meaning out steps result }
 {
     let mut batch = Batch::make(alloc, held.scale(), MOST_TEXT as u64)?;
     answer_source(
@@ -53,9 +50,7 @@ pub fn ask<F: Shelf, O: Sink, L: Ledger>(
     out: &mut O,
     steps: &mut Steps<L>,
 ) -> Result<(), Stop>
-    ensures { Follows (ask_course index_name.now points_name.now)
-        (moment (F.meaning shelf.old) (O.meaning out.old) steps.old)
-        (moment (F.meaning shelf.new) (O.meaning out.new) steps.new) (end_of result) }
+    ensures { Runs (ask_course index_name.now points_name.now) F.meaning shelf O.meaning out steps result }
 {
     let held = read_index_file(alloc, shelf, index_name)?;
     let outcome = answer_points(alloc, &held, points_name, shelf, out, steps);

@@ -1,18 +1,17 @@
 //! The index file of a layer, from the layer's bytes in to the file's bytes out.
 
-ghost use Rattle.std.specs.Prelude.{List, ℕ};
-ghost use Rattle.loc_io.specs.Streams.{Stream};
+ghost use Rattle.std.specs.Prelude.{List};
 ghost use Rattle.loc_laws_index.specs.IndexReading.{AreBytes};
 ghost use Rattle.loc_rings.specs.Values.{Feature as FeatureOf};
 ghost use Rattle.loc_sweep.specs.Swept.{IsSwept};
 ghost use Rattle.loc_treeidx.specs.Meaning.{meaning_of};
-ghost use Rattle.loc_course.specs.Following.{Follows, moment};
 ghost use Rattle.loc_course.specs.Sentences.{status_of};
 ghost use Rattle.loc_course.specs.Stops.{end_of};
 ghost use Rattle.loc_maps.specs.MapCourses.{layer_file};
 ghost use Rattle.loc_indexed.specs.Building.{build_course};
 ghost use Rattle.loc_indexed.specs.Builds.{Built};
 ghost use Rattle.loc_indexed.specs.Followed.{AreShort, FollowsTruly, IsLaidOut, MakesIndex};
+ghost use Rattle.loc_course.specs.Runs.{RunsOnFiles};
 
 use loc_course::Stop;
 use loc_io::Shelf;
@@ -102,10 +101,8 @@ pub fn build<F: Shelf>(
     scale: Scale,
     shelf: &mut F,
 ) -> Result<(), Stop>
-    ensures follows { (o : Stream) (k : ℕ) → Follows
-        (build_course (layer_file layer_name.now form scale) index_name.now)
-        (moment (F.meaning shelf.old) o k)
-        (moment (F.meaning shelf.new) o k) (end_of result) }
+    ensures follows { RunsOnFiles (build_course (layer_file layer_name.now form scale) index_name.now)
+        F.meaning shelf result }
     ensures built { Built (layer_file layer_name.now form scale) index_name.now (F.meaning shelf.old)
         (F.meaning shelf.new) (status_of (end_of result)) }
 {

@@ -1,13 +1,12 @@
 //! The index file.
 
-ghost use Rattle.std.specs.Prelude.{◌≤◌, IfOk, length, ℕ};
-ghost use Rattle.loc_io.specs.Meaning.{Meaning};
-ghost use Rattle.loc_io.specs.Streams.{Stream};
+ghost use Rattle.std.specs.Prelude.{◌≤◌, IfOk, length};
 ghost use Rattle.loc_spec_index.specs.Content.{Content};
 ghost use Rattle.loc_indexed.specs.IndexBytes.{IsIndexFile};
 ghost use Rattle.loc_laws_index.specs.IndexReading.{AreBytes, reading};
 ghost use Rattle.loc_course.specs.Courses.{Course};
-ghost use Rattle.loc_course.specs.Following.{Moment, moment};
+ghost use Rattle.loc_course.specs.Following.{Moment};
+ghost use Rattle.loc_course.specs.Runs.{GoesOnFiles};
 ghost use Rattle.loc_course.specs.Stops.{GoesOn};
 ghost use Rattle.loc_indexed.specs.IndexedCourses.{index_course, index_in};
 ghost use Rattle.loc_spec_text.specs.Limits.{most_index};
@@ -36,9 +35,7 @@ fn read_index_in(alloc: Global, bytes: &[u8]) -> Result<Held, Stop>
 
 /// Reads an index file. Its bytes are given back when they were read.
 pub fn read_index_file<F: Shelf>(alloc: Global, shelf: &mut F, name: &str) -> Result<Held, Stop>
-    ensures goes_on { (next : Content → Course) (o : Stream) (k : ℕ) → GoesOn (index_course name.now next)
-        (moment (F.meaning shelf.old) o k) (λ held. next held.content)
-        (moment (F.meaning shelf.new) o k) result }
+    ensures goes_on { GoesOnFiles (index_course name.now) (λ next held. next held.content) F.meaning shelf result }
     ensures told { IfOk result (λ held. IsToldFile ((F.meaning shelf.old).told name.now) held.content) }
 {
     let bytes = read_source(alloc, shelf, name, MOST_INDEX, b"index: too long")?;

@@ -1,14 +1,14 @@
 //! An index file that is judged, from the bytes in to the bytes out.
 
-ghost use Rattle.std.specs.Prelude.{◌≡◌, ◌++◌, IfOk, OnOk, ℕ};
+ghost use Rattle.std.specs.Prelude.{◌≡◌, ◌++◌, IfOk, OnOk};
 ghost use Rattle.std.specs.Fmt.{decimal};
-ghost use Rattle.loc_io.specs.Meaning.{Meaning};
 ghost use Rattle.loc_spec_text.specs.Points.{ended};
 ghost use Rattle.loc_spec_index.specs.TrueIndex.{IsTrueIndex};
 ghost use Rattle.loc_laws_judge.specs.FirstFlaw.{first_flaw};
 ghost use Rattle.loc_course.specs.Courses.{writes};
-ghost use Rattle.loc_course.specs.Following.{Follows, Moment, moment};
+ghost use Rattle.loc_course.specs.Following.{Moment};
 ghost use Rattle.loc_course.specs.Outcomes.{exactly};
+ghost use Rattle.loc_course.specs.Runs.{RunsOnFilesAndOut, RunsOnOut};
 ghost use Rattle.loc_course.specs.Sentences.{status_of};
 ghost use Rattle.loc_course.specs.Stops.{GoesOn, end_of};
 ghost use Rattle.loc_indexed.specs.FlawTexts.{index_text};
@@ -62,9 +62,7 @@ fn judge_held(alloc: Global, held: &Held) -> Result<(), Stop>
 
 // The counts of an index are written.
 fn write_counts<O: Sink>(alloc: Global, held: &Held, out: &mut O) -> Result<(), Stop>
-    ensures { (shelf : Meaning) (k : ℕ) → Follows (writes (exactly (ended (index_text held.now.content))))
-        (moment shelf (O.meaning out.old) k)
-        (moment shelf (O.meaning out.new) k) (end_of result) }
+    ensures { RunsOnOut (writes (exactly (ended (index_text held.now.content)))) O.meaning out result }
 {
     let line = index_line(alloc, held)?;
     write_out(out, &line)
@@ -72,9 +70,7 @@ fn write_counts<O: Sink>(alloc: Global, held: &Held, out: &mut O) -> Result<(), 
 
 // What was read is judged, and its counts are written where it is true.
 fn tell<O: Sink>(alloc: Global, held: &Held, out: &mut O) -> Result<(), Stop>
-    ensures follows { (shelf : Meaning) (k : ℕ) → Follows (judged_course held.now.content (first_flaw held.now.content))
-        (moment shelf (O.meaning out.old) k)
-        (moment shelf (O.meaning out.new) k) (end_of result) }
+    ensures follows { RunsOnOut (judged_course held.now.content (first_flaw held.now.content)) O.meaning out result }
     ensures is_true { OnOk result (IsTrueIndex held.now.content) }
 {
     judge_held(alloc, held)?;
@@ -88,9 +84,7 @@ pub fn verify<F: Shelf, O: Sink>(
     shelf: &mut F,
     out: &mut O,
 ) -> Result<(), Stop>
-    ensures follows { (k : ℕ) → Follows (verify_course index_name.now)
-        (moment (F.meaning shelf.old) (O.meaning out.old) k)
-        (moment (F.meaning shelf.new) (O.meaning out.new) k) (end_of result) }
+    ensures follows { RunsOnFilesAndOut (verify_course index_name.now) F.meaning shelf O.meaning out result }
     ensures judged { Judged ((F.meaning shelf.old).told index_name.now) (status_of (end_of result)) }
 {
     let held = read_index_file(alloc, shelf, index_name)?;

@@ -1,10 +1,7 @@
 -- Pieces that are written one after the other.
 use Rattle.std.proofs.Common.{◌≡◌, ℕ, List, [], ◌++◌, take, drop, Option, Some, None, Bool, sym, subst, ◌∙◌, ap, append_assoc, append-nil, take-append-drop}
-use Rattle.std.specs.Prelude.{nat_lt}
-use Rattle.std.specs.Io.KnownBytes.{Appends}
-use Rattle.loc_io.specs.Causes.{CountsLate}
-use Rattle.loc_io.specs.Reading.{WroteFront}
-use Rattle.loc_io.specs.Streams.{InTime, Stream}
+use Rattle.std.specs.{Prelude.nat_lt, Io.KnownBytes.Appends}
+use Rattle.loc_io.specs.{Causes.CountsLate, Reading.WroteFront, Streams.InTime, Streams.Stream}
 
 -- two pieces that were appended one after the other
 pub Appends-more : (a b c : Option (List ℕ)) (front more : List ℕ) → Appends a b front → Appends b c more → Appends a c (front ++ more)

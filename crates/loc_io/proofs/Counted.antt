@@ -1,11 +1,8 @@
 -- What the counts tell of one call: a call that failed was counted, and one that succeeded was not.
 use Rattle.std.proofs.Common.{◌≡◌, ◌==◌, ◌+◌, ◌^◌, ◌-◌, ◌≤◌, ℕ, Bool, true, false, List, Ok, Err, OnOk, OnErr, min, sym, subst, ap, ◌∙◌, arith}
-use Rattle.std.specs.Prelude.{Result}
-use Rattle.std.specs.List.{list_any}
-use Rattle.std.specs.Result.{is_err}
+use Rattle.std.specs.{Prelude.Result, List.list_any, Result.is_err}
 use mathlib.Core.Bool.{true≢false}
-use Rattle.loc_io.specs.Causes.{FailsAsTold, HasCause, Rose}
-use Rattle.loc_io.specs.declared.failed.FaultCount.{FaultCount}
+use Rattle.loc_io.specs.{Causes.FailsAsTold, Causes.HasCause, Causes.Rose, declared.failed.FaultCount.FaultCount}
 
 module _ {T E : Type 0} where
   -- the count rose behind the note of the call

@@ -1,12 +1,8 @@
 -- What is told of the files in memory where one of them was put there, or has grown.
 use Rattle.std.proofs.Common.{◌≡◌, ◌≢◌, ℕ, Bool, true, false, cond, List, ◌++◌, length, take, Some, refl, sym, ◌∙◌, ap, arith}
-use Rattle.std.proofs.lemmas.List.{take_all}
-use Rattle.std.proofs.lemmas.Slice.Eq.{bytes_eq-Decides}
-use Rattle.std.specs.Str.{bytes_eq}
-use Rattle.std.specs.Io.KnownBytes.{Appends}
-use Rattle.loc_io.specs.Files.{file_of, Grows, Puts}
-use Rattle.loc_io.specs.Meaning.{bytes_of, holds}
-use Rattle.loc_io.specs.MemShelf.{told_of}
+use Rattle.std.proofs.{lemmas.List.take_all, lemmas.Slice.Eq.bytes_eq-Decides}
+use Rattle.std.specs.{Str.bytes_eq, Io.KnownBytes.Appends}
+use Rattle.loc_io.specs.{Files.file_of, Files.Grows, Files.Puts, Meaning.bytes_of, Meaning.holds, MemShelf.told_of}
 use Rattle.loc_io.specs.declared.mem_file.MemFile.{MemFile}
 
 module _ (name bytes : List ℕ) (files new : List MemFile) (puts : Puts name bytes files new) where

@@ -2,20 +2,15 @@
 use Rattle.std.proofs.Common.{◌≡◌, ◌≢◌, ◌⊎◌, inl, inr, ℕ, ◌<◌, Bool, true, false, cond, List, [], ◌∷◌, ◌++◌, length, get_or, set, Some, None, option_map, string_bytes, unwrap_or, refl, sym, ◌∙◌, ap, subst, arith}
 use Rattle.std.specs.Prelude.{nat_lt, slice_get, if◌then◌else◌, is_some}
 use Rattle.std.specs.List.{find, position, position_or_len}
-use Rattle.std.specs.Option.{option_and_then, option_map_or, option_or}
-use Rattle.std.specs.Str.{bytes_eq}
-use Rattle.std.proofs.lemmas.Bool.{ltb-false}
-use Rattle.std.proofs.lemmas.List.{set-get_or}
+use Rattle.std.specs.{Option.option_and_then, Option.option_map_or, Option.option_or, Str.bytes_eq}
+use Rattle.std.proofs.{lemmas.Bool.ltb-false, lemmas.List.set-get_or, lemmas.List.Quantifiers.position-Some}
 use Rattle.std.proofs.lemmas.List.Folds.{find_at, find-set, find_past, find-append}
-use Rattle.std.proofs.lemmas.List.Quantifiers.{position-Some}
-use Rattle.std.proofs.lemmas.List.Sums.{position_or_len_is}
-use Rattle.std.proofs.lemmas.Option.{slice_get_past}
+use Rattle.std.proofs.{lemmas.List.Sums.position_or_len_is, lemmas.Option.slice_get_past}
 use Rattle.std.proofs.lemmas.Slice.Eq.{bytes_eq-Decides}
 use mathlib.Core.Bool.{true≢false}
 use Rattle.loc_io.specs.Files.{file_of, is_named, Puts, KeepsAll}
 use Rattle.loc_io.specs.Meaning.{Told, untold, holds, bytes_of}
-use Rattle.loc_io.specs.Steady.{bytes_at}
-use Rattle.loc_io.specs.declared.mem_file.MemFile.{MemFile}
+use Rattle.loc_io.specs.{Steady.bytes_at, declared.mem_file.MemFile.MemFile}
 
 -- what is found stands at the place of the first that passes
 find_by_place : (p : MemFile → Bool) (fs : List MemFile) → find p fs ≡ option_and_then (slice_get fs) (position p fs)

@@ -1,15 +1,12 @@
 -- A loop of reads.
 use Rattle.std.proofs.Common.{◌≡◌, ◌≢◌, ℕ, ◌+◌, ◌<◌, ◌≤◌, Bool, true, List, [], ◌∷◌, ◌++◌, length, take, Option, Some, None, Ok, Err, refl, sym, subst, ◌∙◌, ap, arith, append_assoc, length-append, length-take}
-use Rattle.std.proofs.lemmas.List.{append-nil}
-use Rattle.std.proofs.KnownBytes.{Consumes-kept, Consumes-nil}
-use Rattle.std.specs.Io.KnownBytes.{Consumes, IsAtEnd}
+use Rattle.std.proofs.{lemmas.List.append-nil, KnownBytes.Consumes-kept, KnownBytes.Consumes-nil}
+use Rattle.std.specs.{Io.KnownBytes.Consumes, Io.KnownBytes.IsAtEnd, declared.alloc.Global.Global}
 use Rattle.std.specs.Prelude.{◌||◌, nat_lt, Vec}
-use Rattle.loc_io.specs.Causes.{CountsLate, Rose}
-use Rattle.loc_io.specs.Entries.{Entries, taken}
+use Rattle.loc_io.specs.{Causes.CountsLate, Causes.Rose, Entries.Entries, Entries.taken}
 use Rattle.loc_io.specs.Meaning.{Meaning, IsCounted, KeepsFiles, KeepsMaking, NoneLate, Reads, TakesUp, absent, bytes_of}
 use Rattle.loc_io.specs.Whole.{ReadsAll, BytesAreTold}
 use Rattle.loc_io.specs.declared.whole.ReadAllFault.TheVariants.{ReadFault, TooLong, NoMemory}
-use Rattle.std.specs.declared.alloc.Global.{Global}
 
 -- a call where none has failed is in time
 pub in_time_by : (old new : Meaning) → IsCounted old new → NoneLate old new

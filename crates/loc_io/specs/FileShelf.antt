@@ -1,7 +1,6 @@
 -- What the real files mean as a shelf. The words: `file_meaning`, `file_taken_up`, `file_in_making`.
 use Rattle.std.specs.Prelude.{Option, None, is_some}
-use Rattle.loc_io.specs.Meaning.{Meaning, untold}
-use Rattle.loc_io.specs.declared.file_shelf.FileShelf.{FileShelf}
+use Rattle.loc_io.specs.{Meaning.Meaning, Meaning.untold, declared.file_shelf.FileShelf.FileShelf}
 
 -- nothing is told of what the files hold
 abbrev pub file_meaning : {R File Dir : Type 0} → FileShelf R File Dir → Meaning

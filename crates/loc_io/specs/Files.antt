@@ -1,8 +1,7 @@
 -- Files in memory: `is_named` tests a file's name, `file_of` looks a file up, and `Puts`, `Grows` and
 -- `KeepsAll` say what a change does to every name.
 use Rattle.std.specs.Prelude.{◌≡◌, ℕ, Bool, List, ◌++◌, Option, Some, option_map, string_bytes, if◌then◌else◌}
-use Rattle.std.specs.List.{find}
-use Rattle.std.specs.Str.{bytes_eq}
+use Rattle.std.specs.{List.find, Str.bytes_eq}
 use Rattle.loc_io.specs.declared.mem_file.MemFile.{MemFile}
 
 -- whether the file has this name

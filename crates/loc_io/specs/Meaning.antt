@@ -1,8 +1,7 @@
 -- What a shelf means, and what each of its calls does to that: `TakesUp`, `Reads`, `Creates`, `Writes` and `Finishes`.
 use Rattle.std.specs.Prelude.{◌≡◌, ◌≢◌, ◌⊎◌, ℕ, ◌<◌, ◌≤◌, Bool, true, false, ◌||◌, nat_lt, List, [], length, Option, Some, None, Result, IfOk, OnOk, OnErr, MatchResult}
 use Rattle.std.specs.Io.KnownBytes.{Keeps, ReadConsumes, WriteAppends}
-use Rattle.loc_io.specs.Causes.{CountsLate, HasCause}
-use Rattle.loc_io.specs.Entries.{Entries, handed, taken}
+use Rattle.loc_io.specs.{Causes.CountsLate, Causes.HasCause, Entries.Entries, Entries.handed, Entries.taken}
 
 -- what a shelf tells of a name: nothing, that no file is there, or the bytes of the file
 pub data Told : Type 0 where

@@ -1,8 +1,7 @@
 -- What a shelf in memory means. The words: `told_of`, `mem_meaning`, `failing_calls`, `calls_made`.
 use Rattle.std.specs.Prelude.{ℕ, List, Option, drop, None, Some, option_map, is_some, string_bytes}
 use Rattle.loc_io.specs.Meaning.{Meaning, Told, absent, holds}
-use Rattle.loc_io.specs.Files.{file_of}
-use Rattle.loc_io.specs.declared.mem_shelf.MemShelf.{MemShelf}
+use Rattle.loc_io.specs.{Files.file_of, declared.mem_shelf.MemShelf.MemShelf}
 
 -- it tells every name
 abbrev pub told_of : Option (List ℕ) → Told

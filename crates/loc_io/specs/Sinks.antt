@@ -1,7 +1,6 @@
 -- What the sinks tell. The words: `mem_stream`, `failing_writes`, `writes_made`, `stream_of`, `std_stream`.
 use Rattle.std.specs.Prelude.{ℕ, List, Some, None}
-use Rattle.loc_io.specs.Streams.{Stream, stream}
-use Rattle.loc_io.specs.declared.mem_sink.MemSink.{MemSink}
+use Rattle.loc_io.specs.{Streams.Stream, Streams.stream, declared.mem_sink.MemSink.MemSink}
 use Rattle.loc_io.specs.declared.std_sink.StdSink.{StdSink}
 
 -- a sink in memory tells all

@@ -1,8 +1,6 @@
 -- What a steady shelf means. The word: `steady_meaning`.
 use Rattle.std.specs.Prelude.{drop, [], Some, None, if◌then◌else◌, unwrap_or}
-use Rattle.loc_io.specs.Meaning.{Meaning, untold, holds}
-use Rattle.loc_io.specs.Files.{file_of}
-use Rattle.loc_io.specs.Steady.{bytes_at}
+use Rattle.loc_io.specs.{Meaning.Meaning, Meaning.untold, Meaning.holds, Files.file_of, Steady.bytes_at}
 use Rattle.loc_io.specs.declared.steady_shelf.SteadyShelf.{SteadyShelf}
 
 -- every name is a file, empty where none was put there; from the first `create` on no file is told

@@ -1,8 +1,7 @@
 -- What a sink means, and what a write on it does to that. The words: `Stream`, `stream`, `Takes`, `InTime`, `TakesAll`.
 use Rattle.std.specs.Prelude.{◌≡◌, ℕ, ◌<◌, ◌≤◌, List, length, nat_lt, Option, Result, IfOk, OnOk, OnErr}
 use Rattle.std.specs.Io.KnownBytes.{Appends, WriteAppends}
-use Rattle.loc_io.specs.Causes.{CountsLate, HasCause}
-use Rattle.loc_io.specs.Reading.{WroteFront}
+use Rattle.loc_io.specs.{Causes.CountsLate, Causes.HasCause, Reading.WroteFront}
 
 -- what can be said of a sink at one moment
 pub record Stream : Type 0 where

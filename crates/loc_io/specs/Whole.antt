@@ -1,9 +1,8 @@
 -- What reading a whole file comes to. The words: `Whole`, `FaultIsTold`, `LengthIsTold`, `BytesAreTold`, `IsUnread`, `ReadsAll`.
 use Rattle.std.specs.Prelude.{◌≡◌, ℕ, ◌<◌, ◌≤◌, List, [], ◌∷◌, ◌++◌, length, Option, Some, None, Result, Ok, Err, Vec, ⊤}
 use Rattle.std.specs.declared.alloc.Global.{Global}
-use Rattle.loc_io.specs.Causes.{Rose}
+use Rattle.loc_io.specs.{Causes.Rose, declared.whole.ReadAllFault.ReadAllFault}
 use Rattle.loc_io.specs.Meaning.{Meaning, KeepsFiles, KeepsMaking, NoneLate, absent, bytes_of}
-use Rattle.loc_io.specs.declared.whole.ReadAllFault.{ReadAllFault}
 use Rattle.loc_io.specs.declared.whole.ReadAllFault.TheVariants.{ReadFault, TooLong, NoMemory}
 
 -- what `read_all` answers

@@ -4,9 +4,8 @@
 --   TouchesAtMoment, CoversAtMoment     direct containment looks at the segments of its moment alone
 use Rattle.std.specs.Prelude.{◌≡◌, Bool, not, ◌&&◌, [], ◌∷◌, filter, ⊤}
 use Rattle.std.specs.List.{list_any}
-use Rattle.loc_spec_plane.specs.Lists.{odd_many}
+use Rattle.loc_spec_plane.specs.{Lists.odd_many, Places.alive}
 use Rattle.loc_spec_plane.specs.Points.{Point, Edge, up_to, is_above, lies_on}
-use Rattle.loc_spec_plane.specs.Places.{alive}
 use Rattle.loc_spec_plane.specs.Rings.{Ring, Rings, segments, touches, covers}
 use Rattle.loc_laws_rays.specs.Laws.{last_point}
 

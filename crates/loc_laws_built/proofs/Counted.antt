@@ -1,8 +1,7 @@
 -- How many edges and marks the table of a layer has: no more of either than there are pieces.
 use Rattle.std.proofs.Common.{arith}
 use Rattle.loc_spec_plane.specs.Tables.{cut_at, layer_corners}
-use Rattle.loc_laws_noding.proofs.Counted.{few_marks}
-use Rattle.loc_laws_noding.proofs.Tables.{few_ends}
+use Rattle.loc_laws_noding.proofs.{Counted.few_marks, Tables.few_ends}
 use Rattle.loc_edges.specs.Layers.{layer_rings}
 use Rattle.loc_laws_built.specs.Built.{LayerFits}
 

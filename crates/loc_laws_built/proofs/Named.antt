@@ -1,19 +1,16 @@
 -- Every cover list of a true legend is named by an edge: by one above which it is.
 use Rattle.std.proofs.Common.{◌≡◌, ℕ, ◌<◌, true, List, [], length, get_or, refl, sym, ◌∙◌, ap, subst, inl, inr, arith, ◌==◌}
-use Rattle.std.specs.List.{list_any}
-use Rattle.std.specs.Str.{bytes_eq}
+use Rattle.std.specs.{List.list_any, Str.bytes_eq}
 use Rattle.std.proofs.lemmas.Bool.{both_ways, cases_order, eq-eqb}
 use Rattle.std.proofs.lemmas.List.{get_or-map, length-map}
 use Rattle.std.proofs.lemmas.List.Folds.{Any-from_list_any, list_any_at}
 use Rattle.std.proofs.lemmas.List.FromFn.{get_or-range_with_len, length-range_with_len}
 use Rattle.std.proofs.lemmas.Slice.Eq.{bytes_eq-Decides}
-use Rattle.loc_spec_plane.specs.Covers.{cover_above, list_before}
-use Rattle.loc_spec_plane.specs.Lists.{is_in, is_rising}
+use Rattle.loc_spec_plane.specs.{Covers.cover_above, Covers.list_before, Lists.is_in, Lists.is_rising}
 use Rattle.loc_spec_plane.specs.Tables.{Table, edge_numbers}
 use Rattle.loc_laws_order.proofs.TableOrder.{rises}
 use Rattle.loc_laws_noding.proofs.SortedSet.{any-sorted_set, irrefl}
-use Rattle.loc_cover.specs.Legends.{LegendRows, IsSound, IsTrueLegend}
-use Rattle.loc_cover.specs.Numbered.{covers_of}
+use Rattle.loc_cover.specs.{Legends.LegendRows, Legends.IsSound, Legends.IsTrueLegend, Numbered.covers_of}
 use Rattle.loc_cover.proofs.Lexicographic.{lists_by_before}
 
 -- in a rising list of lists equal ones stand at one place

@@ -1,8 +1,7 @@
 -- What is written of a content is bytes, where its ids are.
 use Rattle.std.proofs.Common.{◌≡◌, ℕ, zero, suc, ◌+◌, ◌<◌, Bool, true, List, [], ◌∷◌, ◌++◌, length, map, refl, sym, ◌∙◌, ap, arith}
-use Rattle.std.specs.Prelude.{All, nat_lt}
+use Rattle.std.specs.{Prelude.All, Prelude.nat_lt, List.flat_map, List.list_all}
 use Rattle.std.specs.Int.{byte_at, byte_len, bytes_high_first, cast_unsigned, w32, w64}
-use Rattle.std.specs.List.{flat_map, list_all}
 use Rattle.std.proofs.lemmas.Bool.{and_from, and_parts, lt-ltb, ltb-true}
 use Rattle.loc_spec_index.specs.Content.{Content}
 use Rattle.loc_spec_index.specs.IndexFile.{Field, magic, version, number, coordinate, text, order, fields, spelled, spelled_all, rows_from, id_fields, corner_fields, edge_fields, mark_fields, cover_fields, node_fields, none_or_next, parts}

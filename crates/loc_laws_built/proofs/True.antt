@@ -4,14 +4,11 @@ use Rattle.std.specs.Prelude.{IsTrue}
 use Rattle.std.proofs.lemmas.Bool.{both_ways, ltb-true, not_from_false, not-true, false_from_ne_true, lt-ltb}
 use Rattle.std.proofs.lemmas.List.Sums.{length-filter}
 use Rattle.std.proofs.lemmas.Option.{get_or_from_slice_get, slice_get-get_or}
-use Rattle.loc_spec_plane.specs.Rings.{Rings}
+use Rattle.loc_spec_plane.specs.{Rings.Rings, Places.IsFloor, Places.IsVersion, Places.alive_at, Covers.cover_above}
 use Rattle.loc_spec_plane.specs.Tables.{Table, AllEnds, AllEven, NoConflict, corner, edge_numbers, cut_at, layer_corners, noded_table_of, is_on_source}
-use Rattle.loc_spec_plane.specs.Places.{IsFloor, IsVersion, alive_at}
-use Rattle.loc_spec_plane.specs.Covers.{cover_above}
 use Rattle.loc_spec_plane.specs.Lists.{is_in}
-use Rattle.loc_spec_index.specs.declared.NodeRow.{NodeRow}
+use Rattle.loc_spec_index.specs.{declared.NodeRow.NodeRow, Nodes.IsShallow, Nodes.is_deep}
 use Rattle.loc_spec_index.specs.Content.{Content, cover_numbers, floor_of_corner, root_of, table_in}
-use Rattle.loc_spec_index.specs.Nodes.{IsShallow, is_deep}
 use Rattle.loc_spec_index.specs.TrueIndex.{IsIndexOf, IsTrueIndex, IsTrueVersion, alive_count}
 use Rattle.loc_persist.specs.ByNumber.{AreRootsByNumber, AreRowsByNumber}
 use Rattle.loc_persist.specs.Meaning.{IsMeaning, VersionsMeaning}
@@ -21,8 +18,7 @@ use Rattle.loc_place.proofs.ListCounts.{listed_count, square_rises}
 use Rattle.loc_cover.specs.Legends.{LegendRows}
 use Rattle.loc_write.specs.Written.{HoldsParts, IsContentOf}
 use Rattle.loc_laws_index.proofs.FlawKinds.{as_many, as_many_corners}
-use Rattle.loc_laws_noding.proofs.Counted.{every_marked}
-use Rattle.loc_laws_noding.proofs.Sources.{noded_sources}
+use Rattle.loc_laws_noding.proofs.{Counted.every_marked, Sources.noded_sources}
 use Rattle.loc_laws_built.specs.Built.{ContentIsTrue, IsPlaneOf}
 use Rattle.loc_laws_built.proofs.Named.{every_named}
 

@@ -7,9 +7,7 @@ use Rattle.std.specs.Prelude.{◌≡◌, ℕ, ◌≤◌, All, List, length, sum_
 use Rattle.loc_spec_text.specs.Limits.{most_pieces}
 use Rattle.loc_spec_plane.specs.Rings.{Rings}
 use Rattle.loc_spec_plane.specs.Tables.{AllEnds, AllEven, NoConflict, noded_table_of, piece_count}
-use Rattle.loc_spec_index.specs.Content.{Content}
-use Rattle.loc_spec_index.specs.TrueIndex.{IsIndexOf, IsTrueIndex}
-use Rattle.loc_spec_index.specs.IndexFile.{bytes_of}
+use Rattle.loc_spec_index.specs.{Content.Content, TrueIndex.IsIndexOf, TrueIndex.IsTrueIndex, IndexFile.bytes_of}
 use Rattle.loc_laws_index.specs.IndexReading.{AreBytes}
 use Rattle.loc_rings.specs.Values.{Feature}
 use Rattle.loc_edges.specs.Layers.{layer_rings}

@@ -7,19 +7,15 @@ use Rattle.std.proofs.lemmas.Bool.{and_parts, and_from, and_right, cases_Bool, c
 use Rattle.std.proofs.lemmas.List.{length-map, get_or-map, get_or_past}
 use Rattle.loc_spec_plane.specs.Lists.{is_in, is_rising, numbers, exactly_one, odd_many}
 use Rattle.loc_spec_plane.specs.Points.{Point, Edge, before, same_point, edge_before, is_end, lies_on, conflict}
-use Rattle.loc_spec_plane.specs.Rays.{crosses_right}
-use Rattle.loc_spec_plane.specs.declared.Mark.{Mark}
+use Rattle.loc_spec_plane.specs.{Rays.crosses_right, declared.Mark.Mark, Covers.is_over, Covers.is_at_or_under}
 use Rattle.loc_spec_plane.specs.Tables.{Table, IsTable, AllEnds, AllEven, NoConflict, corner, edge, edge_numbers, corner_numbers, lo_of, hi_of, ends_at, has, has_odd, pair_before, mark_before, number_of, covers_by_marks}
 use Rattle.loc_spec_plane.specs.Places.{alive, alive_at, lower, lower_of}
-use Rattle.loc_spec_plane.specs.Covers.{is_over, is_at_or_under}
 use Rattle.loc_spec_groups.specs.Groups.{chosen_edges, chosen_corners, chosen_table}
-use Rattle.loc_laws_order.proofs.Booleans.{and_swap, and_true, same-from_both}
+use Rattle.loc_laws_order.proofs.{Booleans.and_swap, Booleans.and_true, Booleans.same-from_both, Sides.same_point_refl}
 use Rattle.loc_laws_order.proofs.Kept.{all_filter, rising_kept, numbers_rise, is_in-filter}
-use Rattle.loc_laws_order.proofs.Sides.{same_point_refl}
 use Rattle.loc_laws_order.proofs.TableOrder.{rises, corner_before, numbers_within, is_end_is, edge_up, origin_point}
 use Rattle.loc_laws_order.proofs.Unique.{all-at}
-use Rattle.loc_laws_rays.proofs.Covering.{any-found, any-some, any-none}
-use Rattle.loc_laws_rays.proofs.Members.{in_numbers}
+use Rattle.loc_laws_rays.proofs.{Covering.any-found, Covering.any-some, Covering.any-none, Members.in_numbers}
 use Rattle.loc_laws_rays.proofs.Parity.{odd_many-same, never}
 use Rattle.loc_laws_order.proofs.Numbered.{number_fits, at_number, number_up, pair_up}
 

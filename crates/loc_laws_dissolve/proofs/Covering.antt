@@ -3,9 +3,8 @@ use Rattle.std.proofs.Common.{◌≡◌, ℕ, ◌<◌, Bool, true, false, ◌&&�
 use Rattle.std.specs.Prelude.{nat_lt, Option, Some, None}
 use Rattle.std.specs.List.{list_any}
 use Rattle.std.proofs.lemmas.Bool.{and_parts, and_from, and_right, lt-ltb, ltb-true, not-true, not_from_false, false_from_ne_true, both_ways}
-use Rattle.loc_spec_plane.specs.Lists.{is_in, numbers, odd_many}
+use Rattle.loc_spec_plane.specs.{Lists.is_in, Lists.numbers, Lists.odd_many, Rays.crosses_right}
 use Rattle.loc_spec_plane.specs.Points.{Point, same_point, lies_on, is_above}
-use Rattle.loc_spec_plane.specs.Rays.{crosses_right}
 use Rattle.loc_spec_plane.specs.Tables.{Table, IsTable, AllEnds, AllEven, NoConflict, corner, edge, edge_numbers, ends_at, has_odd, covers_by_marks}
 use Rattle.loc_spec_plane.specs.Places.{alive_at, is_edge, IsFloor, IsBorderless, IsCornerless, is_corner_of, is_border_of}
 use Rattle.loc_spec_plane.specs.Covers.{cover_of_floor, feature_count, is_over, is_at_or_under}
@@ -14,10 +13,8 @@ use Rattle.loc_spec_groups.specs.Groups.{covers_upper, is_kept}
 use Rattle.loc_laws_order.proofs.Floors.{floor_of_list}
 use Rattle.loc_laws_order.proofs.TableOrder.{numbers_within, is_end_is, edge_up}
 use Rattle.loc_laws_order.proofs.Sides.{same_point-true, end_lies_on}
-use Rattle.loc_laws_rays.proofs.Covering.{cover_law, from_floor, any-some}
-use Rattle.loc_laws_rays.proofs.Members.{in_cover}
-use Rattle.loc_laws_rays.proofs.Parity.{odd_many-agree}
-use Rattle.loc_laws_rays.proofs.Listed.{sorted_list_is}
+use Rattle.loc_laws_rays.proofs.{Covering.cover_law, Covering.from_floor, Covering.any-some, Members.in_cover}
+use Rattle.loc_laws_rays.proofs.{Parity.odd_many-agree, Listed.sorted_list_is}
 use Rattle.loc_laws_dissolve.proofs.Upward.{any-same, any-never, any-filtered, kept_under}
 use Rattle.loc_laws_dissolve.proofs.Evenness.{kept_even}
 use Rattle.loc_laws_dissolve.proofs.Marked.{marked_by, has_odd_is, marked_is_table, marked_even}

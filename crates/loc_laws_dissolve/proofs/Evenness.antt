@@ -3,16 +3,13 @@
 use Rattle.std.proofs.Common.{◌≡◌, ℕ, zero, suc, ◌+◌, ◌<◌, ◌≤◌, Bool, true, false, not, ◌&&◌, length, refl, sym, ◌∙◌, ap, ap₂, ◌⊎◌, inl, inr, arith, add-one}
 use Rattle.std.specs.Prelude.{nat_lt, ◌==◌}
 use Rattle.std.proofs.lemmas.Bool.{and_from, and_left, and_right, or_left, or_right, or_from, cases_eq, eq-eqb, ne_eqb, le-ltb, lt-ltb, ltb-true, not-true, not_from_true, not_from_false}
-use Rattle.loc_spec_plane.specs.Lists.{numbers, exactly_one, odd_many}
+use Rattle.loc_spec_plane.specs.{Lists.numbers, Lists.exactly_one, Lists.odd_many, Places.alive_at}
 use Rattle.loc_spec_plane.specs.Tables.{Table, IsTable, AllEnds, AllEven, NoConflict, corner, edge_numbers, lo_of, hi_of, ends_at, has_odd}
-use Rattle.loc_spec_plane.specs.Places.{alive_at}
 use Rattle.loc_spec_plane.specs.Covers.{feature_count}
 use Rattle.loc_spec_groups.specs.Groups.{is_kept}
-use Rattle.loc_laws_order.proofs.AliveAt.{alive_past, alive_at_corner}
-use Rattle.loc_laws_order.proofs.TableOrder.{numbers_within}
+use Rattle.loc_laws_order.proofs.{AliveAt.alive_past, AliveAt.alive_at_corner, TableOrder.numbers_within}
 use Rattle.loc_laws_rays.proofs.Parity.{exactly_one_same, same-from_exactly_one, odd_many-agree, odd_many-same, odd_many-exactly_one, never, both_and}
-use Rattle.loc_laws_rays.proofs.Listed.{sorted_list_is}
-use Rattle.loc_laws_rays.proofs.Along.{next_same}
+use Rattle.loc_laws_rays.proofs.{Listed.sorted_list_is, Along.next_same}
 use Rattle.loc_laws_dissolve.proofs.Upward.{any-same, any-never, kept_at, marked_at}
 
 module _ (t : Table) (ok : IsTable t) where

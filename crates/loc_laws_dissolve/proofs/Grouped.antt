@@ -3,9 +3,7 @@ use Rattle.std.proofs.Common.{get_or, ◌∙◌}
 use Rattle.loc_spec_groups.specs.Groups.{is_kept, kept_edges}
 use Rattle.loc_laws_dissolve.specs.Laws.{UpperByKept, KeptAreEven, KeptCover, GroupTableStands, GroupTableCovers, GroupUpper}
 use Rattle.loc_laws_dissolve.proofs.Chosen.{chosen_is_table, chosen_ended, chosen_even, chosen_apart, chosen_covers, chosen_over, old_is}
-use Rattle.loc_laws_dissolve.proofs.Covering.{kept_cover, off_edge}
-use Rattle.loc_laws_dissolve.proofs.Evenness.{kept_even}
-use Rattle.loc_laws_dissolve.proofs.Upward.{kept_under}
+use Rattle.loc_laws_dissolve.proofs.{Covering.kept_cover, Covering.off_edge, Evenness.kept_even, Upward.kept_under}
 
 pub upper_law : UpperByKept
 upper_law t ok ended even apart member e lt = kept_under t ok ended even apart member e lt

@@ -5,8 +5,7 @@ use Rattle.std.specs.List.{list_any}
 use Rattle.std.proofs.lemmas.Bool.{and_right, cases_Bool, cases_eq, cases_lt, ne_eqb, cond-true, cond-false, ltb-true, not_from_false}
 use Rattle.std.proofs.lemmas.List.{length-map, get_or_past}
 use Rattle.std.proofs.lemmas.List.FromFn.{get_or-map-range_with_len, length-range_with_len}
-use Rattle.loc_spec_plane.specs.Lists.{is_rising, odd_many}
-use Rattle.loc_spec_plane.specs.declared.Mark.{Mark}
+use Rattle.loc_spec_plane.specs.{Lists.is_rising, Lists.odd_many, declared.Mark.Mark}
 use Rattle.loc_spec_plane.specs.Tables.{Table, IsTable, AllEven, edge_numbers, ends_at, has_odd, mark_before}
 use Rattle.loc_laws_order.proofs.TableOrder.{numbers_within}
 use Rattle.loc_laws_rays.proofs.Parity.{odd_many-agree, never}

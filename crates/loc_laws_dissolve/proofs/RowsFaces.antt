@@ -2,9 +2,7 @@
 use Rattle.std.proofs.Common.{ℕ, ◌<◌, true, [], ◌∷◌, refl, get_or}
 use Rattle.std.specs.Prelude.{Option, Some, None}
 use Rattle.std.proofs.lemmas.Bool.{agree_below_at}
-use Rattle.loc_spec_plane.specs.Points.{turn}
-use Rattle.loc_spec_plane.specs.Tables.{table_of, table_by, corner}
-use Rattle.loc_spec_plane.specs.Places.{IsFloor}
+use Rattle.loc_spec_plane.specs.{Points.turn, Tables.table_of, Tables.table_by, Tables.corner, Places.IsFloor}
 use Rattle.loc_spec_plane.specs.Faces.{IsFaces}
 use Rattle.loc_spec_plane.proofs.Checks.{floor_checked, floor_from_check}
 use Rattle.loc_spec_groups.specs.Groups.{chosen_table, group_table}

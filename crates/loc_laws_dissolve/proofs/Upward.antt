@@ -11,13 +11,10 @@ use Rattle.loc_spec_plane.specs.Tables.{Table, IsTable, AllEnds, AllEven, NoConf
 use Rattle.loc_spec_plane.specs.Places.{IsListAt, alive, alive_at, lower_of}
 use Rattle.loc_spec_plane.specs.Covers.{cover_above, feature_count, is_over, is_at_or_under}
 use Rattle.loc_spec_groups.specs.Groups.{covers_upper, covers_lower, is_kept}
-use Rattle.loc_laws_order.proofs.AliveAt.{alive_between, alive_from}
-use Rattle.loc_laws_order.proofs.Sides.{lower-asym}
+use Rattle.loc_laws_order.proofs.{AliveAt.alive_between, AliveAt.alive_from, Sides.lower-asym}
 use Rattle.loc_laws_order.proofs.Booleans.{and_none, and_true}
-use Rattle.loc_laws_rays.proofs.Along.{parity_along}
-use Rattle.loc_laws_rays.proofs.Members.{in_cover}
+use Rattle.loc_laws_rays.proofs.{Along.parity_along, Members.in_cover, Listed.sorted_list_is}
 use Rattle.loc_laws_rays.proofs.Parity.{exactly_one_comm, exactly_one_same, exactly_one-false, exactly_one_assoc, exactly_one_chain, odd_many-same, odd_many-append}
-use Rattle.loc_laws_rays.proofs.Listed.{sorted_list_is}
 use Rattle.loc_laws_dissolve.proofs.Prefixes.{by_members, front_rises, up_to_member, cut_at_member}
 
 -- tests that agree on every member

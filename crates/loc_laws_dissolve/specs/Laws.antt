@@ -2,9 +2,7 @@
 -- `by_member`, `KeptCover`, `GroupTableStands`, `GroupTableCovers`, `GroupUpper`, `left_covered`, `covered_over`, `SameBehind`, `HangsOverFloor`.
 use Rattle.std.specs.Prelude.{◌≡◌, ℕ, ◌<◌, ◌≤◌, Bool, false, ◌&&◌, ◌||◌, length, get_or, Option, Some, None, if◌then◌else◌, IsTrue, ◌==◌}
 use Rattle.std.specs.List.{list_any}
-use Rattle.loc_spec_plane.specs.Lists.{numbers, exactly_one, odd_many}
-use Rattle.loc_spec_plane.specs.Points.{Point}
-use Rattle.loc_spec_plane.specs.Rays.{crosses_right}
+use Rattle.loc_spec_plane.specs.{Lists.numbers, Lists.exactly_one, Lists.odd_many, Points.Point, Rays.crosses_right}
 use Rattle.loc_spec_plane.specs.Tables.{Table, IsTable, AllEnds, AllEven, NoConflict, corner, edge, edge_numbers, ends_at, has_odd, covers_by_marks}
 use Rattle.loc_spec_plane.specs.Places.{IsBorderless, IsFloor, lower_of}
 use Rattle.loc_spec_plane.specs.Covers.{feature_count, is_over, is_at_or_under}

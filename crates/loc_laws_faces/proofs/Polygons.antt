@@ -2,24 +2,18 @@
 use Rattle.std.proofs.Common.{◌≡◌, ℕ, suc, ◌*◌, ◌<◌, Bool, true, false, not, ◌&&◌, length, get_or, refl, sym, ◌∙◌, ap, ap₂, subst, inl, inr, arith}
 use Rattle.std.specs.Prelude.{nat_lt, ◌==◌, count_by}
 use Rattle.std.proofs.lemmas.Bool.{and_parts, and_from, eq-eqb, eqb-true, ltb-true, not-true}
-use Rattle.loc_spec_plane.specs.Lists.{is_in, numbers, exactly_one}
+use Rattle.loc_spec_plane.specs.{Lists.is_in, Lists.numbers, Lists.exactly_one, Covers.is_over}
 use Rattle.loc_spec_plane.specs.Tables.{Table, IsTable, AllEnds, AllEven, NoConflict, lo_of, hi_of}
-use Rattle.loc_spec_plane.specs.Covers.{is_over}
 use Rattle.loc_spec_plane.specs.HalfEdges.{half_edge_count, cycle, edge_of, leader, origin, target}
 use Rattle.loc_spec_plane.specs.Faces.{hangs, leads_face, IsFaces}
 use Rattle.loc_spec_groups.specs.Groups.{covers_upper, group_table, is_kept, is_polygon, kept_edges}
-use Rattle.loc_laws_order.proofs.Booleans.{same-from_both}
-use Rattle.loc_laws_order.proofs.TableOrder.{numbers_within}
-use Rattle.loc_laws_order.proofs.Unique.{all-at}
-use Rattle.loc_laws_rays.proofs.Covering.{any-found}
-use Rattle.loc_laws_rays.proofs.Members.{in_numbers}
-use Rattle.loc_laws_rays.proofs.Picked.{member_any}
+use Rattle.loc_laws_order.proofs.{Booleans.same-from_both, TableOrder.numbers_within, Unique.all-at}
+use Rattle.loc_laws_rays.proofs.{Covering.any-found, Members.in_numbers, Picked.member_any}
 use Rattle.loc_half.specs.HalfEdgeLists.{HalfEdgeLists, AreHalfEdges, next_in}
 use Rattle.loc_half.proofs.Halves.{either_way, origin-down, target-down}
 use Rattle.loc_half.proofs.Orbits.{cycle_within, in_cycle, leaves_there, next_within, placed, same_cycle}
 use Rattle.loc_laws_dissolve.specs.Laws.{left_covered}
-use Rattle.loc_laws_dissolve.proofs.Chosen.{length-chosen, odd_is}
-use Rattle.loc_laws_dissolve.proofs.Grouped.{table_law, group_upper_law}
+use Rattle.loc_laws_dissolve.proofs.{Chosen.length-chosen, Chosen.odd_is, Grouped.table_law, Grouped.group_upper_law}
 use Rattle.loc_laws_dissolve.proofs.Left.{left_up, left_back}
 use Rattle.loc_laws_faces.specs.Laws.{GroupFaces, OneHalfEach}
 use Rattle.loc_laws_faces.proofs.OnCycles.{low_met, low_next, same_hangs}

@@ -7,27 +7,21 @@ use Rattle.std.proofs.lemmas.Bool.{and_parts, and_from, and_left, and_right, cas
 use Rattle.std.proofs.lemmas.List.Sums.{length-filter}
 use Rattle.loc_spec_plane.specs.Lists.{is_in, numbers, exactly_one, odd_many}
 use Rattle.loc_spec_plane.specs.Points.{Point, Edge, before, same_point, lies_on}
-use Rattle.loc_spec_plane.specs.Rays.{crosses_right}
+use Rattle.loc_spec_plane.specs.{Rays.crosses_right, Faces.hangs, Faces.leads_face, Faces.IsFaces}
 use Rattle.loc_spec_plane.specs.Rings.{Ring, Rings, ring_segments, segments, segment_between, touches}
 use Rattle.loc_spec_plane.specs.Tables.{Table, IsTable, AllEnds, AllEven, NoConflict, corner, edge, edge_numbers, lo_of, hi_of}
 use Rattle.loc_spec_plane.specs.HalfEdges.{half_edge_count, cycle, edge_of, goes_up, leader, origin, target}
-use Rattle.loc_spec_plane.specs.Faces.{hangs, leads_face, IsFaces}
 use Rattle.loc_spec_groups.specs.Groups.{closed_ring, closed_rings, face_rings, group_polygons, group_table, is_kept, is_polygon, kept_edges, leads_hanging_in, leads_outer, ring_from}
 use Rattle.loc_laws_order.proofs.Booleans.{same-from_both}
 use Rattle.loc_laws_order.proofs.Sides.{before-differ, before-asym_test, same_point_sym}
 use Rattle.loc_laws_order.proofs.TableOrder.{corner_before, numbers_within}
 use Rattle.loc_laws_order.proofs.HalfEdges.{edge-up, edge-down}
-use Rattle.loc_half.specs.HalfEdgeLists.{HalfEdgeLists, AreHalfEdges, next_in}
-use Rattle.loc_half.specs.Rounds.{after}
-use Rattle.loc_half.proofs.Going.{after-next}
-use Rattle.loc_half.proofs.Halves.{edge-fits}
+use Rattle.loc_half.specs.{HalfEdgeLists.HalfEdgeLists, HalfEdgeLists.AreHalfEdges, HalfEdgeLists.next_in, Rounds.after}
+use Rattle.loc_half.proofs.{Going.after-next, Halves.edge-fits, Trails.trail}
 use Rattle.loc_half.proofs.Orbits.{cycle_differs, cycle_is, cycle_within, in_cycle, leader_within, leads_itself, leaves_there, next_within, placed, same_cycle}
-use Rattle.loc_half.proofs.Trails.{trail}
 use Rattle.loc_laws_dissolve.specs.Laws.{left_covered}
 use Rattle.loc_laws_dissolve.proofs.Chosen.{edge_is, length-chosen, odd_many-filter}
-use Rattle.loc_laws_dissolve.proofs.Covering.{kept_cover, off_edge}
-use Rattle.loc_laws_dissolve.proofs.Grouped.{table_law}
-use Rattle.loc_laws_dissolve.proofs.Upward.{all_members}
+use Rattle.loc_laws_dissolve.proofs.{Covering.kept_cover, Covering.off_edge, Grouped.table_law, Upward.all_members}
 use Rattle.loc_laws_faces.specs.Laws.{SegmentsOnce, RingsCover}
 use Rattle.loc_laws_faces.proofs.Faces.{face_leader, face_numbered, numbers_more}
 use Rattle.loc_laws_faces.proofs.Polygons.{one_half_each, polygon_is}

@@ -1,13 +1,9 @@
 -- What is covered is the same all along a face, and so a group's polygons have each kept edge once: statements that the contract of a public function cites. The words:
 -- `OneOnFace`, `NoneOnFace0`, `GroupFaces`, `OneHalfEach`, `SegmentsOnce`, `RingsCover`.
 use Rattle.std.specs.Prelude.{◌≡◌, ℕ, ◌+◌, ◌*◌, ◌<◌, Bool, false, true, count_by, length}
-use Rattle.loc_spec_plane.specs.Lists.{exactly_one}
-use Rattle.loc_spec_plane.specs.Points.{Point, Edge}
-use Rattle.loc_spec_plane.specs.Rings.{covers, segments}
+use Rattle.loc_spec_plane.specs.{Lists.exactly_one, Points.Point, Points.Edge, Rings.covers, Rings.segments}
 use Rattle.loc_spec_plane.specs.Tables.{Table, IsTable, AllEnds, AllEven, NoConflict, edge}
-use Rattle.loc_spec_plane.specs.Places.{IsBorderless}
-use Rattle.loc_spec_plane.specs.HalfEdges.{half_edge_count}
-use Rattle.loc_spec_plane.specs.Faces.{IsFaces}
+use Rattle.loc_spec_plane.specs.{Places.IsBorderless, HalfEdges.half_edge_count, Faces.IsFaces}
 use Rattle.loc_half.specs.HalfEdgeLists.{HalfEdgeLists, AreHalfEdges, next_in}
 use Rattle.loc_laws_dissolve.specs.Laws.{by_member, left_covered}
 use Rattle.loc_spec_groups.specs.Groups.{closed_rings, group_polygons, group_table, is_polygon, kept_edges}

@@ -1,20 +1,14 @@
 -- The geometry of a group on the grid has no double quote: it is made of letters, spaces, commas, parentheses, signs, points and digits.
 use Rattle.std.proofs.Common.{◌≡◌, ℕ, zero, suc, ◌+◌, ◌/◌, ◌%◌, ◌^◌, ◌<◌, ◌≤◌, Bool, true, false, List, [], ◌∷◌, ◌++◌, map, flat_map, ℤ, pos, negsuc, refl, ◌∙◌, arith}
 use Rattle.std.specs.Prelude.{codes, ◌==◌, if◌then◌else◌, unsigned_abs, int_lt}
-use Rattle.std.specs.List.{list_all, list_any, AllByRecursion}
-use Rattle.std.proofs.Math.Nat.{div-le_self}
-use Rattle.std.specs.Char.{is_ascii_digit}
-use Rattle.std.specs.Fmt.{decimal}
-use Rattle.std.proofs.lemmas.Bool.{and_parts, or_from, ne_eqb}
-use Rattle.std.proofs.lemmas.Fmt.{decimal_is_IsNumeral}
-use Rattle.std.proofs.lemmas.Int.{ints}
-use Rattle.std.proofs.lemmas.List.Folds.{list_any-append}
+use Rattle.std.specs.{List.list_all, List.list_any, List.AllByRecursion, Char.is_ascii_digit, Fmt.decimal}
+use Rattle.std.proofs.{Math.Nat.div-le_self, lemmas.Bool.and_parts, lemmas.Bool.or_from, lemmas.Bool.ne_eqb}
+use Rattle.std.proofs.{lemmas.Fmt.decimal_is_IsNumeral, lemmas.Int.ints, lemmas.List.Folds.list_any-append}
 use Rattle.std.proofs.lemmas.Str.Parse.{numerals_by_value}
 use Rattle.loc_spec_text.specs.Bytes.{Text}
 use Rattle.loc_spec_text.specs.Points.{fraction_text, grid_text, padded_digits, position_text}
 use Rattle.loc_spec_text.proofs.DigitLaws.{ascii_digits, digit_range}
-use Rattle.loc_spec_plane.specs.Points.{Point, OnGrid, IsGridPoint}
-use Rattle.loc_spec_plane.specs.Rings.{Ring, Rings}
+use Rattle.loc_spec_plane.specs.{Points.Point, Points.OnGrid, Points.IsGridPoint, Rings.Ring, Rings.Rings}
 use Rattle.loc_spec_groups.specs.GroupTexts.{enclosed, listed, polygon_text, polygons_text, ring_text}
 use Rattle.loc_laws_grouptext.specs.Laws.{AreOnGrid, HasNoQuotes}
 

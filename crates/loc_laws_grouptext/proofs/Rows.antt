@@ -3,15 +3,12 @@ use Rattle.std.proofs.Common.{◌≡◌, ℕ, zero, suc, ◌+◌, ◌<◌, ◌�
 use Rattle.std.specs.Prelude.{codes, All, ◌==◌}
 use Rattle.std.specs.List.{list_any}
 use Rattle.std.proofs.lemmas.Bool.{cases_Bool, or_parts, eqb-true}
-use Rattle.csv.specs.Machine.{next_record}
-use Rattle.csv.specs.Reading.{default_config, records_from, strip_bom}
+use Rattle.csv.specs.{Machine.next_record, Reading.default_config, Reading.records_from, Reading.strip_bom}
 use Rattle.csv.specs.Writing.{default_writer, escaped}
 use Rattle.csv.specs.declared.parser.State.TheVariants as st
 use Rattle.csv.proofs.RoundTrip.{after-quote-same, quoted-run, record-same}
-use Rattle.loc_spec_text.specs.Bytes.{Text}
-use Rattle.loc_spec_text.specs.Points.{ended, quoted_byte}
-use Rattle.loc_spec_groups.specs.Groups.{Group}
-use Rattle.loc_spec_groups.specs.GroupTexts.{group_row, polygons_text}
+use Rattle.loc_spec_text.specs.{Bytes.Text, Points.ended, Points.quoted_byte}
+use Rattle.loc_spec_groups.specs.{Groups.Group, GroupTexts.group_row, GroupTexts.polygons_text}
 use Rattle.loc_laws_grouptext.specs.Laws.{AreOnGrid, fields_of, geometry_of, GroupsRead, HasNoQuotes}
 use Rattle.loc_laws_grouptext.proofs.NoQuotes.{polygons_bare}
 

@@ -1,13 +1,10 @@
 -- What the text of dissolved groups reads as, as records. The words: `geometry_of`, `fields_of`, `HasNoQuotes`, `AreOnGrid`, `GroupsRead`.
 use Rattle.std.specs.Prelude.{◌≡◌, ℕ, false, List, [], ◌∷◌, ◌++◌, codes, map, All, ◌==◌}
-use Rattle.std.specs.List.{list_any, AllByRecursion}
-use Rattle.std.specs.Str.{byte}
-use Rattle.loc_spec_plane.specs.Points.{IsGridPoint}
-use Rattle.loc_spec_plane.specs.Rings.{Rings}
+use Rattle.std.specs.{List.list_any, List.AllByRecursion, Str.byte}
+use Rattle.loc_spec_plane.specs.{Points.IsGridPoint, Rings.Rings}
 use Rattle.csv.specs.Reading.{default_config, records, strip_bom}
 use Rattle.loc_spec_text.specs.Bytes.{Text}
-use Rattle.loc_spec_groups.specs.Groups.{Group}
-use Rattle.loc_spec_groups.specs.GroupTexts.{dissolved_text, polygons_text}
+use Rattle.loc_spec_groups.specs.{Groups.Group, GroupTexts.dissolved_text, GroupTexts.polygons_text}
 
 -- the geometry of a group
 abbrev pub geometry_of : ℕ → Group → Text

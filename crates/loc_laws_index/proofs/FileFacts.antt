@@ -1,17 +1,12 @@
 -- What is known of a content whose fields are right.
 use Rattle.std.proofs.Common.{◌≡◌, ℕ, zero, suc, ◌+◌, ◌*◌, ◌^◌, ◌<◌, ◌≤◌, Bool, true, false, ◌&&◌, List, [], ◌∷◌, length, get_or, sym, subst, arith, inl, inr}
 use Rattle.std.specs.Prelude.{Option, IfSome, sum_by, nat_le, ◌==◌, if◌then◌else◌}
-use Rattle.std.specs.Int.{w32}
-use Rattle.std.specs.List.{list_all}
+use Rattle.std.specs.{Int.w32, List.list_all}
 use Rattle.std.proofs.Math.ListN.{get_or-eq_default}
 use Rattle.std.proofs.lemmas.Bool.{cases_lt, and_parts, or_cases, eqb-true}
-use Rattle.loc_spec_plane.specs.Lists.{is_rising}
-use Rattle.loc_spec_plane.specs.Points.{before}
-use Rattle.loc_spec_plane.specs.Covers.{list_before}
-use Rattle.loc_spec_plane.specs.declared.Mark.{Mark}
-use Rattle.loc_spec_index.specs.declared.NodeRow.{NodeRow}
+use Rattle.loc_spec_plane.specs.{Lists.is_rising, Points.before, Covers.list_before, declared.Mark.Mark}
+use Rattle.loc_spec_index.specs.{declared.NodeRow.NodeRow, Content.Content, Content.EdgeRow, Content.root_of}
 use Rattle.loc_spec_index.specs.Nodes.{Side, Left, Right, child, child_of, plain, no_row, side_number}
-use Rattle.loc_spec_index.specs.Content.{Content, EdgeRow, root_of}
 use Rattle.loc_spec_index.specs.IndexFile.{number, is_version, most_edges, parts, header_fields, fields, edge_row_before, mark_row_before, names_sources, is_own_source, IsShaped, IsFileOf}
 use Rattle.loc_laws_index.proofs.RightFields.{all-hold, each-right}
 use Rattle.loc_laws_index.proofs.RightRows.{map-each, corners-rise, IsEdgeIn, edges-in-order, IsSourceIn, sources-in, IsMarkIn, marks-in-order, IsListIn, lists-in-order, lists-few, floors-in, ids-in, IsRowIn, nodes-in}

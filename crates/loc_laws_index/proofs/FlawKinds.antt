@@ -4,12 +4,10 @@ use Rattle.std.specs.Prelude.{◌⊎◌, ◌==◌, if◌then◌else◌, nat_lt}
 use Rattle.std.proofs.lemmas.Bool.{false_from_ne_true, not_from_false, true≢false}
 use Rattle.std.proofs.lemmas.List.{length-map}
 use Rattle.loc_spec_plane.specs.Covers.{list_before}
-use Rattle.loc_spec_index.specs.Content.{Content, EdgeRow, table_in}
-use Rattle.loc_spec_index.specs.TrueIndex.{IsTrueVersion}
+use Rattle.loc_spec_index.specs.{Content.Content, Content.EdgeRow, Content.table_in, TrueIndex.IsTrueVersion}
 use Rattle.loc_spec_index.specs.Flaws.{Flaw, HasFlaw, IsFirst, rank, lone, bare, uneven, conflicting, wrong_floor, wrong_cover, spare_cover, wrong_source, deep, wrong_list}
 use Rattle.loc_spec_index.proofs.Refutes.{before_in_kind}
-use Rattle.loc_laws_index.proofs.NoFlaw.{no_deep, no_wrong_list}
-use Rattle.loc_laws_index.proofs.RightRows.{by-first}
+use Rattle.loc_laws_index.proofs.{NoFlaw.no_deep, NoFlaw.no_wrong_list, RightRows.by-first}
 
 -- the place of a kind in the order of judging
 abbrev pub kind_of : Flaw → ℕ

@@ -1,13 +1,10 @@
 -- What is taken off the bytes of a file is told by its fields, in order; so the first fault, or the content, is what the bytes read as.
 use Rattle.std.proofs.Common.{◌≡◌, ℕ, zero, suc, ◌+◌, ◌≤◌, Bool, true, false, ◌&&◌, ◌||◌, List, [], length, take, drop, get_or, refl, sym, ◌∙◌, ap, Option, Some, None, Ok, Err, ◌==◌, inl, inr}
 use Rattle.std.specs.Prelude.{codes, if◌then◌else◌}
-use Rattle.std.specs.List.{flat_map, list_all}
-use Rattle.std.specs.Int.{w32, to_be_bytes}
-use Rattle.std.specs.Str.{bytes_eq}
+use Rattle.std.specs.{List.flat_map, List.list_all, Int.w32, Int.to_be_bytes, Str.bytes_eq}
 use Rattle.std.proofs.lemmas.Bool.{eqb-true, eq-eqb, and_from, cases_Bool, cond-true, cond-false}
 use Rattle.std.proofs.lemmas.Slice.Eq.{bytes_eq-Decides}
-use Rattle.loc_spec_index.specs.declared.IndexFault.{IndexFault}
-use Rattle.loc_spec_index.specs.Content.{Content}
+use Rattle.loc_spec_index.specs.{declared.IndexFault.IndexFault, Content.Content}
 use Rattle.loc_spec_index.specs.IndexFile.{Field, magic, version, number, is_right, is_version, fields, parts, id_fields, corner_fields, edge_fields, mark_fields, cover_fields, node_fields, none_or_next, names_sources, is_own_source, IsShaped, IsFileOf, HasFault}
 use Rattle.loc_laws_index.specs.IndexReading.{AreBytes, Taker, times, word_off, id_off, corner_off, edge_by, edge_off, mark_off, list_off, floor_off, node_off, counts_off, held_in, version_in, fault_from, unless_fault, reading, ReadsFiles}
 use Rattle.loc_laws_index.proofs.Agree.{holds-unless}

@@ -3,13 +3,11 @@ use Rattle.std.proofs.Common.{◌≡◌, ℕ, ◌+◌, ◌≤◌, Bool, true, fa
 use Rattle.std.specs.Prelude.{nat_lt, if◌then◌else◌, is_none}
 use Rattle.std.proofs.lemmas.Bool.{and_from, ltb-true, ltb-false}
 use Rattle.std.proofs.lemmas.List.{length-append, take-append-drop}
-use Rattle.loc_spec_index.specs.declared.IndexFault.{IndexFault}
+use Rattle.loc_spec_index.specs.{declared.IndexFault.IndexFault, Content.Content}
 use Rattle.loc_spec_index.specs.declared.IndexFault.TheVariants as fault
-use Rattle.loc_spec_index.specs.Content.{Content}
 use Rattle.loc_spec_index.specs.IndexFile.{Field, fields, spelled, spelled_all, with_bytes, fault_at, is_right, are_right, IsShaped, IsFileOf, AreReached, HasFault, short, wrong, long}
 use Rattle.loc_laws_index.specs.IndexReading.{AreBytes, fault_from, first_of}
-use Rattle.loc_laws_index.proofs.Progress.{are_right-append, spelled_all-append}
-use Rattle.loc_laws_index.proofs.RightFields.{right_anywhere}
+use Rattle.loc_laws_index.proofs.{Progress.are_right-append, Progress.spelled_all-append, RightFields.right_anywhere}
 use Rattle.loc_laws_index.proofs.Told.{Told, bytes_behind}
 
 -- the bytes are the file of the content, or this is their first fault

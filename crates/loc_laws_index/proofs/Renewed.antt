@@ -1,17 +1,11 @@
 -- A content that reads in any version may be written in the second: its bounds are no narrower, and the sources stay within them.
 use Rattle.std.proofs.Common.{◌≡◌, ℕ, suc, ◌<◌, true, ◌&&◌, List, [], ◌∷◌, ◌++◌, length, get_or, refl, arith}
-use Rattle.std.specs.List.{last_or}
-use Rattle.std.specs.Int.{w32}
-use Rattle.std.specs.Prelude.{None}
-use Rattle.loc_spec_index.specs.declared.Part.TheVariants.{Edges}
-use Rattle.loc_spec_index.specs.Content.{EdgeRow}
+use Rattle.std.specs.{List.last_or, Int.w32, Prelude.None}
+use Rattle.loc_spec_index.specs.{declared.Part.TheVariants.Edges, Content.EdgeRow}
 use Rattle.loc_spec_index.specs.IndexFile.{number, order, follows, is_rising_pair, are_right, rows_from, header_fields, source_fields, edge_fields, edge_row_before, fields, parts}
 use Rattle.loc_laws_index.specs.Renewal.{RenewLaw}
-use Rattle.loc_laws_index.proofs.AgreeTable.{most-small}
-use Rattle.loc_laws_index.proofs.Progress.{are_right-append}
+use Rattle.loc_laws_index.proofs.{AgreeTable.most-small, Progress.are_right-append, RightRows.IsEdgeIn, FileFacts.facts}
 use Rattle.loc_laws_index.proofs.RightFields.{all-hold, all-right, right-parts, each-right, parts-right}
-use Rattle.loc_laws_index.proofs.RightRows.{IsEdgeIn}
-use Rattle.loc_laws_index.proofs.FileFacts.{facts}
 
 -- the source of an edge goes up between corners that are there
 abbrev IsSourceOf : ℕ → EdgeRow → Type 0

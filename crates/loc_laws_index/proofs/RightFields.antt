@@ -1,14 +1,11 @@
 -- A right field tells what it holds, and where that holds the field is right.
 use Rattle.std.proofs.Common.{◌≡◌, ℕ, ◌+◌, ◌<◌, ◌^◌, Bool, true, false, List, [], ◌∷◌, ◌++◌, refl, sym, ◌∙◌}
-use Rattle.std.specs.Prelude.{codes, is_none, unsigned_abs}
-use Rattle.std.specs.List.{flat_map}
-use Rattle.std.specs.Str.{bytes_eq}
+use Rattle.std.specs.{Prelude.codes, Prelude.is_none, Prelude.unsigned_abs, List.flat_map, Str.bytes_eq}
 use Rattle.std.proofs.lemmas.Bool.{and_from, and_parts, lt-ltb, ltb-true}
 use Rattle.std.proofs.lemmas.List.Folds.{list_all-append}
 use Rattle.loc_spec_index.specs.declared.IndexFault.{IndexFault}
 use Rattle.loc_spec_index.specs.IndexFile.{Field, magic, version, number, coordinate, text, order, is_version, fault_at, is_right, are_right, unless}
-use Rattle.loc_laws_index.proofs.Agree.{holds-unless}
-use Rattle.loc_laws_index.proofs.Progress.{are_right-append}
+use Rattle.loc_laws_index.proofs.{Agree.holds-unless, Progress.are_right-append}
 
 pub unless-holds : (b : Bool) (f : IndexFault) → b ≡ true → is_none (unless b f) ≡ true
 unless-holds true f e = refl

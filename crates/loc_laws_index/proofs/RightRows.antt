@@ -1,22 +1,16 @@
 -- What right fields say of the rows of a file: each is in its bounds, and each comes behind the one before it.
 use Rattle.std.proofs.Common.{◌≡◌, ℕ, zero, suc, ◌+◌, ◌-◌, ◌^◌, ◌<◌, ◌≤◌, Bool, true, false, ◌&&◌, ◌||◌, List, [], ◌∷◌, ◌++◌, length, map, get_or, refl, sym, ◌∙◌, ap, subst, arith, inl, inr}
 use Rattle.std.specs.Prelude.{Option, Some, None, nat_lt, ◌==◌, ◌⊎◌, min, sum_by, IfSome, if◌then◌else◌}
-use Rattle.std.specs.List.{flat_map, last_or, list_all}
-use Rattle.std.specs.Int.{w32}
+use Rattle.std.specs.{List.flat_map, List.last_or, List.list_all, Int.w32}
 use Rattle.std.proofs.lemmas.Bool.{and_parts, and_from, or_cases, or_left, or_right, ltb-true, lt-ltb, eqb-true, eq-eqb, cond-true}
 use Rattle.std.proofs.lemmas.List.Sums.{sum_by-append}
-use Rattle.loc_spec_plane.specs.Points.{Point, before}
-use Rattle.loc_spec_plane.specs.Lists.{is_rising}
-use Rattle.loc_spec_plane.specs.Covers.{list_before}
-use Rattle.loc_spec_plane.specs.declared.Mark.{Mark}
+use Rattle.loc_spec_plane.specs.{Points.Point, Points.before, Lists.is_rising, Covers.list_before, declared.Mark.Mark}
 use Rattle.loc_spec_plane.specs.Tables.{pair_before}
 use Rattle.loc_laws_order.proofs.Sides.{before_trans}
 use Rattle.loc_spec_index.specs.declared.NodeRow.{NodeRow}
-use Rattle.loc_spec_index.specs.declared.Part.TheVariants.{Edges, Covers}
-use Rattle.loc_spec_index.specs.Content.{EdgeRow}
+use Rattle.loc_spec_index.specs.{declared.Part.TheVariants.Edges, declared.Part.TheVariants.Covers, Content.EdgeRow}
 use Rattle.loc_spec_index.specs.IndexFile.{Field, number, order, none_or_next, follows, are_right, rows_from, is_rising_pair, names_sources, source_fields, corner_fields, edge_fields, id_fields, edge_row_before, mark_fields, mark_row_before, cover_fields, node_fields}
-use Rattle.loc_laws_index.proofs.Progress.{flat-rows, map-rows}
-use Rattle.loc_laws_index.proofs.RightFields.{all-hold, right-parts}
+use Rattle.loc_laws_index.proofs.{Progress.flat-rows, Progress.map-rows, RightFields.all-hold, RightFields.right-parts}
 
 -- ---- rows of any kind
 

@@ -2,22 +2,15 @@
 use Rattle.std.proofs.Common.{◌≡◌, ℕ, zero, suc, ◌+◌, ◌-◌, ◌<◌, ◌≤◌, Bool, true, false, List, [], ◌∷◌, ◌++◌, length, take, drop, map, refl, sym, ◌∙◌, ap, subst, arith, length-take-le, ne_eqb, ◌==◌, Some, None}
 use Rattle.std.specs.Prelude.{replicate, nat_lt, if◌then◌else◌, ◌^◌, ◌&&◌, min, sum_by}
 use Rattle.std.specs.List.{flat_map, last_or}
-use Rattle.loc_spec_plane.specs.Lists.{is_rising}
-use Rattle.loc_spec_plane.specs.Covers.{list_before}
-use Rattle.loc_spec_index.specs.declared.Part.{Part}
-use Rattle.loc_spec_index.specs.declared.Part.TheVariants.{Edges, Covers}
+use Rattle.loc_spec_plane.specs.{Lists.is_rising, Covers.list_before, declared.Mark.Mark, Points.Point}
+use Rattle.loc_spec_index.specs.{declared.Part.Part, declared.Part.TheVariants.Edges, declared.Part.TheVariants.Covers}
 use Rattle.std.specs.Int.{w8, w32, w64, to_be_bytes, from_be_bytes, cast_unsigned}
-use Rattle.std.proofs.lemmas.Bool.{ltb-true}
-use Rattle.std.proofs.lemmas.Int.{of_z-to_z}
+use Rattle.std.proofs.{lemmas.Bool.ltb-true, lemmas.Int.of_z-to_z, lemmas.Nat.be_bytes_4, lemmas.Nat.be_bytes_8}
 use Rattle.std.proofs.lemmas.List.{get_or-drop, take-append-le, length-append, length-replicate}
-use Rattle.std.proofs.lemmas.Nat.{be_bytes_4, be_bytes_8}
-use Rattle.loc_spec_plane.specs.declared.Mark.{Mark}
-use Rattle.loc_spec_plane.specs.Points.{Point}
 use Rattle.loc_spec_index.specs.Content.{EdgeRow}
 use Rattle.loc_spec_index.specs.IndexFile.{Field, number, text, order, spelled, is_right, with_bytes, rows_from, id_fields, corner_fields, edge_fields, edge_row_before, is_rising_pair, names_sources, mark_fields, cover_fields, node_fields, none_or_next, bit, follows}
 use Rattle.loc_laws_index.specs.IndexReading.{AreBytes, Taker, front, byte_off, word_off, coordinate_off, times, id_off, corner_off, source_off, edge_off, mark_off, list_off, floor_off, node_off}
-use Rattle.loc_laws_index.proofs.Progress.{flat-rows, map-rows}
-use Rattle.loc_laws_index.proofs.Agree.{holds-unless}
+use Rattle.loc_laws_index.proofs.{Progress.flat-rows, Progress.map-rows, Agree.holds-unless}
 
 pub bytes_behind : (n : ℕ) (bytes : List ℕ) → AreBytes bytes → AreBytes (drop n bytes)
 bytes_behind n bytes small i = let k = small (n + i) in let e = get_or-drop n bytes i 0 in omega (arith, k, e)

@@ -15,10 +15,8 @@
 use Rattle.std.specs.Prelude.{ℕ, zero, suc, ◌+◌, ◌-◌, Bool, List, [], ◌∷◌, ◌++◌, length, take, drop, replicate, codes, nat_lt, ◌==◌, ◌&&◌, if◌then◌else◌, ℤ, Option, Some, None, Result, Ok, Err, ◌≡◌, ◌<◌, get_or, true, false}
 use Rattle.std.specs.Int.{w8, w32, w64, from_be_bytes, cast_signed}
 use Rattle.std.specs.Str.{bytes_eq}
-use Rattle.loc_spec_plane.specs.Points.{Point, point_at}
-use Rattle.loc_spec_plane.specs.declared.Mark.{Mark}
-use Rattle.loc_spec_index.specs.declared.NodeRow.{NodeRow}
-use Rattle.loc_spec_index.specs.declared.IndexFault.{IndexFault}
+use Rattle.loc_spec_plane.specs.{Points.Point, Points.point_at, declared.Mark.Mark}
+use Rattle.loc_spec_index.specs.{declared.NodeRow.NodeRow, declared.IndexFault.IndexFault}
 use Rattle.loc_spec_index.specs.declared.IndexFault.TheVariants as fault
 use Rattle.loc_spec_index.specs.Content.{Content, EdgeRow}
 use Rattle.loc_spec_index.specs.IndexFile.{Field, fields, spelled, fault_at, with_bytes, names_sources, IsFileOf, HasFault}

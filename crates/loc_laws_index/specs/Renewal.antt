@@ -1,7 +1,6 @@
 -- A content that reads in any version may be written in the second. The word: `RenewLaw`.
 use Rattle.std.specs.Prelude.{ℕ, List}
-use Rattle.loc_spec_index.specs.Content.{Content}
-use Rattle.loc_spec_index.specs.IndexFile.{IsFileOf, bytes_of}
+use Rattle.loc_spec_index.specs.{Content.Content, IndexFile.IsFileOf, IndexFile.bytes_of}
 
 -- its bytes in the second version are its file
 abbrev pub RenewLaw : Type 0

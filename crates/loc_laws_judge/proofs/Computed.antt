@@ -4,8 +4,7 @@ use Rattle.std.specs.Prelude.{Some, None}
 use Rattle.loc_spec_plane.specs.Points.{turn}
 use Rattle.loc_spec_index.specs.Content.{table_in}
 use Rattle.loc_spec_index.specs.Flaws.{wrong_floor, wrong_cover, spare_cover, wrong_source, uneven, deep, wrong_list}
-use Rattle.loc_spec_index.proofs.Sample.{own, plain_row, sample}
-use Rattle.loc_spec_index.proofs.Searches.{other_root, looped}
+use Rattle.loc_spec_index.proofs.{Sample.own, Sample.plain_row, Sample.sample, Searches.other_root, Searches.looped}
 use Rattle.loc_spec_index.proofs.FileFaults.{with_source}
 use Rattle.loc_laws_judge.specs.FirstFlaw.{first_flaw, room_for}
 

@@ -1,19 +1,13 @@
 -- The computed flaw is the first, and where none is computed the index is true.
 use Rattle.std.proofs.Common.{◌≡◌, ℕ, suc, refl, subst, arith}
-use Rattle.std.specs.Prelude.{Option, Some, None}
-use Rattle.std.specs.Option.{option_or}
+use Rattle.std.specs.{Prelude.Option, Prelude.Some, Prelude.None, Option.option_or}
 use Rattle.std.proofs.lemmas.Option.{none-some, same_Some}
-use Rattle.loc_spec_index.specs.Content.{Content}
-use Rattle.loc_spec_index.specs.TrueIndex.{IsTrueIndex}
-use Rattle.loc_spec_index.specs.Flaws.{Flaw, IsFirst}
-use Rattle.loc_laws_index.proofs.FlawKinds.{NoneBelow}
-use Rattle.loc_laws_index.proofs.NoFlaw.{true_has_no_flaw}
+use Rattle.loc_spec_index.specs.{Content.Content, TrueIndex.IsTrueIndex, Flaws.Flaw, Flaws.IsFirst}
+use Rattle.loc_laws_index.proofs.{FlawKinds.NoneBelow, NoFlaw.true_has_no_flaw}
 use Rattle.loc_laws_judge.specs.FirstFlaw.{FoundIsFirst, IsReadable, NoneIsTrue, TrueHasNone, bare_edge, conflicting_pair, first_flaw, lone_corner, other_source, spare_list, uneven_feature, untrue_cover, untrue_floor, untrue_version}
-use Rattle.loc_laws_judge.proofs.FirstSome.{or-none}
-use Rattle.loc_laws_judge.proofs.OfKind.{IsTold, first_is, none_further}
-use Rattle.loc_laws_judge.proofs.Pairs.{conflict_told, uneven_told}
+use Rattle.loc_laws_judge.proofs.{FirstSome.or-none, OfKind.IsTold, OfKind.first_is, OfKind.none_further}
+use Rattle.loc_laws_judge.proofs.{Pairs.conflict_told, Pairs.uneven_told, VersionFlaws.version_told}
 use Rattle.loc_laws_judge.proofs.Single.{bare_told, cover_told, floor_told, lone_told, source_told, spare_told}
-use Rattle.loc_laws_judge.proofs.VersionFlaws.{version_told}
 
 module _ (c : Content) (r : IsReadable c) where
   -- what is found of a kind is the first, or the kind is right and what is found later is the first

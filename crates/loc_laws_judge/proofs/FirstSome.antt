@@ -1,12 +1,10 @@
 -- What is found first among numbers.
 use Rattle.std.proofs.Common.{◌≡◌, ℕ, zero, suc, ◌+◌, ◌<◌, ◌≤◌, Bool, true, false, get_or, refl, sym, ◌∙◌, subst, arith, inl, inr}
 use Rattle.std.specs.Prelude.{◌≢◌, Option, Some, None}
-use Rattle.std.specs.Option.{option_or}
-use Rattle.std.specs.List.{range_with_len, list_all}
+use Rattle.std.specs.{Option.option_or, List.range_with_len, List.list_all}
 use Rattle.std.proofs.lemmas.Bool.{cases_eq}
 use Rattle.std.proofs.lemmas.List.FromFn.{get_or-range_with_len, length-range_with_len}
-use Rattle.std.proofs.lemmas.List.Sums.{list_all-from_AllPass}
-use Rattle.std.proofs.lemmas.Option.{none-some}
+use Rattle.std.proofs.{lemmas.List.Sums.list_all-from_AllPass, lemmas.Option.none-some}
 use Rattle.loc_spec_plane.specs.Lists.{numbers}
 use Rattle.loc_spec_index.specs.Flaws.{Flaw}
 use Rattle.loc_laws_judge.specs.FirstFlaw.{first_some, flaw_if}

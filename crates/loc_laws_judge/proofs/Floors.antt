@@ -1,11 +1,9 @@
 -- The test of a floor tells whether it is the floor.
 use Rattle.std.proofs.Common.{◌≡◌, ◌≢◌, ℕ, ◌<◌, ◌≤◌, true, false, not, ◌||◌, length, refl, sym, inl, inr}
 use Rattle.std.specs.Prelude.{Bool, Option, Some, None, ◌==◌}
-use Rattle.std.specs.Bool.{Decides}
-use Rattle.std.specs.List.{list_all}
+use Rattle.std.specs.{Bool.Decides, List.list_all}
 use Rattle.std.proofs.lemmas.Bool.{and_from, and_left, and_parts, both_ways, cases_lt, eq-eqb, le-ltb, ltb-true, ne_eqb, not_from_false, true≢false}
-use Rattle.loc_spec_plane.specs.Points.{Point, is_above}
-use Rattle.loc_spec_plane.specs.Tables.{Table, edge, edge_numbers}
+use Rattle.loc_spec_plane.specs.{Points.Point, Points.is_above, Tables.Table, Tables.edge, Tables.edge_numbers}
 use Rattle.loc_spec_plane.specs.Places.{IsFloor, alive, alive_at, is_edge, lower_of}
 use Rattle.loc_laws_order.proofs.Unique.{all-at}
 use Rattle.loc_laws_rays.proofs.Members.{in_numbers}

@@ -1,8 +1,7 @@
 -- The least flaw of a kind, and what is told of a kind.
 use Rattle.std.proofs.Common.{◌≡◌, ℕ, suc, ◌<◌, Bool, true, false, [], ◌∷◌, get_or, sym, ◌∙◌, ap, subst, inl, inr, arith}
 use Rattle.std.specs.Prelude.{Option, Some, None}
-use Rattle.std.proofs.lemmas.Bool.{cases_lt}
-use Rattle.std.proofs.lemmas.Option.{cond_some}
+use Rattle.std.proofs.{lemmas.Bool.cases_lt, lemmas.Option.cond_some}
 use Rattle.loc_spec_plane.specs.Lists.{numbers}
 use Rattle.loc_spec_index.specs.Content.{Content}
 use Rattle.loc_spec_index.specs.Flaws.{Flaw, HasFlaw, IsFirst, rank}

@@ -3,15 +3,11 @@ use Rattle.std.proofs.Common.{◌≡◌, ℕ, ◌<◌, ◌≤◌, true, false, �
 use Rattle.std.specs.Prelude.{Bool, Option, Some, None, nat_lt}
 use Rattle.std.proofs.lemmas.Bool.{and_from, and_parts, and_right, both_ways, cases_lt, cases_order, false_from_ne_true, lt-ltb, ltb-true, not_from_false}
 use Rattle.std.proofs.lemmas.Option.{cond_some}
-use Rattle.loc_spec_plane.specs.Lists.{numbers}
-use Rattle.loc_spec_plane.specs.Points.{conflict}
+use Rattle.loc_spec_plane.specs.{Lists.numbers, Points.conflict, Covers.feature_count}
 use Rattle.loc_spec_plane.specs.Tables.{Table, AllEven, NoConflict, edge, edge_numbers, ends_at, has_odd}
-use Rattle.loc_spec_plane.specs.Covers.{feature_count}
-use Rattle.loc_laws_rays.proofs.Members.{feature_below, has-from_odd}
-use Rattle.loc_laws_rays.proofs.Parity.{never, odd_many-same}
+use Rattle.loc_laws_rays.proofs.{Members.feature_below, Members.has-from_odd, Parity.never, Parity.odd_many-same}
 use Rattle.loc_laws_order.proofs.Tests.{conflict_none, conflict_swap}
-use Rattle.loc_spec_index.specs.Content.{Content, table_in}
-use Rattle.loc_spec_index.specs.Flaws.{Flaw, uneven, conflicting}
+use Rattle.loc_spec_index.specs.{Content.Content, Content.table_in, Flaws.Flaw, Flaws.uneven, Flaws.conflicting}
 use Rattle.loc_spec_index.proofs.Refutes.{no_uneven, no_conflicting}
 use Rattle.loc_laws_index.proofs.FlawKinds.{as_many, least_uneven, least_conflict}
 use Rattle.loc_laws_judge.specs.FirstFlaw.{conflicting_pair, first_some, flaw_if, is_odd_at, uneven_feature}

@@ -1,6 +1,5 @@
 -- What a file holds can be judged.
-use Rattle.loc_laws_index.proofs.FileFacts.{child-there, root-there}
-use Rattle.loc_laws_index.proofs.HeldTable.{file_holds_table}
+use Rattle.loc_laws_index.proofs.{FileFacts.child-there, FileFacts.root-there, HeldTable.file_holds_table}
 use Rattle.loc_laws_judge.specs.FirstFlaw.{FilesAreReadable}
 
 pub files_are_readable : FilesAreReadable

@@ -2,17 +2,14 @@
 use Rattle.std.proofs.Common.{◌≡◌, ℕ, true, List, [], ◌∷◌, get_or, refl, sym, ◌∙◌, ap, subst, inl, inr}
 use Rattle.std.specs.Prelude.{Option, Some, None, ◌==◌, nat_lt}
 use Rattle.std.proofs.lemmas.Bool.{and_from, both_ways, cases_order, eq-eqb, lt-ltb, not-true, or_left, or_right}
-use Rattle.loc_spec_plane.specs.Covers.{list_before}
-use Rattle.loc_spec_plane.specs.Tables.{corner}
+use Rattle.loc_spec_plane.specs.{Covers.list_before, Tables.corner}
 use Rattle.loc_laws_order.proofs.Unique.{list-unique}
 use Rattle.loc_spec_index.specs.Content.{Content, table_in}
 use Rattle.loc_spec_index.specs.Flaws.{DifferFirstAt, Flaw, HasFlaw, IsDeepIn, IsFirst, IsMisread, rank, lone, bare, uneven, conflicting, wrong_floor, wrong_cover, spare_cover, wrong_source, deep, wrong_list}
 use Rattle.loc_laws_index.proofs.FlawKinds.{kind_of, is_named, named, is_named_so}
-use Rattle.loc_laws_index.proofs.NoFlaw.{true_has_no_flaw}
-use Rattle.loc_laws_index.proofs.Reading.{reads-unique}
+use Rattle.loc_laws_index.proofs.{NoFlaw.true_has_no_flaw, Reading.reads-unique}
 use Rattle.loc_laws_judge.specs.FirstFlaw.{FirstIsFound, IsOneOf, first_flaw}
-use Rattle.loc_laws_judge.proofs.Differences.{one_difference}
-use Rattle.loc_laws_judge.proofs.First.{found_is_first, none_is_true}
+use Rattle.loc_laws_judge.proofs.{Differences.one_difference, First.found_is_first, First.none_is_true}
 
 -- of two lists neither of which comes before the other, each is the other
 same-from_neither : (xs ys : List ℕ) → (list_before xs ys ≡ true → ⊥) → (list_before ys xs ≡ true → ⊥) → xs ≡ ys

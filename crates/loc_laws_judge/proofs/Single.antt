@@ -1,20 +1,15 @@
 -- What is told of the kinds whose flaws have one number: corners without an edge, edges without a mark, floors, cover lists and sources.
 use Rattle.std.proofs.Common.{◌≡◌, ◌≢◌, ℕ, ◌<◌, Bool, not, [], length, get_or, refl, ap}
 use Rattle.std.specs.Prelude.{◌==◌, IsTrue}
-use Rattle.std.specs.List.{list_any}
-use Rattle.std.specs.Str.{bytes_eq}
+use Rattle.std.specs.{List.list_any, Str.bytes_eq}
 use Rattle.std.proofs.lemmas.Bool.{both_ways, eq-eqb, eqb-true, not-false, not-true}
-use Rattle.std.proofs.lemmas.List.{nil_from_length}
-use Rattle.std.proofs.lemmas.Slice.Eq.{bytes_eq-Decides}
-use Rattle.loc_spec_plane.specs.Lists.{is_in}
+use Rattle.std.proofs.{lemmas.List.nil_from_length, lemmas.Slice.Eq.bytes_eq-Decides}
+use Rattle.loc_spec_plane.specs.{Lists.is_in, Places.IsFloor, Covers.cover_above}
 use Rattle.loc_spec_plane.specs.Tables.{AllEnds, corner, edge_numbers, ends_at, is_on_source}
-use Rattle.loc_spec_plane.specs.Places.{IsFloor}
-use Rattle.loc_spec_plane.specs.Covers.{cover_above}
 use Rattle.loc_spec_index.specs.Content.{Content, cover_numbers, cover_of_edge, floor_of_corner, table_in}
 use Rattle.loc_spec_index.proofs.Refutes.{no_lone, no_bare, no_wrong_floor, no_wrong_cover, no_spare_cover, no_wrong_source}
 use Rattle.loc_laws_judge.specs.FirstFlaw.{bare_edge, is_floor, lone_corner, other_source, spare_list, untrue_cover, untrue_floor}
-use Rattle.loc_laws_judge.proofs.Floors.{floor_decides}
-use Rattle.loc_laws_judge.proofs.OfKind.{IsTold, told_named}
+use Rattle.loc_laws_judge.proofs.{Floors.floor_decides, OfKind.IsTold, OfKind.told_named}
 
 module _ (c : Content) where
   pub lone_told : IsTold c 0 (AllEnds (table_in c)) (lone_corner c)

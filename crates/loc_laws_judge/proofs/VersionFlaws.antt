@@ -3,19 +3,16 @@ use Rattle.std.proofs.Common.{◌≡◌, ℕ, ◌<◌, List, length, refl, sym, 
 use Rattle.std.specs.Prelude.{Option, Some, None, ◌⊎◌, option_map}
 use Rattle.std.proofs.lemmas.Option.{none-some, same_Some}
 use Rattle.loc_spec_plane.specs.Tables.{NoConflict}
-use Rattle.loc_spec_index.specs.Nodes.{Reads}
-use Rattle.loc_spec_index.specs.Content.{Content, root_of, table_in}
+use Rattle.loc_spec_index.specs.{Nodes.Reads, Content.Content, Content.root_of, Content.table_in}
 use Rattle.loc_spec_index.specs.TrueIndex.{IsTrueVersion, alive_count}
 use Rattle.loc_spec_index.specs.Flaws.{Flaw, IsDeepIn, IsMisread, deep, wrong_list}
-use Rattle.loc_laws_index.proofs.FlawKinds.{least_version}
-use Rattle.loc_laws_index.proofs.NoFlaw.{no_deep, no_wrong_list}
+use Rattle.loc_laws_index.proofs.{FlawKinds.least_version, NoFlaw.no_deep, NoFlaw.no_wrong_list}
 use Rattle.loc_laws_judge.specs.FirstFlaw.{IsReadable, first_difference, read_within, reading_flaw, room_for, untrue_version, version_flaw, version_list}
 use Rattle.loc_laws_judge.proofs.Differences.{differ_at, same_lists}
 use Rattle.loc_laws_judge.proofs.FirstSome.{none_below, some_below}
 use Rattle.loc_laws_judge.proofs.OfKind.{IsLeastOf, IsTold, NoneOf}
 use Rattle.loc_laws_judge.proofs.ReadWithin.{StaysWithin, not_read, read_is}
-use Rattle.loc_laws_judge.proofs.Room.{deep_past, shallow_within}
-use Rattle.loc_laws_judge.proofs.VersionList.{version_list_is}
+use Rattle.loc_laws_judge.proofs.{Room.deep_past, Room.shallow_within, VersionList.version_list_is}
 
 -- the flaw is what is wrong with version i
 abbrev pub IsOfVersion : Content → ℕ → Flaw → Type 0

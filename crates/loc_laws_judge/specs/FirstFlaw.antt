@@ -15,18 +15,14 @@
 --   IsOneOf              a computed flaw is this one; of two edges that conflict it is some pair
 --   FilesAreReadable, NoneIsTrue, TrueHasNone, FoundIsFirst, FirstIsFound  the laws
 use Rattle.std.specs.Prelude.{◌≡◌, ℕ, zero, suc, ◌*◌, ◌≤◌, Bool, not, ◌&&◌, ◌||◌, List, [], ◌∷◌, ◌++◌, length, get_or, filter, Option, Some, None, option_map, if◌then◌else◌, nat_lt, ◌==◌}
-use Rattle.std.specs.Option.{option_or}
-use Rattle.std.specs.List.{list_any, list_all}
-use Rattle.std.specs.Str.{bytes_eq}
-use Rattle.loc_spec_plane.specs.Points.{Point, is_above, conflict}
+use Rattle.std.specs.{Option.option_or, List.list_any, List.list_all, Str.bytes_eq}
+use Rattle.loc_spec_plane.specs.{Points.Point, Points.is_above, Points.conflict, Places.alive_at, Places.lower_of}
 use Rattle.loc_spec_plane.specs.Lists.{numbers, is_in, odd_many, sorted_set}
 use Rattle.loc_spec_plane.specs.Tables.{Table, IsTable, corner, edge, edge_numbers, ends_at, has_odd, is_on_source}
-use Rattle.loc_spec_plane.specs.Places.{alive_at, lower_of}
 use Rattle.loc_spec_plane.specs.Covers.{cover_above, feature_count}
-use Rattle.loc_spec_index.specs.declared.NodeRow.{NodeRow}
+use Rattle.loc_spec_index.specs.{declared.NodeRow.NodeRow, IndexFile.IsFileOf}
 use Rattle.loc_spec_index.specs.Nodes.{Side, Left, Right, row_of, child_of, is_deep}
 use Rattle.loc_spec_index.specs.Content.{Content, table_in, cover_of_edge, cover_numbers, floor_of_corner, root_of}
-use Rattle.loc_spec_index.specs.IndexFile.{IsFileOf}
 use Rattle.loc_spec_index.specs.TrueIndex.{IsTrueIndex, alive_count}
 use Rattle.loc_spec_index.specs.Flaws.{Flaw, IsFirst, lone, bare, uneven, conflicting, wrong_floor, wrong_cover, spare_cover, wrong_source, deep, wrong_list}
 

@@ -3,20 +3,12 @@ use Rattle.std.proofs.Common.{◌≡◌, ◌≢◌, ℕ, ◌+◌, ◌<◌, ◌�
 use Rattle.std.specs.Prelude.{sum_by}
 use Rattle.std.specs.List.{list_all, list_any, cons_option, flat_map}
 use Rattle.std.proofs.lemmas.Bool.{and_parts, both_ways, cases_Bool, cond-true, cond-false, false_from_ne_true, true≢false}
-use Rattle.std.proofs.lemmas.List.{get_or-map}
-use Rattle.std.proofs.lemmas.List.Concat.{flat_map-append}
-use Rattle.std.proofs.lemmas.List.Folds.{list_any-append, list_any_at}
-use Rattle.std.proofs.lemmas.List.Sums.{sum_by-cons}
-use Rattle.loc_spec_plane.specs.declared.Mark.{Mark}
-use Rattle.loc_spec_plane.specs.Lists.{is_rising}
-use Rattle.loc_spec_plane.specs.Points.{Edge, edge_before, same_edge}
-use Rattle.loc_spec_plane.specs.Rings.{Rings, segments}
-use Rattle.loc_spec_plane.specs.Tables.{edge_marks, layer_segments, table_by}
-use Rattle.loc_laws_order.proofs.Tests.{same_edge_decides}
-use Rattle.loc_laws_order.proofs.TableOrder.{origin_point}
-use Rattle.loc_laws_noding.proofs.Marks.{is_hit, marks_from}
-use Rattle.loc_laws_noding.proofs.Orders.{edges_by_before}
-use Rattle.loc_laws_noding.proofs.SortedSet.{irrefl}
+use Rattle.std.proofs.{lemmas.List.get_or-map, lemmas.List.Concat.flat_map-append}
+use Rattle.std.proofs.{lemmas.List.Folds.list_any-append, lemmas.List.Folds.list_any_at, lemmas.List.Sums.sum_by-cons}
+use Rattle.loc_spec_plane.specs.{declared.Mark.Mark, Lists.is_rising, Points.Edge, Points.edge_before, Points.same_edge}
+use Rattle.loc_spec_plane.specs.{Rings.Rings, Rings.segments, Tables.edge_marks, Tables.layer_segments, Tables.table_by}
+use Rattle.loc_laws_order.proofs.{Tests.same_edge_decides, TableOrder.origin_point}
+use Rattle.loc_laws_noding.proofs.{Marks.is_hit, Marks.marks_from, Orders.edges_by_before, SortedSet.irrefl}
 use Rattle.loc_laws_noding.proofs.Tables.{any_flat, any_of_pieces, as_many_ends, pieces, pieces_rise}
 
 -- ---- sums over edges

@@ -7,8 +7,7 @@ use Rattle.loc_spec_plane.specs.Lists.{exactly_one, odd_many, is_rising}
 use Rattle.loc_laws_order.proofs.Booleans.{and_none, and_true, same-from_both}
 use Rattle.loc_laws_order.proofs.Tests.{same_edge_decides}
 use Rattle.loc_laws_rays.proofs.Parity.{exactly_one-false, odd_many-exactly_one, odd_many-same, never}
-use Rattle.loc_laws_noding.proofs.Orders.{edges_by_before}
-use Rattle.loc_laws_noding.proofs.SortedSet.{irrefl}
+use Rattle.loc_laws_noding.proofs.{Orders.edges_by_before, SortedSet.irrefl}
 
 -- where there are none there is no odd number of them
 pub odd_none : {X : Type 0} (p : X → Bool) (xs : List X) → list_any p xs ≡ false → odd_many p xs ≡ false

@@ -4,17 +4,14 @@ use Rattle.std.specs.List.{list_any, list_all, flat_map}
 use Rattle.std.proofs.lemmas.Bool.{and_parts, and_from, or_left, or_right, cases_Bool, cond-true, cond-false}
 use Rattle.std.proofs.lemmas.List.Folds.{list_any-append, list_all-append}
 use Rattle.loc_spec_plane.specs.Points.{Point, Edge, before, same_point, lies_on}
-use Rattle.loc_spec_plane.specs.Lists.{exactly_one, odd_many, is_rising}
-use Rattle.loc_spec_plane.specs.Rays.{crosses_right}
+use Rattle.loc_spec_plane.specs.{Lists.exactly_one, Lists.odd_many, Lists.is_rising, Rays.crosses_right}
 use Rattle.loc_spec_plane.specs.Rings.{Ring, Rings, ring_segments, segments, segment_between, touches}
 use Rattle.loc_spec_plane.specs.Tables.{layer_segments, layer_corners, cut_at}
-use Rattle.loc_laws_order.proofs.Booleans.{or_assoc}
-use Rattle.loc_laws_order.proofs.Sides.{before_either, same_point_refl}
+use Rattle.loc_laws_order.proofs.{Booleans.or_assoc, Sides.before_either, Sides.same_point_refl}
 use Rattle.loc_laws_rays.proofs.Parity.{odd_many-append}
 use Rattle.loc_laws_order.specs.Numbered.{has_ends}
 use Rattle.loc_laws_noding.specs.Laws.{IsCutting, ends_of, goes_up, is_good}
-use Rattle.loc_laws_noding.proofs.Pieces.{pieces_cut}
-use Rattle.loc_laws_noding.proofs.Orders.{points_by_before}
+use Rattle.loc_laws_noding.proofs.{Pieces.pieces_cut, Orders.points_by_before}
 use Rattle.loc_laws_noding.proofs.SortedSet.{any-sorted_set, rising-sorted_set}
 
 -- ---- segments go up

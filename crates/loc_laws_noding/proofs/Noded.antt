@@ -5,16 +5,13 @@ use Rattle.std.specs.List.{list_any, list_all, flat_map, filter_map, enumerate_f
 use Rattle.std.proofs.lemmas.Bool.{and_parts, both_ways, false_from_ne_true, not-true, or_cases, or_from, or_left, or_right, true≢false}
 use Rattle.std.proofs.lemmas.List.Folds.{list_any-append, list_any_at}
 use Rattle.loc_spec_plane.specs.Points.{Point, Edge, same_point, same_edge, edge_before, inside, ends_inside, touch, cross, conflict}
-use Rattle.loc_spec_plane.specs.Lists.{exactly_one, odd_many, sorted_set}
-use Rattle.loc_spec_plane.specs.Rings.{Rings, segments}
+use Rattle.loc_spec_plane.specs.{Lists.exactly_one, Lists.odd_many, Lists.sorted_set, Rings.Rings, Rings.segments}
 use Rattle.loc_spec_plane.specs.Tables.{Table, NoConflict, table_by, table_of, noded_table_of, whole, cut_at, edge, edge_marks, mark_of, layer_segments, layer_corners, pieces_of, number_of, numbered_ends, source_in}
-use Rattle.loc_laws_order.proofs.Tests.{same_edge_decides, touch-conflict}
-use Rattle.loc_laws_order.proofs.TableOrder.{origin_point}
+use Rattle.loc_laws_order.proofs.{Tests.same_edge_decides, Tests.touch-conflict, TableOrder.origin_point}
 use Rattle.loc_laws_order.specs.Numbered.{has_ends}
 use Rattle.loc_laws_noding.specs.Laws.{IsCutting, goes_up, is_good}
 use Rattle.loc_laws_noding.proofs.Layers.{any-corners, corners_rise, cutting_at, layer_good}
-use Rattle.loc_laws_noding.proofs.Orders.{edges_by_before}
-use Rattle.loc_laws_noding.proofs.Pieces.{none_inside, one_piece, whole_cut}
+use Rattle.loc_laws_noding.proofs.{Orders.edges_by_before, Pieces.none_inside, Pieces.one_piece, Pieces.whole_cut}
 use Rattle.loc_laws_noding.proofs.SortedSet.{any-sorted_set}
 use Rattle.loc_laws_noding.proofs.Tables.{any_of_pieces, as_many_ends, edge_is_piece, piece_there, pieces}
 

@@ -1,7 +1,6 @@
 -- The derived orders of points and of edges, by which sorting goes, are orders of the plane.
 use Rattle.std.proofs.Common.{◌≡◌, true, ◌&&◌, subst, inl, inr, Ordering, int_cmp}
-use Rattle.std.specs.Ordering.{ordering_then}
-use Rattle.std.specs.Cmp.{IsTotalOrder}
+use Rattle.std.specs.{Ordering.ordering_then, Cmp.IsTotalOrder}
 use Rattle.std.proofs.lemmas.Bool.{and_parts, or_cases, both_ways}
 use Rattle.std.proofs.lemmas.Cmp.{on_total, then_total, int_cmp_total}
 use Rattle.loc_spec_plane.specs.Points.{Point, Edge, before, same_point, edge_before}

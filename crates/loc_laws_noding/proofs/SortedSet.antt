@@ -1,18 +1,14 @@
 -- The sorted set of a list is the one rising list with its members, and no longer than the list; a sort that then drops equal neighbours makes it.
 use Rattle.std.proofs.Common.{◌≡◌, suc, ◌≤◌, Bool, true, false, not, ◌&&◌, ◌||◌, List, [], ◌∷◌, ◌++◌, length, refl, sym, ◌∙◌, ap, subst, inl, inr, Ordering, Less, Equal, Greater, arith}
-use Rattle.std.specs.Bool.{Decides}
-use Rattle.std.specs.Cmp.{IsTotalOrder}
+use Rattle.std.specs.{Bool.Decides, Cmp.IsTotalOrder}
 use Rattle.std.specs.List.{list_any, list_all, dedup, dedup_from, AllByRecursion}
 use Rattle.std.specs.List.Sorted.{IsPermutation, IsSorted, IsStrictlySortedBy}
 use Rattle.std.specs.Ordering.{MatchOrdering, eq_by_cmp, is_eq, is_lt}
 use Rattle.std.proofs.lemmas.Bool.{and_parts, and_from, both_ways, cases_Bool, not-true, not_from_false, cond-true, cond-false, false_from_ne_true}
-use Rattle.std.proofs.lemmas.Cmp.{by_ranked}
-use Rattle.std.proofs.lemmas.List.Kept.{IsStrictlySortedBy-dedup}
+use Rattle.std.proofs.{lemmas.Cmp.by_ranked, lemmas.List.Kept.IsStrictlySortedBy-dedup}
 use Rattle.std.proofs.lemmas.List.Sorted.{list_any-IsPermutation}
 use Rattle.loc_spec_plane.specs.Lists.{is_rising, sorted_set, with_member}
-use Rattle.loc_laws_order.proofs.Sets.{set_of}
-use Rattle.loc_laws_order.proofs.Booleans.{or_twice}
-use Rattle.loc_laws_order.proofs.Unique.{one_rising}
+use Rattle.loc_laws_order.proofs.{Sets.set_of, Booleans.or_twice, Unique.one_rising}
 
 -- ---- equal neighbours dropped
 -- the same members are left behind k

@@ -1,25 +1,17 @@
 -- The sources of pieces: of the noded table both ends of an edge lie on the segment of its source, and of the plain table each edge is its own source.
 use Rattle.std.proofs.Common.{◌≡◌, ℕ, ◌<◌, Bool, true, false, ◌||◌, ◌&&◌, List, [], ◌∷◌, length, get_or, refl, sym, ◌∙◌, ap, inl, inr, arith}
-use Rattle.std.specs.Prelude.{Some, find, unwrap_or}
-use Rattle.std.specs.List.{list_any, list_all}
+use Rattle.std.specs.{Prelude.Some, Prelude.find, Prelude.unwrap_or, List.list_any, List.list_all}
 use Rattle.std.proofs.lemmas.Bool.{and_parts, cases_Bool, cond-false, cond-true, or_cases, true≢false}
-use Rattle.std.proofs.lemmas.List.{get_or-map}
-use Rattle.std.proofs.lemmas.List.Folds.{list_any_at}
+use Rattle.std.proofs.{lemmas.List.get_or-map, lemmas.List.Folds.list_any_at}
 use Rattle.loc_spec_plane.specs.Points.{Point, Edge, same_point, same_edge, edge_before, lies_on}
-use Rattle.loc_spec_plane.specs.Lists.{sorted_set}
-use Rattle.loc_spec_plane.specs.Rings.{Rings, segment_between}
+use Rattle.loc_spec_plane.specs.{Lists.sorted_set, Rings.Rings, Rings.segment_between}
 use Rattle.loc_spec_plane.specs.Tables.{Table, table_by, table_of, noded_table_of, whole, cut_at, edge, is_on_source, layer_segments, layer_corners, pieces_of, numbered_ends, source, source_in, source_of, corner}
-use Rattle.loc_laws_order.proofs.Booleans.{or_none}
-use Rattle.loc_laws_order.proofs.Tests.{same_edge_decides}
-use Rattle.loc_laws_order.proofs.TableOrder.{origin_point}
+use Rattle.loc_laws_order.proofs.{Booleans.or_none, Tests.same_edge_decides, TableOrder.origin_point}
 use Rattle.loc_laws_order.specs.Numbered.{has_ends}
 use Rattle.loc_laws_noding.specs.Laws.{IsCutting, goes_up}
-use Rattle.loc_laws_noding.proofs.Layers.{corners_rise}
-use Rattle.loc_laws_noding.proofs.Noded.{cutting_noded, map_same}
+use Rattle.loc_laws_noding.proofs.{Layers.corners_rise, Noded.cutting_noded, Noded.map_same, Orders.edges_by_before}
 use Rattle.loc_laws_order.proofs.Numbered.{at_number}
-use Rattle.loc_laws_noding.proofs.Orders.{edges_by_before}
-use Rattle.loc_laws_noding.proofs.Pieces.{pieces_on}
-use Rattle.loc_laws_noding.proofs.SortedSet.{any-sorted_set}
+use Rattle.loc_laws_noding.proofs.{Pieces.pieces_on, SortedSet.any-sorted_set}
 use Rattle.loc_laws_noding.proofs.Tables.{any_of_pieces, as_many_ends, edge_is_piece, piece_good, pieces, source_good}
 
 -- what is found passes

@@ -5,15 +5,12 @@ use Rattle.std.specs.List.{list_any, list_all, flat_map}
 use Rattle.std.proofs.lemmas.Bool.{and_from, and_parts, cases_Bool, cases_lt, cond-false, cond-true, eq-eqb, ne_eqb, not_from_false, or_cases, or_left, or_right}
 use Rattle.std.proofs.lemmas.List.{length-map, get_or-map, get_or_past}
 use Rattle.std.proofs.lemmas.List.Folds.{list_any-append, list_any_at}
-use Rattle.loc_spec_plane.specs.declared.Mark.{Mark}
+use Rattle.loc_spec_plane.specs.{declared.Mark.Mark, Rays.crosses_right, Covers.feature_count}
 use Rattle.loc_spec_plane.specs.Points.{Point, Edge, same_point, same_edge, edge_before, is_end, lies_on}
 use Rattle.loc_spec_plane.specs.Lists.{numbers, odd_many, is_rising, sorted_set}
-use Rattle.loc_spec_plane.specs.Rays.{crosses_right}
 use Rattle.loc_spec_plane.specs.Rings.{Rings, segments, touches, covers}
-use Rattle.loc_spec_plane.specs.Covers.{feature_count}
 use Rattle.loc_spec_plane.specs.Tables.{Table, IsTable, AllEnds, AllEven, table_by, corner, edge, lo_of, hi_of, ends_at, edge_numbers, has, has_odd, edge_marks, layer_segments, layer_corners, pieces_of, number_of, numbered_ends, source_in, source_of, mark_before, touches_by_marks, covers_by_marks}
-use Rattle.loc_laws_order.proofs.Booleans.{and_swap, and_true}
-use Rattle.loc_laws_order.proofs.Sides.{same_point_refl}
+use Rattle.loc_laws_order.proofs.{Booleans.and_swap, Booleans.and_true, Sides.same_point_refl}
 use Rattle.loc_laws_order.proofs.TableOrder.{all_from, is_end_is, origin_point}
 use Rattle.loc_laws_rays.proofs.Members.{feature_count_within}
 use Rattle.loc_laws_order.specs.Numbered.{ends_by_number, has_ends}

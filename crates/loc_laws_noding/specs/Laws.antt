@@ -16,10 +16,8 @@ use Rattle.std.specs.Prelude.{◌≡◌, ◌≢◌, ℕ, ◌<◌, ◌≤◌, Boo
 use Rattle.std.specs.List.{list_any, list_all, flat_map}
 use Rattle.loc_laws_order.specs.Numbered.{has_ends}
 use Rattle.loc_spec_plane.specs.Points.{Point, Edge, before, same_point, edge_before, is_end, lies_on, inside, touch}
-use Rattle.loc_spec_plane.specs.Lists.{is_rising, odd_many}
-use Rattle.loc_spec_plane.specs.Rays.{crosses_right}
+use Rattle.loc_spec_plane.specs.{Lists.is_rising, Lists.odd_many, Rays.crosses_right, Covers.feature_count}
 use Rattle.loc_spec_plane.specs.Rings.{Rings, segments, touches, covers}
-use Rattle.loc_spec_plane.specs.Covers.{feature_count}
 use Rattle.loc_spec_plane.specs.Tables.{IsTable, AllEnds, AllEven, NoConflict, cut_at, edge, is_on_source, noded_table_of, piece_count, table_of, touches_by_marks, covers_by_marks, whole}
 
 -- the edge goes up

@@ -5,8 +5,7 @@ use Rattle.std.proofs.lemmas.Bool.{and_parts, and_from, and_left, and_cases, bot
 use Rattle.loc_spec_plane.specs.Points.{Point, before, up_to, same_point, conflict}
 use Rattle.loc_spec_plane.specs.Tables.{Table, IsTable, NoConflict, corner, edge, lo_of, hi_of}
 use Rattle.loc_spec_plane.specs.Places.{alive, alive_at, is_edge, lower_of, is_corner_of, IsCornerless}
-use Rattle.loc_laws_order.proofs.ChainLaws.{chain_lower}
-use Rattle.loc_laws_order.proofs.PairLaws.{order_is_total}
+use Rattle.loc_laws_order.proofs.{ChainLaws.chain_lower, PairLaws.order_is_total}
 use Rattle.loc_laws_order.proofs.TableOrder.{corner_before, corner_up_to, different}
 
 -- how many of the corners are at or before p: exactly the first n

@@ -3,9 +3,7 @@ use Rattle.std.proofs.Common.{◌≡◌, ◌≢◌, ℕ, Bool, true, false, ◌&
 use Rattle.std.specs.Prelude.{Option, Some, None, ◌==◌}
 use Rattle.std.specs.List.{list_all}
 use Rattle.std.proofs.lemmas.Bool.{and_parts, and_from, or_left, or_right, or_cases, both_ways, true≢false, eq-eqb, eqb-true, not_from_false, false_from_ne_true}
-use Rattle.loc_spec_plane.specs.Lists.{is_in, is_rising}
-use Rattle.loc_spec_plane.specs.Points.{is_above}
-use Rattle.loc_spec_plane.specs.Tables.{edge}
+use Rattle.loc_spec_plane.specs.{Lists.is_in, Lists.is_rising, Points.is_above, Tables.edge}
 use Rattle.loc_spec_plane.specs.Places.{IsFloor, alive_at, lower_of}
 use Rattle.loc_laws_order.specs.Laws.{later_or, last_that, FloorOfList}
 use Rattle.loc_laws_order.proofs.Unique.{all-at}

@@ -6,11 +6,9 @@ use Rattle.std.proofs.lemmas.Bool.{cases_order, cases_lt, cond-true, both_ways, 
 use Rattle.std.proofs.lemmas.List.Folds.{list_any_none}
 use Rattle.std.proofs.lemmas.List.Sums.{fails_before_first, passes_at_first}
 use Rattle.loc_spec_plane.specs.Points.{Point, Edge, before, same_point, edge_before}
-use Rattle.loc_spec_plane.specs.Lists.{is_rising}
-use Rattle.loc_spec_plane.specs.Tables.{number_of, pair_before}
+use Rattle.loc_spec_plane.specs.{Lists.is_rising, Tables.number_of, Tables.pair_before}
 use Rattle.loc_laws_order.specs.Numbered.{ends_by_number, has_ends}
-use Rattle.loc_laws_order.proofs.Sides.{before_irrefl, before-asym_test, same_point-true}
-use Rattle.loc_laws_order.proofs.TableOrder.{rises}
+use Rattle.loc_laws_order.proofs.{Sides.before_irrefl, Sides.before-asym_test, Sides.same_point-true, TableOrder.rises}
 
 module _ (cs : List Point) (up : is_rising before cs ≡ true) where
   first_place : (p : Point) → list_any (same_point p) cs ≡ true → position_or_len (same_point p) cs < length cs

@@ -2,15 +2,12 @@
 use Rattle.std.proofs.Common.{◌≡◌, ℕ, zero, suc, ◌<◌, true, List, [], ◌∷◌, length, map, not, ◌||◌, refl, sym, ◌∙◌, ap, subst, inl, inr, arith, Some, slice_get}
 use Rattle.std.specs.Prelude.{◌==◌}
 use Rattle.std.proofs.lemmas.Bool.{and_parts, and_from, or_cases, or_left, or_right, eq-eqb, eqb-true, lt-ltb, ltb-true, true≢false, not_from_false, not_from_true, both_ways, false_from_ne_true}
-use Rattle.loc_spec_plane.specs.Lists.{is_in}
+use Rattle.loc_spec_plane.specs.{Lists.is_in, Places.alive, Places.is_edge}
 use Rattle.loc_spec_plane.specs.Points.{Edge, same_edge, touch, cross, conflict}
 use Rattle.loc_spec_plane.specs.Tables.{Table, IsTable, corner, edge, lo_of, hi_of}
-use Rattle.loc_spec_plane.specs.Places.{alive, is_edge}
 use Rattle.loc_laws_order.specs.Laws.{IsSweep, SweepLaw}
-use Rattle.loc_laws_order.proofs.Forms.{IsEdge}
-use Rattle.loc_laws_order.proofs.Sides.{before_decides}
+use Rattle.loc_laws_order.proofs.{Forms.IsEdge, Sides.before_decides, TableOrder.corner_before, TableOrder.edge_up}
 use Rattle.loc_laws_order.proofs.Tests.{alive_decides, same_edge_decides, conflict-is, chain-is}
-use Rattle.loc_laws_order.proofs.TableOrder.{corner_before, edge_up}
 use Rattle.loc_laws_order.proofs.Swept.{Sweep, swept}
 
 -- a member of a mapped list is the image of a member

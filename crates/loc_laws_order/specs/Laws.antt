@@ -1,11 +1,9 @@
 -- Laws of the vertical order, as statements that the contracts of public functions cite. The words: `IsSweep`, `SweepLaw`, `ListIsChain`, `ChainIsList`,
 -- `OneList`, `OneNext`, `later_or`, `last_that`, `FloorOfList`.
 use Rattle.std.specs.Prelude.{◌≡◌, ℕ, ◌<◌, Bool, true, false, List, [], ◌∷◌, length, map, Option, Some, None}
-use Rattle.loc_spec_plane.specs.Lists.{is_in}
-use Rattle.loc_spec_plane.specs.Points.{Point, is_above}
+use Rattle.loc_spec_plane.specs.{Lists.is_in, Points.Point, Points.is_above, HalfEdges.IsNext}
 use Rattle.loc_spec_plane.specs.Tables.{Table, IsTable, NoConflict, corner, edge}
 use Rattle.loc_spec_plane.specs.Places.{alive_at, is_chain, IsListAt, IsFloor}
-use Rattle.loc_spec_plane.specs.HalfEdges.{IsNext}
 
 -- a list of edge numbers for each corner: a chain there, of exactly the edges that are alive there
 pub record IsSweep (t : Table) (lists : ℕ → List ℕ) : Type 0 where

@@ -1,8 +1,7 @@
 -- Edges between points of a list. The words: `has_ends`, `ends_by_number`.
 use Rattle.std.specs.Prelude.{ℕ, Bool, ◌&&◌, List}
 use Rattle.std.specs.List.{list_any}
-use Rattle.loc_spec_plane.specs.Points.{Point, Edge, same_point}
-use Rattle.loc_spec_plane.specs.Tables.{number_of}
+use Rattle.loc_spec_plane.specs.{Points.Point, Points.Edge, Points.same_point, Tables.number_of}
 
 -- both ends of the edge are among the points
 abbrev pub has_ends : List Point → Edge → Bool

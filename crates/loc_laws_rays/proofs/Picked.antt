@@ -5,8 +5,7 @@ use Rattle.std.specs.List.{list_any}
 use Rattle.std.proofs.lemmas.Bool.{and_parts, ltb-true, or_cases, or_left, or_right, eqb-true, eq-eqb, true≢false}
 use Rattle.std.proofs.lemmas.List.Elements.{All-cons, All-nil}
 use Rattle.loc_spec_plane.specs.Lists.{is_in, least_of, numbers}
-use Rattle.loc_laws_order.proofs.TableOrder.{numbers_within}
-use Rattle.loc_laws_order.proofs.Unique.{all-at}
+use Rattle.loc_laws_order.proofs.{TableOrder.numbers_within, Unique.all-at}
 use Rattle.loc_laws_rays.proofs.Members.{is_in-filter}
 
 -- where some member passes there is one

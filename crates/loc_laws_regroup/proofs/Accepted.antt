@@ -1,23 +1,17 @@
 -- What a layer that was read is made of: ids within their limit, and rings that are closed, with all their points on the grid.
 use Rattle.std.proofs.Common.{◌≡◌, ℕ, zero, suc, ◌+◌, ◌^◌, ◌<◌, ◌≤◌, Bool, true, false, not, List, [], ◌∷◌, ◌++◌, length, map, filter, Option, Some, None, Result, Ok, Err, refl, subst, arith}
 use Rattle.std.specs.Prelude.{codes, nat_le, nat_lt, ◌==◌, if◌then◌else◌, ⊤}
-use Rattle.std.specs.Char.{is_ascii_digit}
-use Rattle.std.specs.Fmt.{decimal}
+use Rattle.std.specs.{Char.is_ascii_digit, Fmt.decimal, Str.is_utf8, Str.IsAscii}
 use Rattle.std.specs.List.{AllByRecursion, enumerate_from, list_all, onto_first}
-use Rattle.std.specs.Str.{is_utf8, IsAscii}
-use Rattle.std.proofs.lemmas.Bool.{and_parts, ltb-false}
-use Rattle.std.proofs.lemmas.Fmt.{length-decimal-le}
+use Rattle.std.proofs.{lemmas.Bool.and_parts, lemmas.Bool.ltb-false, lemmas.Fmt.length-decimal-le}
 use Rattle.std.proofs.lemmas.Str.{is_utf8-from_IsUtf8, IsUtf8-from_ascii}
 use Rattle.csv.specs.Reading.{default_config, records, strip_bom}
 use Rattle.loc_spec_text.specs.Bytes.{is_blank, lines, result_and_then, Text}
-use Rattle.loc_spec_text.specs.declared.Form.{Form}
+use Rattle.loc_spec_text.specs.{declared.Form.Form, declared.TextFault.TextFault, Reading.Polygons, Reading.reading}
 use Rattle.loc_spec_text.specs.declared.Form.TheVariants as form
-use Rattle.loc_spec_text.specs.declared.TextFault.{TextFault}
-use Rattle.loc_spec_text.specs.Reading.{Polygons, reading}
 use Rattle.loc_spec_text.proofs.DigitLaws.{digit_range, decimal_digits}
-use Rattle.loc_rings.specs.Values.{Feature}
+use Rattle.loc_rings.specs.{Values.Feature, Layers.layer_points, Layers.point_count}
 use Rattle.loc_spec_text.specs.Limits.{most_id_bytes}
-use Rattle.loc_rings.specs.Layers.{layer_points, point_count}
 use Rattle.loc_csvform.specs.declared.faults.LayerFault.{LayerFault}
 use Rattle.loc_csvform.specs.declared.faults.LayerFault.TheVariants.{BadText, LongId, ManyFeatures, ManyPoints, Ragged}
 use Rattle.loc_csvform.specs.Layer.{column, csv_row, csv_rows, features_from, field, is_row_line, layer_of, LayerRead, line_row, Row, row_id, row_of, RowRead, rows_of, rows_under, text_reading, with_feature, with_row}

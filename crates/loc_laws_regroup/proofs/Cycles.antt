@@ -1,12 +1,10 @@
 -- No cycle has one half-edge or two: its half-edges leave different corners, and both half-edges of one edge are not on one cycle, since exactly one of them has its left covered.
 use Rattle.std.proofs.Common.{◌≡◌, ℕ, zero, suc, ◌+◌, ◌*◌, ◌<◌, ◌≤◌, true, length, refl, sym, ◌∙◌, ap, ap₂, inl, inr, arith}
 use Rattle.std.proofs.lemmas.Bool.{cases_eq, true≢false}
-use Rattle.loc_spec_plane.specs.Lists.{exactly_one}
-use Rattle.loc_spec_plane.specs.Points.{same_edge}
+use Rattle.loc_spec_plane.specs.{Lists.exactly_one, Points.same_edge}
 use Rattle.loc_spec_plane.specs.Tables.{Table, IsTable, AllEnds, AllEven, NoConflict, corner, edge, hi_of, lo_of}
 use Rattle.loc_spec_plane.specs.HalfEdges.{cycle, edge_of, half_edge_count, origin, target}
-use Rattle.loc_laws_order.proofs.Sides.{same_point_refl}
-use Rattle.loc_laws_order.proofs.TableOrder.{different}
+use Rattle.loc_laws_order.proofs.{Sides.same_point_refl, TableOrder.different}
 use Rattle.loc_laws_rays.proofs.Parity.{exactly_one_same}
 use Rattle.loc_half.specs.HalfEdgeLists.{HalfEdgeLists, AreHalfEdges, next_in}
 use Rattle.loc_half.proofs.Halves.{either_way, edge-fits, origin-down, origin-up, target-down, target-up}

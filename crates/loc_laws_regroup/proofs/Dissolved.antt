@@ -1,32 +1,23 @@
 -- The groups of a layer, with the nexts and the faces that are computed from the table of each.
 use Rattle.std.proofs.Common.{◌≡◌, ℕ, ◌^◌, ◌≤◌, Bool, map, length, List, [], ◌∷◌, Ok, sym, subst}
-use Rattle.std.specs.Prelude.{All, not}
-use Rattle.std.specs.List.{AllByRecursion}
-use Rattle.std.specs.Str.{bytes_eq}
-use Rattle.loc_spec_plane.specs.Points.{IsGridPoint}
+use Rattle.std.specs.{Prelude.All, Prelude.not, List.AllByRecursion, Str.bytes_eq}
+use Rattle.loc_spec_plane.specs.{Points.IsGridPoint, Faces.IsFaces}
 use Rattle.loc_spec_plane.specs.Tables.{Table, IsTable, AllEnds, AllEven, NoConflict, cut_at, layer_corners, noded_table_of}
-use Rattle.loc_spec_plane.specs.Faces.{IsFaces}
-use Rattle.loc_spec_text.specs.Bytes.{Text}
-use Rattle.loc_spec_text.specs.declared.Form.{Form}
+use Rattle.loc_spec_text.specs.{Bytes.Text, declared.Form.Form}
 use Rattle.loc_place.specs.Planar.{IsPlanar}
 use Rattle.loc_faces.specs.Subdivision.{face_at, next_at}
-use Rattle.loc_faces.proofs.Computed.{next_same}
-use Rattle.loc_faces.proofs.Known.{are_halves, faces_are, halves}
+use Rattle.loc_faces.proofs.{Computed.next_same, Known.are_halves, Known.faces_are, Known.halves}
 use Rattle.loc_spec_groups.specs.Groups.{dissolved, dissolved_group, Group, group_names, group_polygons, group_table, is_member}
 use Rattle.loc_laws_dissolve.proofs.Grouped.{table_law}
 use Rattle.loc_rings.specs.Values.{Feature, IsRing, rings_of}
 use Rattle.loc_csvform.specs.Layer.{layer_of}
 use Rattle.loc_edges.specs.Layers.{layer_rings}
 use Rattle.loc_edges.proofs.Even.{closed_even}
-use Rattle.loc_laws_noding.proofs.Noded.{cutting_noded}
-use Rattle.loc_laws_noding.proofs.Tables.{all_ends, all_even, is_table}
+use Rattle.loc_laws_noding.proofs.{Noded.cutting_noded, Tables.all_ends, Tables.all_even, Tables.is_table}
 use Rattle.loc_laws_regroup.specs.Laws.{AcceptedReads, ArePolygons, DissolvedReads, groups_of, IsId}
-use Rattle.loc_laws_regroup.proofs.Accepted.{IsReadFeature, layer_good}
-use Rattle.loc_laws_regroup.proofs.Readings.{IsReadRing}
-use Rattle.loc_laws_regroup.proofs.TableCorners.{corners_on}
+use Rattle.loc_laws_regroup.proofs.{Accepted.IsReadFeature, Accepted.layer_good, Readings.IsReadRing}
+use Rattle.loc_laws_regroup.proofs.{TableCorners.corners_on, Rings.polygons_open, Layers.layer_reads}
 use Rattle.loc_laws_regroup.proofs.Lists.{all_by_number, all_each, all_flat, all_kept, all_map, all_to}
-use Rattle.loc_laws_regroup.proofs.Rings.{polygons_open}
-use Rattle.loc_laws_regroup.proofs.Layers.{layer_reads}
 
 -- the ids of groups are ids of features
 names_are : (ids : List Text) → AllByRecursion IsId ids → AllByRecursion IsId (group_names ids)

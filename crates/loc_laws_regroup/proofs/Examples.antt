@@ -1,19 +1,12 @@
 -- A worked row, computed: the text of a group with an id that has a quote, at scale 1 with values on both sides of 0, and what it reads as.
 use Rattle.std.proofs.Common.{◌≡◌, [], ◌∷◌, refl, codes}
-use Rattle.std.specs.Prelude.{negsuc, pos, Ok}
-use Rattle.std.specs.Char.{encode_utf8}
-use Rattle.std.specs.Fmt.{digits}
-use Rattle.std.specs.Str.{is_utf8, chars}
-use Rattle.csv.specs.Machine.{next_record}
-use Rattle.csv.specs.Reading.{records_from, strip_bom}
+use Rattle.std.specs.{Prelude.negsuc, Prelude.pos, Prelude.Ok, Char.encode_utf8, Fmt.digits, Str.is_utf8, Str.chars}
+use Rattle.csv.specs.{Machine.next_record, Reading.records_from, Reading.strip_bom}
 use Rattle.loc_spec_plane.specs.Points.{point_at}
-use Rattle.loc_spec_text.specs.declared.Form.TheVariants.{Csv}
-use Rattle.loc_spec_text.specs.Number.{scaled, unit}
-use Rattle.loc_spec_text.specs.Reader.{geometry_of, wide_geometry_of}
-use Rattle.loc_spec_text.specs.Reading.{reading}
+use Rattle.loc_spec_text.specs.{declared.Form.TheVariants.Csv, Number.scaled, Number.unit}
+use Rattle.loc_spec_text.specs.{Reader.geometry_of, Reader.wide_geometry_of, Reading.reading}
 use Rattle.loc_csvform.specs.Layer.{layer_of}
-use Rattle.loc_spec_groups.specs.Groups.{Group}
-use Rattle.loc_spec_groups.specs.GroupTexts.{dissolved_text}
+use Rattle.loc_spec_groups.specs.{Groups.Group, GroupTexts.dissolved_text}
 
 abbrev pub triangle : Group
 triangle = record { id = codes "a\"b"; polygons = ((point_at (negsuc 4) (pos 0) ∷ point_at (pos 12) (negsuc 9) ∷ point_at (pos 0) (pos 105) ∷ []) ∷ []) ∷ [] }

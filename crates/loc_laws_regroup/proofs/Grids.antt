@@ -1,22 +1,18 @@
 -- A printed grid value as a number text: its sign, the digits before the point and exactly as many behind it as the scale says.
 use Rattle.std.proofs.Common.{◌≡◌, ℕ, zero, suc, ◌+◌, ◌*◌, ◌/◌, ◌%◌, ◌^◌, ◌<◌, ◌≤◌, ◌||◌, ◌&&◌, Bool, true, false, not, ◌∷◌, ◌++◌, length, append_assoc, append-nil, length-append, mul_assoc, pow-suc, ℤ, pos, negsuc, neg_ℤ, refl, sym, ◌∙◌, ap, ap₂, arith, nat_le, []}
 use Rattle.std.specs.Prelude.{◌==◌, codes, if◌then◌else◌, unsigned_abs, int_lt}
-use Rattle.std.specs.Char.{digit_value, is_ascii_digit}
-use Rattle.std.specs.Fmt.{decimal}
+use Rattle.std.specs.{Char.digit_value, Char.is_ascii_digit, Fmt.decimal}
 use Rattle.std.specs.List.{list_all, list_any, before_first, after_first}
 use Rattle.std.specs.Str.Parse.{digits_value, digits_value_after}
-use Rattle.std.proofs.Math.Nat.{div-le_self}
+use Rattle.std.proofs.{Math.Nat.div-le_self, lemmas.Fmt.decimal_is_IsNumeral}
 use Rattle.std.proofs.lemmas.Bool.{and_parts, ne_eqb, le-leb, le-ltb, or_from}
-use Rattle.std.proofs.lemmas.Fmt.{decimal_is_IsNumeral}
 use Rattle.std.proofs.lemmas.List.Folds.{list_all-append, list_any-append}
 use Rattle.std.proofs.lemmas.Nat.{div-add-mod', mod_below}
 use Rattle.loc_spec_plane.specs.Points.{OnGrid}
-use Rattle.loc_spec_text.specs.Bytes.{Text}
+use Rattle.loc_spec_text.specs.{Bytes.Text, Points.fraction_text, Points.grid_text, Points.padded_digits}
 use Rattle.loc_spec_text.specs.Number.{are_digits, exponent, fraction_digits, has_exponent, is_exponent_mark, is_negative, is_number, is_point, lowered, magnitude, raised, significand, unsigned, whole_digits}
-use Rattle.loc_spec_text.specs.Points.{fraction_text, grid_text, padded_digits}
 use Rattle.loc_spec_text.proofs.DigitLaws.{range_digit, decimal_digits, no_mark, no_point, no_sign, not_byte}
-use Rattle.loc_spec_text.proofs.NumberLaws.{on_grid, ten_pos}
-use Rattle.loc_spec_text.proofs.CutLaws.{cut, none_of, uncut}
+use Rattle.loc_spec_text.proofs.{NumberLaws.on_grid, NumberLaws.ten_pos, CutLaws.cut, CutLaws.none_of, CutLaws.uncut}
 use Rattle.loc_laws_grouptext.proofs.NoQuotes.{small_abs}
 use Rattle.loc_wkt.proofs.NumberLemmas.{digit_number}
 use Rattle.loc_laws_regroup.specs.Laws.{GridTextReads, IsTextOf}

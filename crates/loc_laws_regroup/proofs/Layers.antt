@@ -1,25 +1,18 @@
 -- What the text of groups reads as: its records are the header and a row for each group, and no row has a fault.
 use Rattle.std.proofs.Common.{◌≡◌, ◌≢◌, ℕ, ◌+◌, ◌^◌, ◌≤◌, false, List, [], ◌∷◌, ◌++◌, length, map, append_assoc, append-nil, length-append, Some, Ok, refl, sym, ◌∙◌, ap, arith}
-use Rattle.std.specs.Prelude.{codes, nat_le, nat_lt}
-use Rattle.std.specs.List.{AllByRecursion, enumerate_from}
+use Rattle.std.specs.{Prelude.codes, Prelude.nat_le, Prelude.nat_lt, List.AllByRecursion, List.enumerate_from}
 use Rattle.std.proofs.lemmas.Bool.{le-ltb, lt-leb}
 use Rattle.std.proofs.lemmas.List.Sums.{sum_by-cons, sum_by_push}
-use Rattle.loc_spec_plane.specs.Points.{IsGridPoint}
-use Rattle.loc_spec_plane.specs.Rings.{Rings}
-use Rattle.loc_spec_text.specs.Bytes.{result_and_then}
-use Rattle.loc_spec_text.specs.Reading.{reading}
-use Rattle.loc_rings.specs.Values.{Feature}
-use Rattle.loc_spec_text.specs.Limits.{most_id_bytes}
-use Rattle.loc_rings.specs.Layers.{layer_points, point_count}
-use Rattle.loc_csvform.specs.Layer.{csv_row, features_from, with_row}
+use Rattle.loc_spec_plane.specs.{Points.IsGridPoint, Rings.Rings}
+use Rattle.loc_spec_text.specs.{Bytes.result_and_then, Reading.reading, Limits.most_id_bytes}
+use Rattle.loc_rings.specs.{Values.Feature, Layers.layer_points, Layers.point_count}
+use Rattle.loc_csvform.specs.Layer.{csv_row, features_from, layer_of, with_row}
 use Rattle.loc_csvform.proofs.Layers.{under_header}
 use Rattle.loc_spec_groups.specs.Groups.{Group}
-use Rattle.loc_spec_groups.specs.GroupTexts.{dissolved_text}
 use Rattle.loc_laws_grouptext.specs.Laws.{AreOnGrid, fields_of, geometry_of}
 use Rattle.loc_laws_grouptext.proofs.Rows.{groups_read}
 use Rattle.loc_laws_regroup.specs.Laws.{ArePolygons, feature_of, IsId, IsOpenRing, LayerReads}
-use Rattle.loc_laws_regroup.proofs.Lists.{all_by_number, all_to}
-use Rattle.loc_laws_regroup.proofs.Values.{geometry_reads}
+use Rattle.loc_laws_regroup.proofs.{Lists.all_by_number, Lists.all_to, Values.geometry_reads}
 
 all_on_grid : (polygons : List Rings) → ArePolygons polygons → AreOnGrid polygons
 all_on_grid polygons good = all_to (λ q. (q ≢ []) × AllByRecursion IsOpenRing q) (AllByRecursion (AllByRecursion IsGridPoint))
@@ -49,8 +42,9 @@ mapped [] = refl
 mapped (group ∷ groups) = omega (arith, mapped groups)
 
 pub layer_reads : LayerReads
+unfolding layer_of
 layer_reads scale groups good limits =
     let grid = all_by_number (λ (group : Group). AreOnGrid group.polygons) groups (all_to (λ (group : Group). ArePolygons group.polygons × IsId group.id) (λ (group : Group). AreOnGrid group.polygons) (λ group each. all_on_grid group.polygons each.0) groups good) in
     let records_are = groups_read scale groups grid in
-    under_header scale (dissolved_text scale groups) (codes "wkt" ∷ codes "id" ∷ []) (map (fields_of scale) groups) 0 (sym records_are) refl
+    under_header scale _ (codes "wkt" ∷ codes "id" ∷ []) (map (fields_of scale) groups) 0 records_are refl
     ∙ features_are scale 1 groups [] good (omega (arith, limits.few_features, mapped groups)) (omega (arith, limits.few_points))

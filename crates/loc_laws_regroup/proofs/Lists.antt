@@ -1,7 +1,6 @@
 -- Facts of each element of lists that are mapped and put one behind the other.
 use Rattle.std.proofs.Common.{◌≡◌, zero, suc, Bool, true, false, cond, filter, List, [], ◌∷◌, ◌++◌, map, flat_map, refl, ap₂, arith}
-use Rattle.std.specs.Prelude.{All}
-use Rattle.std.specs.List.{AllByRecursion}
+use Rattle.std.specs.{Prelude.All, List.AllByRecursion}
 
 module _ {X : Type 0} (P : X → Type 0) where
   -- of two lists, one behind the other

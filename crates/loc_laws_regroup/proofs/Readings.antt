@@ -2,9 +2,7 @@
 use Rattle.std.proofs.Common.{◌≡◌, ℕ, zero, suc, ◌+◌, ◌-◌, ◌^◌, ◌≤◌, Bool, true, false, not, List, [], ◌∷◌, length, map, flat_map, Option, Some, None, Ok, pos, neg_ℤ, refl, sym, ◌∙◌, ap, subst, arith}
 use Rattle.std.specs.Prelude.{nat_lt, if◌then◌else◌, option_map, slice_get, slice_index_or}
 use Rattle.std.specs.List.{AllByRecursion}
-use Rattle.std.proofs.lemmas.Bool.{leb-true, ltb-false}
-use Rattle.std.proofs.lemmas.Int.{ints}
-use Rattle.std.proofs.lemmas.Option.{slice_get-get_or}
+use Rattle.std.proofs.{lemmas.Bool.leb-true, lemmas.Bool.ltb-false, lemmas.Int.ints, lemmas.Option.slice_get-get_or}
 use Rattle.loc_laws_order.proofs.Sides.{same_point-true}
 use Rattle.loc_spec_plane.specs.Points.{IsGridPoint, OnGrid, Point, same_point}
 use Rattle.loc_spec_plane.specs.Rings.{Ring}

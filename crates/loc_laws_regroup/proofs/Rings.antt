@@ -4,25 +4,18 @@ use Rattle.std.specs.Prelude.{nat_lt, ◌==◌}
 use Rattle.std.specs.List.{AllByRecursion, range_with_len}
 use Rattle.std.proofs.lemmas.Bool.{and_from, and_parts, eqb-true, ltb-true, true≢false}
 use Rattle.std.proofs.lemmas.List.{length-map}
-use Rattle.loc_spec_plane.specs.Lists.{is_in, numbers}
-use Rattle.loc_spec_plane.specs.Points.{IsGridPoint}
+use Rattle.loc_spec_plane.specs.{Lists.is_in, Lists.numbers, Points.IsGridPoint, Faces.IsFaces, Faces.leads_face}
 use Rattle.loc_spec_plane.specs.Tables.{Table, IsTable, AllEnds, AllEven, NoConflict, corner}
 use Rattle.loc_spec_plane.specs.HalfEdges.{cycle, edge_of, half_edge_count, origin}
-use Rattle.loc_spec_plane.specs.Faces.{IsFaces, leads_face}
-use Rattle.loc_laws_order.proofs.Kept.{is_in-filter}
-use Rattle.loc_laws_order.proofs.TableOrder.{numbers_within}
-use Rattle.loc_laws_order.proofs.Unique.{all-at}
+use Rattle.loc_laws_order.proofs.{Kept.is_in-filter, TableOrder.numbers_within, Unique.all-at}
 use Rattle.loc_half.specs.HalfEdgeLists.{HalfEdgeLists, AreHalfEdges, next_in}
 use Rattle.loc_half.proofs.Halves.{either_way, edge-fits, origin-down, origin-up}
-use Rattle.loc_half.proofs.Orbits.{cycle_is, next_within, placed}
-use Rattle.loc_half.proofs.Trails.{trail}
+use Rattle.loc_half.proofs.{Orbits.cycle_is, Orbits.next_within, Orbits.placed, Trails.trail}
 use Rattle.loc_laws_rays.proofs.Picked.{member_any}
 use Rattle.loc_spec_groups.specs.Groups.{chosen_table, covers_upper, face_rings, group_polygons, group_table, is_kept, is_polygon, kept_edges, leads_hanging_in, leads_outer, ring_from}
 use Rattle.loc_laws_dissolve.specs.Laws.{left_covered}
-use Rattle.loc_laws_dissolve.proofs.Chosen.{length-chosen}
-use Rattle.loc_laws_dissolve.proofs.Grouped.{table_law}
-use Rattle.loc_laws_faces.proofs.Faces.{by_face}
-use Rattle.loc_laws_faces.proofs.Polygons.{group_faces, one_half_each}
+use Rattle.loc_laws_dissolve.proofs.{Chosen.length-chosen, Grouped.table_law}
+use Rattle.loc_laws_faces.proofs.{Faces.by_face, Polygons.group_faces, Polygons.one_half_each}
 use Rattle.loc_laws_regroup.specs.Laws.{ArePolygons, GroupsAreOpen, IsOpenRing}
 use Rattle.loc_laws_regroup.proofs.Cycles.{cycle_long}
 use Rattle.loc_laws_regroup.proofs.Lists.{all_append, all_each, all_map, all_by_number, all_kept, kept_pass, all_to}

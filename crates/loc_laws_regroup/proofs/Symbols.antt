@@ -1,16 +1,12 @@
 -- The symbols of printed values, of points, and of lists in parentheses.
 use Rattle.std.proofs.Common.{◌≡◌, ℕ, zero, suc, ◌/◌, ◌%◌, ◌^◌, ◌<◌, Bool, true, false, List, [], ◌∷◌, ◌++◌, length, map, append_assoc, append-nil, ℤ, pos, refl, sym, ◌∙◌, ap, arith}
 use Rattle.std.specs.Prelude.{codes, unsigned_abs, int_lt}
-use Rattle.std.specs.Char.{is_ascii_alphabetic, is_ascii_digit}
-use Rattle.std.specs.Fmt.{decimal}
-use Rattle.std.specs.List.{AllByRecursion, list_all}
-use Rattle.std.proofs.lemmas.Bool.{and_parts, lt-leb}
-use Rattle.std.proofs.lemmas.Fmt.{decimal_is_IsNumeral}
+use Rattle.std.specs.{Char.is_ascii_alphabetic, Char.is_ascii_digit, Fmt.decimal, List.AllByRecursion, List.list_all}
+use Rattle.std.proofs.{lemmas.Bool.and_parts, lemmas.Bool.lt-leb, lemmas.Fmt.decimal_is_IsNumeral}
 use Rattle.std.proofs.lemmas.List.Folds.{list_all-append}
 use Rattle.loc_spec_plane.specs.Points.{IsGridPoint, OnGrid, Point}
-use Rattle.loc_spec_text.specs.Bytes.{Text}
+use Rattle.loc_spec_text.specs.{Bytes.Text, Number.is_number}
 use Rattle.loc_spec_text.specs.Geometry.{close_mark, comma, ends_symbol, enclosed as enclosed_symbols, number, open_mark, separated, Symbol, symbol_of, symbols}
-use Rattle.loc_spec_text.specs.Number.{is_number}
 use Rattle.loc_spec_text.specs.Points.{fraction_text, grid_text, padded_digits, position_text}
 use Rattle.loc_spec_text.proofs.DigitLaws.{digit_range, decimal_digits, plain_digits}
 use Rattle.loc_spec_text.proofs.SymbolLaws.{is_plain, run_first}

@@ -1,18 +1,14 @@
 -- The tree of a written geometry: the number texts of its points, ring by ring.
 use Rattle.std.proofs.Common.{◌≡◌, ◌≢◌, ℕ, true, arith, List, [], ◌∷◌, ◌++◌, map, append-nil, refl, sym, ◌∙◌, ap, inr}
-use Rattle.std.specs.Prelude.{codes}
-use Rattle.std.specs.List.{AllByRecursion}
+use Rattle.std.specs.{Prelude.codes, List.AllByRecursion}
 use Rattle.std.proofs.lemmas.List.{map-append}
-use Rattle.loc_spec_plane.specs.Points.{IsGridPoint, Point}
-use Rattle.loc_spec_plane.specs.Rings.{Ring, Rings}
-use Rattle.loc_spec_text.specs.Bytes.{Text}
+use Rattle.loc_spec_plane.specs.{Points.IsGridPoint, Points.Point, Rings.Ring, Rings.Rings}
+use Rattle.loc_spec_text.specs.{Bytes.Text, Points.grid_text, Points.position_text}
 use Rattle.loc_spec_text.specs.Geometry.{ends_symbol, enclosed as enclosed_symbols, enclosed_or_empty, IsTree, numbers, point, PointText, polygon, Polygon, ring, separated, Symbol, symbols, word}
-use Rattle.loc_spec_text.specs.Points.{grid_text, position_text}
 use Rattle.loc_spec_groups.specs.Groups.{closed_ring}
 use Rattle.loc_spec_groups.specs.GroupTexts.{enclosed, polygon_text, polygons_text, ring_text}
 use Rattle.loc_laws_regroup.specs.Laws.{ArePolygons, IsOpenRing}
-use Rattle.loc_laws_regroup.proofs.Lists.{all_append, all_map}
-use Rattle.loc_laws_regroup.proofs.Symbols.{enclosed_first, position_first}
+use Rattle.loc_laws_regroup.proofs.{Lists.all_append, Lists.all_map, Symbols.enclosed_first, Symbols.position_first}
 
 -- the number texts of a point, of a ring that is closed, of a polygon and of all
 abbrev pub texts_of : ℕ → Point → PointText

@@ -1,14 +1,10 @@
 -- What a written geometry reads as: no word, number or ring of it has a fault, and its values are the points that were written.
 use Rattle.std.proofs.Common.{◌≡◌, ◌≢◌, ℕ, ◌+◌, false, List, [], ◌∷◌, ◌++◌, length, map, flat_map, length-append, Option, None, refl, ap₂, arith}
-use Rattle.std.specs.Prelude.{nat_lt, slice_index_or}
-use Rattle.std.specs.List.{AllByRecursion}
+use Rattle.std.specs.{Prelude.nat_lt, Prelude.slice_index_or, List.AllByRecursion}
 use Rattle.std.proofs.lemmas.Bool.{le-ltb}
 use Rattle.loc_laws_order.proofs.Sides.{same_point_refl}
-use Rattle.loc_spec_plane.specs.Points.{IsGridPoint, Point, point_at}
-use Rattle.loc_spec_plane.specs.Rings.{Ring, Rings}
-use Rattle.loc_spec_text.specs.declared.TextFault.{TextFault}
-use Rattle.loc_spec_text.specs.Bytes.{first_fault}
-use Rattle.loc_spec_text.specs.Geometry.{numbers}
+use Rattle.loc_spec_plane.specs.{Points.IsGridPoint, Points.Point, Points.point_at, Rings.Ring, Rings.Rings}
+use Rattle.loc_spec_text.specs.{declared.TextFault.TextFault, Bytes.first_fault, Geometry.numbers}
 use Rattle.loc_spec_text.specs.Reading.{all_numbers, all_rings, number_fault, position, positions, reading, ring_fault, word_fault}
 use Rattle.loc_spec_text.proofs.ReaderLaws.{IsTree-geometry}
 use Rattle.loc_spec_groups.specs.Groups.{closed_ring, Group}

@@ -8,23 +8,15 @@
 --   DissolvedReads           what the text of the groups of a layer reads as
 --   groups_of, AcceptedReads  the groups of a layer, and what their text reads as where the layer was read
 use Rattle.std.specs.Prelude.{◌≡◌, ◌≢◌, ℕ, ◌≤◌, Bool, true, ℤ, List, [], length, map, Ok, All}
-use Rattle.std.specs.Str.{is_utf8}
-use Rattle.std.specs.List.{AllByRecursion}
-use Rattle.loc_spec_plane.specs.Points.{IsGridPoint, OnGrid}
-use Rattle.loc_spec_plane.specs.Rings.{Ring, Rings}
+use Rattle.std.specs.{Str.is_utf8, List.AllByRecursion}
+use Rattle.loc_spec_plane.specs.{Points.IsGridPoint, Points.OnGrid, Rings.Ring, Rings.Rings, Faces.IsFaces}
 use Rattle.loc_spec_plane.specs.Tables.{Table, IsTable, AllEnds, AllEven, NoConflict, noded_table_of}
-use Rattle.loc_spec_plane.specs.Faces.{IsFaces}
 use Rattle.loc_faces.specs.Subdivision.{face_at, next_at}
 use Rattle.loc_half.specs.HalfEdgeLists.{HalfEdgeLists, AreHalfEdges, next_in}
-use Rattle.loc_spec_text.specs.Bytes.{Text}
+use Rattle.loc_spec_text.specs.{Bytes.Text, Points.grid_text, Reading.Polygons, Reading.reading, declared.Form.Form}
 use Rattle.loc_spec_text.specs.Number.{grid_value, is_in_range, is_number, is_on_grid}
-use Rattle.loc_spec_text.specs.Points.{grid_text}
-use Rattle.loc_spec_text.specs.Reading.{Polygons, reading}
-use Rattle.loc_spec_text.specs.declared.Form.{Form}
-use Rattle.loc_spec_text.specs.declared.Form.TheVariants.{Csv}
-use Rattle.loc_rings.specs.Values.{Feature}
-use Rattle.loc_spec_text.specs.Limits.{most_id_bytes, most_text}
-use Rattle.loc_rings.specs.Layers.{IsLayer}
+use Rattle.loc_spec_text.specs.{declared.Form.TheVariants.Csv, Limits.most_id_bytes, Limits.most_text}
+use Rattle.loc_rings.specs.{Values.Feature, Layers.IsLayer}
 use Rattle.loc_edges.specs.Layers.{layer_rings}
 use Rattle.loc_csvform.specs.Layer.{layer_of}
 use Rattle.loc_spec_groups.specs.Groups.{closed_ring, dissolved, Group, group_polygons, group_table}

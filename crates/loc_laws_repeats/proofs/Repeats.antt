@@ -1,12 +1,8 @@
 -- A list in order: the first member that stands where it stood w places before is the least that stands there more than w times.
 use Rattle.std.proofs.Common.{◌≡◌, ℕ, zero, suc, ◌+◌, ◌-◌, ◌<◌, ◌≤◌, Bool, true, false, cond, List, length, take, get_or, sym, ◌∙◌, ap, subst, inl, inr, arith}
-use Rattle.std.specs.Prelude.{count_by}
-use Rattle.std.specs.Bool.{Decides}
-use Rattle.std.specs.Cmp.{IsStrictWeakOrder}
-use Rattle.std.specs.List.Sorted.{IsSortedBy}
+use Rattle.std.specs.{Prelude.count_by, Bool.Decides, Cmp.IsStrictWeakOrder, List.Sorted.IsSortedBy}
 use Rattle.std.proofs.lemmas.Bool.{both_ways, cases_Bool, cases_lt, false_from_ne_true}
-use Rattle.std.proofs.lemmas.List.{length-take-le, take_all}
-use Rattle.std.proofs.lemmas.List.Sorted.{sorted_far}
+use Rattle.std.proofs.{lemmas.List.length-take-le, lemmas.List.take_all, lemmas.List.Sorted.sorted_far}
 use Rattle.std.proofs.lemmas.List.Sums.{count_by-le-length, count_by_more_no, count_by_more_yes, sum_by-take-le}
 
 module _ {X : Type 0} (p : X → Bool) (xs : List X) (d : X) where

@@ -4,10 +4,8 @@ use Rattle.std.specs.Prelude.{Some, None, nat_lt, cond, find, count_by, pos}
 use Rattle.std.specs.List.{range_with_len, list_all}
 use Rattle.std.proofs.lemmas.Bool.{and_parts, both_ways, true≢false, ltb-true, ltb-false, lt-ltb, le-ltb, false_from_ne_true, not_from_false, cases_lt, cases_eq}
 use Rattle.std.proofs.lemmas.List.Sums.{sum_by-append, count_by-le-length}
-use Rattle.loc_spec_plane.specs.Points.{Point, before, same_point}
-use Rattle.loc_spec_plane.specs.Lists.{is_rising}
+use Rattle.loc_spec_plane.specs.{Points.Point, Points.before, Points.same_point, Lists.is_rising, Places.is_corner_of}
 use Rattle.loc_spec_plane.specs.Tables.{Table, IsTable, corner, corner_numbers}
-use Rattle.loc_spec_plane.specs.Places.{is_corner_of}
 use Rattle.loc_laws_order.proofs.Sides.{before_trans, before_irrefl, same_point-true}
 use Rattle.loc_laws_order.proofs.TableOrder.{corner_before}
 use Rattle.loc_laws_index.proofs.InRange.{found-passes}

@@ -1,33 +1,23 @@
 -- In a true index the search of a point finds its place (Sarnak and Tarjan 1986).
 use Rattle.std.proofs.Common.{◌≡◌, ◌≢◌, ℕ, zero, suc, ◌+◌, ◌-◌, ◌*◌, ◌^◌, ◌<◌, ◌≤◌, Bool, true, false, List, [], ◌∷◌, ◌++◌, length, get_or, refl, sym, ◌∙◌, ap, subst, arith, append_assoc, append-nil, slice_get, ◌⊎◌, inl, inr}
 use Rattle.std.specs.Prelude.{Option, Some, None, Ok, IfSome, find, count_by}
-use Rattle.std.proofs.Math.Pow.{pow_mono}
+use Rattle.std.proofs.{Math.Pow.pow_mono, lemmas.Nat.mul-le, lemmas.List.length-append, lemmas.List.get_or-append-add}
 use Rattle.std.proofs.lemmas.Bool.{and_from, lt-ltb, ltb-false, cases_lt, not-true}
-use Rattle.std.proofs.lemmas.Nat.{mul-le}
-use Rattle.std.proofs.lemmas.List.{length-append, get_or-append-add}
-use Rattle.std.proofs.lemmas.List.FromFn.{length-range_with_len}
-use Rattle.std.proofs.lemmas.List.Sums.{count_by-le-length}
+use Rattle.std.proofs.{lemmas.List.FromFn.length-range_with_len, lemmas.List.Sums.count_by-le-length}
 use Rattle.std.proofs.lemmas.Option.{slice_get_within, get_or_from_slice_get}
 use Rattle.loc_spec_plane.specs.declared.Place.{Place}
 use Rattle.loc_spec_plane.specs.declared.Place.TheVariants.{Corner, Border, Area}
 use Rattle.loc_spec_plane.specs.Points.{Point, is_above, is_on, is_below, before, lies_on}
 use Rattle.loc_spec_plane.specs.Tables.{Table, IsTable, corner, edge, corner_numbers, edge_numbers}
 use Rattle.loc_spec_plane.specs.Places.{alive, alive_at, is_edge, is_corner_of, IsCornerless, IsListAt, IsVersion, IsPlace}
-use Rattle.loc_spec_index.specs.declared.NodeRow.{NodeRow}
+use Rattle.loc_spec_index.specs.{declared.NodeRow.NodeRow, Search.walk, Search.search_from}
 use Rattle.loc_spec_index.specs.Nodes.{Side, Left, Right, Reads, nothing, node, child_of, row_of, led_to, IsShallow}
-use Rattle.loc_spec_index.specs.Search.{walk, search_from}
 use Rattle.loc_spec_index.specs.Content.{Content, table_in, root_of}
-use Rattle.loc_spec_index.specs.TrueIndex.{alive_count, IsTrueIndex}
-use Rattle.loc_spec_index.specs.Laws.{SearchFindsPlace}
-use Rattle.loc_status.specs.Versions.{AreVersions}
-use Rattle.loc_status.proofs.Ends.{at_seam}
-use Rattle.loc_place.specs.Planar.{IsPlanar}
-use Rattle.loc_place.specs.Standing.{IsBehind}
-use Rattle.loc_place.proofs.Cornerless.{lies_on_is}
-use Rattle.loc_place.proofs.Listed.{listed_alive, in_area}
-use Rattle.loc_place.proofs.Versions.{version_there}
-use Rattle.loc_status.specs.Lists.{IsLast}
-use Rattle.loc_status.proofs.Lasts.{last-snoc, last-passes, last_there}
+use Rattle.loc_spec_index.specs.{TrueIndex.alive_count, TrueIndex.IsTrueIndex, Laws.SearchFindsPlace}
+use Rattle.loc_status.specs.{Versions.AreVersions, Lists.IsLast}
+use Rattle.loc_status.proofs.{Ends.at_seam, Lasts.last-snoc, Lasts.last-passes, Lasts.last_there}
+use Rattle.loc_place.specs.{Planar.IsPlanar, Standing.IsBehind}
+use Rattle.loc_place.proofs.{Cornerless.lies_on_is, Listed.listed_alive, Listed.in_area, Versions.version_there}
 use Rattle.loc_laws_index.proofs.FlawKinds.{as_many, as_many_corners}
 use Rattle.loc_laws_search.proofs.Counted.{stands-behind, is-corner}
 use Rattle.loc_laws_search.proofs.Walking.{walk-none, walk-on, walk-left, walk-right, below-else}

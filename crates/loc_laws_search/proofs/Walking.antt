@@ -5,9 +5,8 @@ use Rattle.std.proofs.lemmas.Bool.{both_ways, false_from_ne_true}
 use Rattle.loc_spec_plane.specs.Points.{Edge, Point, is_above, is_on, is_below}
 use Rattle.loc_spec_plane.specs.Tables.{Table, edge}
 use Rattle.loc_spec_plane.specs.declared.Place.TheVariants.{Border, Area}
-use Rattle.loc_spec_index.specs.declared.NodeRow.{NodeRow}
+use Rattle.loc_spec_index.specs.{declared.NodeRow.NodeRow, Search.walk}
 use Rattle.loc_spec_index.specs.Nodes.{Left, Right, child, row_of}
-use Rattle.loc_spec_index.specs.Search.{walk}
 use Rattle.loc_laws_order.proofs.Sides.{above-not_below, on-not_below, on-not_above}
 
 -- a point that is neither on a line nor above it is below

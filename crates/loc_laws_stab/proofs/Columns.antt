@@ -4,8 +4,7 @@ use Rattle.std.proofs.lemmas.Int.{ints}
 use Rattle.loc_algebra.proofs.Ring.{ring, variable, minus, plus, times}
 use Rattle.loc_algebra.proofs.Signs.{product_not_positive}
 use Rattle.loc_spec_plane.specs.Points.{Point, Edge, before, up_to, turn, is_above, is_below}
-use Rattle.loc_laws_order.proofs.Sides.{before_decides, above_decides, below_decides}
-use Rattle.loc_laws_order.proofs.Tests.{up_to_decides}
+use Rattle.loc_laws_order.proofs.{Sides.before_decides, Sides.above_decides, Sides.below_decides, Tests.up_to_decides}
 use Rattle.loc_spec_plane.specs.Spans.{IsSpan}
 
 turn_grows : (ax ay bx by x y z : ℤ) → ax ≤ℤ bx → y ≤ℤ z → ((bx -ℤ ax) *ℤ (y -ℤ ay) -ℤ (by -ℤ ay) *ℤ (x -ℤ ax)) ≤ℤ ((bx -ℤ ax) *ℤ (z -ℤ ay) -ℤ (by -ℤ ay) *ℤ (x -ℤ ax))

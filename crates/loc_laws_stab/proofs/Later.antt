@@ -6,12 +6,9 @@ use Rattle.std.proofs.lemmas.Bool.{and_parts, and_from, and_left, and_right, or_
 use Rattle.loc_spec_plane.specs.Points.{Point, Edge, before, up_to, same_point, is_above, is_below}
 use Rattle.loc_spec_plane.specs.Tables.{Table, IsTable, corner, edge, lo_of, hi_of}
 use Rattle.loc_spec_plane.specs.Places.{alive, alive_at, is_edge, IsCornerless}
-use Rattle.loc_laws_order.proofs.AliveAt.{IsPassed, not_corner}
-use Rattle.loc_laws_order.proofs.Booleans.{same-from_both}
-use Rattle.loc_laws_order.proofs.Forms.{Before, AtMost}
-use Rattle.loc_laws_order.proofs.Sets.{number_swap}
+use Rattle.loc_laws_order.proofs.{AliveAt.IsPassed, AliveAt.not_corner, Booleans.same-from_both}
+use Rattle.loc_laws_order.proofs.{Forms.Before, Forms.AtMost, Sets.number_swap, Tests.up_to_decides, Tests.up_to_trans}
 use Rattle.loc_laws_order.proofs.Sides.{before_decides, before_irrefl, before_trans, before_either, before-differ, before-asym_test, same_point_sym, same_point-true, low_is_on, high_is_on, on-not_above, on-not_below}
-use Rattle.loc_laws_order.proofs.Tests.{up_to_decides, up_to_trans}
 use Rattle.loc_laws_order.proofs.TableOrder.{edge_up, same_corner}
 use Rattle.loc_spec_plane.specs.Spans.{IsSpan, meets, is_met, ends_at_low, is_later}
 use Rattle.loc_laws_stab.proofs.Columns.{above_up, below_down, span_up}

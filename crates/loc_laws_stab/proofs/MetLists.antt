@@ -2,15 +2,12 @@
 use Rattle.std.proofs.Common.{◌≡◌, ℕ, ◌<◌, true, List, [], ◌++◌, length, filter, sym, ◌∙◌, ap}
 use Rattle.std.specs.Prelude.{◌==◌}
 use Rattle.std.proofs.lemmas.Bool.{ltb-true}
-use Rattle.loc_spec_plane.specs.Lists.{is_in}
-use Rattle.loc_spec_plane.specs.Points.{Point}
+use Rattle.loc_spec_plane.specs.{Lists.is_in, Points.Point, Places.IsCornerless}
 use Rattle.loc_spec_plane.specs.Tables.{Table, IsTable, NoConflict, corner, hi_of, edge_numbers}
-use Rattle.loc_spec_plane.specs.Places.{IsCornerless}
 use Rattle.loc_laws_order.proofs.AliveAt.{IsPassed}
 use Rattle.loc_spec_plane.specs.Spans.{IsSpan, IsMetList, met_at, ends_at_low, is_later}
 use Rattle.loc_laws_stab.proofs.Beginning.{begin_list, begins_among, filter_agree, filter_none, in_edges}
-use Rattle.loc_laws_stab.proofs.Later.{later_by_number, ending_by_number, none_ends}
-use Rattle.loc_laws_stab.proofs.Runs.{run_is_sorted}
+use Rattle.loc_laws_stab.proofs.{Later.later_by_number, Later.ending_by_number, Later.none_ends, Runs.run_is_sorted}
 
 module _ (t : Table) (ok : IsTable t) (low high : Point) (span : IsSpan low high) where
   numbered : (e : ℕ) → is_in e (edge_numbers t) ≡ true → e < length t.ends

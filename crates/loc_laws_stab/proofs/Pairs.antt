@@ -3,12 +3,10 @@ use Rattle.std.proofs.Common.{◌≡◌, true, false, ap, ◌∙◌, arith, pos,
 use Rattle.std.proofs.lemmas.Int.{ints}
 use Rattle.std.proofs.lemmas.Bool.{and_parts, and_from, and_left, and_right, both_ways, not_from_false, false_from_ne_true, true_from_ne_false, cases_Bool}
 use Rattle.loc_spec_plane.specs.Points.{Point, Edge, before, up_to, same_point, turn, is_above, is_below, conflict}
-use Rattle.loc_spec_plane.specs.Places.{alive, lower}
-use Rattle.loc_laws_order.proofs.Forms.{Before, AtMost}
+use Rattle.loc_spec_plane.specs.{Places.alive, Places.lower, Spans.IsSpan}
+use Rattle.loc_laws_order.proofs.{Forms.Before, Forms.AtMost, PairLaws.above_passes, PairLaws.higher_ends_above}
 use Rattle.loc_laws_order.proofs.Sides.{before_decides, above_decides, below_decides, above-not_below, above-not_low, turn_low, turn_high}
 use Rattle.loc_laws_order.proofs.Tests.{up_to_decides, alive_up, same_point_decides, up_to_trans}
-use Rattle.loc_laws_order.proofs.PairLaws.{above_passes, higher_ends_above}
-use Rattle.loc_spec_plane.specs.Spans.{IsSpan}
 use Rattle.loc_laws_stab.proofs.Columns.{turn_up, not_back, span_up}
 
 -- a point above the higher edge is above the lower one

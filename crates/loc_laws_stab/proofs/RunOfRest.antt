@@ -4,13 +4,11 @@ use Rattle.std.proofs.Common.{◌≡◌, ℕ, Bool, true, false, not, List, ◌+
 use Rattle.std.proofs.lemmas.Bool.{not-true, not-false, not_from_true, or_right}
 use Rattle.loc_spec_plane.specs.Lists.{is_in, is_rising, IsRisingListOf}
 use Rattle.loc_spec_plane.specs.Points.{Point, is_above, is_below}
-use Rattle.loc_spec_plane.specs.Tables.{Table, NoConflict, edge}
-use Rattle.loc_spec_plane.specs.Places.{IsListAt, lower_of}
+use Rattle.loc_spec_plane.specs.{Tables.Table, Tables.NoConflict, Tables.edge, Places.IsListAt, Places.lower_of}
 use Rattle.loc_spec_plane.specs.Spans.{IsSpan, is_on_line}
 use Rattle.loc_laws_stab.specs.Fronts.{passing_front, passing_back}
 use Rattle.loc_laws_stab.proofs.Fronts.{front_and_back, front_passes, back_fails}
-use Rattle.loc_laws_stab.proofs.Parted.{is_in-append, rising-parts}
-use Rattle.loc_laws_stab.proofs.Runs.{run_is, below_behind}
+use Rattle.loc_laws_stab.proofs.{Parted.is_in-append, Parted.rising-parts, Runs.run_is, Runs.below_behind}
 
 -- the edge does not have the high point below it
 abbrev pub reaches_up : Table → Point → ℕ → Bool

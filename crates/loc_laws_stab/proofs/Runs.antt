@@ -4,21 +4,17 @@ use Rattle.std.proofs.Common.{◌≡◌, ℕ, true, false, not, ◌&&◌, ◌||�
 use Rattle.std.specs.Prelude.{◌==◌, ◌+◌}
 use Rattle.std.specs.List.{list_all}
 use Rattle.std.proofs.lemmas.Bool.{and_parts, and_from, or_cases, or_left, or_right, both_ways, cases_eq, le-ltb, lt-ltb, not-true, not_from_false}
-use Rattle.std.proofs.lemmas.List.Elements.{filter_passes}
-use Rattle.std.proofs.lemmas.List.Sums.{list_all-from_AllPass}
+use Rattle.std.proofs.{lemmas.List.Elements.filter_passes, lemmas.List.Sums.list_all-from_AllPass}
 use Rattle.loc_spec_plane.specs.Lists.{is_in, is_rising, sorted_set, IsRisingListOf}
 use Rattle.loc_spec_plane.specs.Points.{Point, before, up_to, is_above, is_below}
 use Rattle.loc_spec_plane.specs.Tables.{Table, IsTable, NoConflict, edge, edge_numbers}
 use Rattle.loc_spec_plane.specs.Places.{IsListAt, alive_at, is_edge, lower_of}
 use Rattle.loc_laws_order.proofs.AliveAt.{alive_parts, lower_passes, one_is_lower, quiet}
-use Rattle.loc_laws_order.proofs.Booleans.{same-from_both}
-use Rattle.loc_laws_order.proofs.Kept.{is_in-range, is_in-filter}
-use Rattle.loc_laws_order.proofs.Sets.{set_of, all_weaker}
-use Rattle.loc_laws_order.proofs.Sides.{before-asym_test, lower-asym}
+use Rattle.loc_laws_order.proofs.{Booleans.same-from_both, Kept.is_in-range, Kept.is_in-filter}
+use Rattle.loc_laws_order.proofs.{Sets.set_of, Sets.all_weaker, Sides.before-asym_test, Sides.lower-asym}
 use Rattle.loc_laws_order.proofs.Tests.{up_to_trans}
 use Rattle.loc_spec_plane.specs.Spans.{IsSpan, meets, is_met, is_on_line}
-use Rattle.loc_laws_stab.proofs.Columns.{span_up}
-use Rattle.loc_laws_stab.proofs.Pairs.{above_lower, below_higher}
+use Rattle.loc_laws_stab.proofs.{Columns.span_up, Pairs.above_lower, Pairs.below_higher}
 use Rattle.loc_laws_stab.proofs.Parted.{is_in-append, rising-parts, one_list_of}
 
 module _ (t : Table) (low high : Point) where

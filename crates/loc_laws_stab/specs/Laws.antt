@@ -1,7 +1,6 @@
 -- Laws of the edges on a vertical span, as statements. The words: `RunLaw`, `OneMetList`.
 use Rattle.std.specs.Prelude.{◌≡◌, ℕ, true, false, not, List, ◌++◌}
-use Rattle.loc_spec_plane.specs.Lists.{is_in, IsRisingListOf}
-use Rattle.loc_spec_plane.specs.Points.{Point, is_above, is_below}
+use Rattle.loc_spec_plane.specs.{Lists.is_in, Lists.IsRisingListOf, Points.Point, Points.is_above, Points.is_below}
 use Rattle.loc_spec_plane.specs.Tables.{Table, IsTable, NoConflict, edge}
 use Rattle.loc_spec_plane.specs.Places.{IsListAt, lower_of}
 use Rattle.loc_spec_plane.specs.Spans.{IsSpan, IsMetList, met_at, is_on_line}

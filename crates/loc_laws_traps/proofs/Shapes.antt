@@ -2,8 +2,7 @@
 use Rattle.std.proofs.Common.{◌≡◌, ℕ, ◌≤◌, Bool, true, false, ◌&&◌, ◌||◌, refl, inl, inr}
 use Rattle.std.specs.Prelude.{Option, Some, None, nat_le}
 use Rattle.std.proofs.lemmas.Bool.{and_parts, and_from, or_cases, leb-true}
-use Rattle.loc_spec_plane.specs.declared.Trap.{Trap}
-use Rattle.loc_spec_plane.specs.Tables.{Table, lo_of, hi_of}
+use Rattle.loc_spec_plane.specs.{declared.Trap.Trap, Tables.Table, Tables.lo_of, Tables.hi_of}
 use Rattle.loc_spec_plane.specs.Traps.{same_bound, is_trap}
 use Rattle.loc_laws_traps.specs.Sets.{IsCalmSet, up_to_bound, from_bound, spans, is_over_piece, is_under_piece}
 use Rattle.loc_laws_traps.proofs.Turns.{near, far}

@@ -2,13 +2,10 @@
 use Rattle.std.proofs.Common.{◌≡◌, ℕ, ◌<◌, ◌≤◌, Bool, true, false, not, refl, sym, ◌∙◌, subst, ◌⊎◌, inl, inr, arith}
 use Rattle.std.specs.Prelude.{Option, Some, None}
 use Rattle.std.proofs.lemmas.Bool.{both_ways, cases_Bool, cond-true, cond-false, false_from_ne_true}
-use Rattle.loc_spec_plane.specs.declared.Trap.{Trap}
-use Rattle.loc_spec_plane.specs.Points.{before, is_above, is_below}
+use Rattle.loc_spec_plane.specs.{declared.Trap.Trap, Points.before, Points.is_above, Points.is_below, Traps.in_order}
 use Rattle.loc_spec_plane.specs.Tables.{Table, corner, edge, lo_of, hi_of, ends_at}
-use Rattle.loc_spec_plane.specs.Traps.{in_order}
 use Rattle.loc_laws_order.proofs.Sides.{before-asym_test, above-not_below, on-not_above, on-not_below, high_is_on, low_is_on}
-use Rattle.loc_laws_order.proofs.TableOrder.{corner_before}
-use Rattle.loc_laws_order.proofs.PairLaws.{lower_ends_below, higher_ends_above}
+use Rattle.loc_laws_order.proofs.{TableOrder.corner_before, PairLaws.lower_ends_below, PairLaws.higher_ends_above}
 use Rattle.loc_laws_traps.specs.Sets.{IsCalmSet}
 use Rattle.loc_laws_traps.proofs.Facts.{Live, up_of, alive_from, quiet, one_is_lower, not_both_lower, lower_passes, not_above_and_below, above_or_common, beside}
 

@@ -3,20 +3,14 @@ use Rattle.std.proofs.Common.{◌≡◌, ℕ, ◌<◌, Bool, true, false, not, �
 use Rattle.std.specs.Prelude.{nat_lt, ◌==◌}
 use Rattle.std.specs.List.{list_any, list_all}
 use Rattle.std.proofs.lemmas.Bool.{and_parts, and_from, eq-eqb, eqb-true, ltb-true, ne_eqb, not-true, not_from_false, true≢false}
-use Rattle.loc_spec_plane.specs.Lists.{is_in, odd_many}
-use Rattle.loc_spec_plane.specs.Rings.{Rings}
-use Rattle.loc_spec_plane.specs.Tables.{Table, edge_numbers, has}
-use Rattle.loc_spec_plane.specs.Covers.{cover_above}
+use Rattle.loc_spec_plane.specs.{Lists.is_in, Lists.odd_many, Rings.Rings}
+use Rattle.loc_spec_plane.specs.{Tables.Table, Tables.edge_numbers, Tables.has, Covers.cover_above}
 use Rattle.loc_spec_valid.specs.Breaches.{belongs, feature_rings, is_hole, is_nested, is_outside, is_overlap, lies_inside, polygon_of, ring_numbers}
-use Rattle.loc_laws_order.proofs.Booleans.{same-from_both}
-use Rattle.loc_laws_order.proofs.Sets.{number_swap}
-use Rattle.loc_laws_order.proofs.TableOrder.{numbers_within}
-use Rattle.loc_laws_order.proofs.Unique.{all-at}
+use Rattle.loc_laws_order.proofs.{Booleans.same-from_both, Sets.number_swap, TableOrder.numbers_within, Unique.all-at}
 use Rattle.loc_laws_rays.proofs.Parity.{odd_many-agree}
 use Rattle.loc_laws_dissolve.proofs.Prefixes.{one_number}
 use Rattle.loc_laws_valid.specs.Laws.{BreachesByLists, HasOneRing}
-use Rattle.loc_laws_valid.proofs.Inside.{belongs_is, inside_by_list}
-use Rattle.loc_laws_valid.proofs.Placed.{one_exterior}
+use Rattle.loc_laws_valid.proofs.{Inside.belongs_is, Inside.inside_by_list, Placed.one_exterior}
 
 -- tests that agree on the members that pass a guard
 any_agree : (guard f g : ℕ → Bool) (xs : List ℕ) → list_all guard xs ≡ true → ((x : ℕ) → guard x ≡ true → f x ≡ g x) → list_any f xs ≡ list_any g xs

@@ -4,36 +4,28 @@ use Rattle.std.proofs.Common.{◌≡◌, ◌⊎◌, ℕ, zero, suc, pos, ◌+◌
 use Rattle.std.specs.Prelude.{nat_lt, ◌==◌, count_by}
 use Rattle.std.specs.List.{list_any}
 use Rattle.std.proofs.lemmas.Bool.{and_parts, and_from, cases_Bool, cases_eq, cases_order, both_ways, eq-eqb, eqb-true, ne_eqb, false_from_ne_true, lt-ltb, ltb-true, not-true, not_from_false, or_cases, or_left, or_right, true≢false}
-use Rattle.std.proofs.lemmas.List.{append-nil}
-use Rattle.std.proofs.lemmas.List.Folds.{list_any-append}
+use Rattle.std.proofs.{lemmas.List.append-nil, lemmas.List.Folds.list_any-append}
 use Rattle.loc_spec_plane.specs.Points.{Point, Edge, before, same_point, same_edge, is_above, is_on, is_parted, inside, cross, conflict}
 use Rattle.loc_spec_plane.specs.Lists.{exactly_one, is_in, is_rising}
-use Rattle.loc_spec_plane.specs.Rings.{Rings, ring_segments, segments}
+use Rattle.loc_spec_plane.specs.{Rings.Rings, Rings.ring_segments, Rings.segments, Covers.cover_above, Covers.is_over}
 use Rattle.loc_spec_plane.specs.Tables.{Table, IsTable, AllEven, NoConflict, table_by, noded_table_of, cut_at, corner, edge, edge_numbers, ends_at, has, has_odd, hi_of, lo_of, layer_corners, number_of}
-use Rattle.loc_spec_plane.specs.Covers.{cover_above, is_over}
 use Rattle.loc_spec_valid.specs.Breaches.{HasNoCrossing, feature_rings, ring_numbers, ring_table, polygon_table, is_crossing, is_hole, is_pinch, is_nested, is_outside, lies_inside, polygon_of}
-use Rattle.loc_laws_order.proofs.Booleans.{and_swap, same-from_both}
+use Rattle.loc_laws_order.proofs.{Booleans.and_swap, Booleans.same-from_both, Sets.number_swap}
 use Rattle.loc_laws_order.proofs.Forms.{Before, Cross, IsEdge, side_of}
-use Rattle.loc_laws_order.proofs.Sets.{number_swap}
 use Rattle.loc_laws_order.proofs.Sides.{before_decides, on-not_above, same_point_refl}
 use Rattle.loc_laws_order.proofs.TableOrder.{numbers_within, origin_point, same_corner}
 use Rattle.loc_laws_order.proofs.Tests.{cross_decides, cross-conflict, conflict_none, is_on_decides, same_edge_decides}
-use Rattle.loc_laws_rays.proofs.Covering.{any-found}
-use Rattle.loc_laws_rays.proofs.Members.{in_cover, in_numbers}
-use Rattle.loc_laws_rays.proofs.Parity.{odd_many-agree}
+use Rattle.loc_laws_rays.proofs.{Covering.any-found, Members.in_cover, Members.in_numbers, Parity.odd_many-agree}
 use Rattle.loc_laws_order.specs.Numbered.{has_ends}
 use Rattle.loc_laws_noding.specs.Laws.{goes_up, is_good}
-use Rattle.loc_laws_noding.proofs.Layers.{corners_rise, feature_part, layer_good}
-use Rattle.loc_laws_noding.proofs.Marks.{is_hit}
+use Rattle.loc_laws_noding.proofs.{Layers.corners_rise, Layers.feature_part, Layers.layer_good, Marks.is_hit}
 use Rattle.loc_laws_noding.proofs.Noded.{conflict_is_cross, cutting_noded}
 use Rattle.loc_laws_order.proofs.Numbered.{at_number, number_fits}
 use Rattle.loc_laws_noding.proofs.Tables.{all_ends, any_of_pieces, as_many_ends, edge_is_piece, is_table, pieces, segments_part}
 use Rattle.loc_laws_dissolve.proofs.Prefixes.{one_number}
 use Rattle.loc_laws_valid.specs.Laws.{ConflictsCross, GoesThrough, HasOneRing, NoneTwice, NonePinched, NoneOutside, NoneNested, PolygonsCalm, RingsCalm, ring_of}
 use Rattle.loc_laws_valid.proofs.Crossing.{IsPiece, Meeting, Through, changes, every_edge, is_piece, meeting, parted_whole, same_above, some_edge, through, wider}
-use Rattle.loc_laws_valid.proofs.Inside.{inside_by_list}
-use Rattle.loc_laws_valid.proofs.Lower.{crossing_sides}
-use Rattle.loc_laws_valid.proofs.Once.{three_counted}
+use Rattle.loc_laws_valid.proofs.{Inside.inside_by_list, Lower.crossing_sides, Once.three_counted}
 use Rattle.loc_laws_valid.proofs.OneRing.{no_edge, has_is, some_has, single, own_segments, some_ring, one_ring}
 use Rattle.loc_laws_valid.proofs.Placed.{Numbered, numbered, one_exterior}
 

@@ -5,9 +5,8 @@ use Rattle.std.proofs.lemmas.Bool.{and_parts, and_from, cases_Bool, both_ways, f
 use Rattle.std.proofs.lemmas.Int.{ints}
 use Rattle.loc_algebra.proofs.Ring.{ring, variable, minus, times}
 use Rattle.loc_algebra.proofs.Signs.{Opposite, trichotomy, product_positive, product_negative, product_by_zero, positive_from, negative_from, zero_from}
-use Rattle.loc_spec_plane.specs.Lists.{is_rising, exactly_one}
+use Rattle.loc_spec_plane.specs.{Lists.is_rising, Lists.exactly_one, Tables.cut_at}
 use Rattle.loc_spec_plane.specs.Points.{Point, Edge, before, up_to, same_point, same_edge, is_above, is_on, is_below, is_end, lies_on, inside, cross}
-use Rattle.loc_spec_plane.specs.Tables.{cut_at}
 use Rattle.loc_laws_order.proofs.Forms.{Before, AtMost, IsEdge, side_of, LiesOn, Cross}
 use Rattle.loc_laws_order.proofs.Sides.{before_decides, same_point-true, same_point_refl, same-from_neither}
 use Rattle.loc_laws_order.proofs.Tests.{cross_decides, is_above_decides, is_below_decides, is_on_decides, same_edge_decides, up_to_decides}

@@ -2,18 +2,15 @@
 use Rattle.std.proofs.Common.{◌≡◌, ℕ, zero, suc, ◌-◌, ◌<◌, ◌≤◌, Bool, true, ◌||◌, ◌&&◌, List, [], ◌∷◌, length, filter, get_or, map, refl, sym, ◌∙◌, ap, ap₂, subst, inl, inr, arith}
 use Rattle.std.specs.List.{list_any, list_all, flat_map}
 use Rattle.std.proofs.lemmas.Bool.{and_parts, cases_Bool, both_ways, or_cases, or_left, or_right, true≢false}
-use Rattle.std.proofs.lemmas.List.{append-nil, length-append}
-use Rattle.std.proofs.lemmas.List.Concat.{flat_map-append}
+use Rattle.std.proofs.{lemmas.List.append-nil, lemmas.List.length-append, lemmas.List.Concat.flat_map-append}
 use Rattle.std.proofs.lemmas.List.Folds.{list_any-append}
-use Rattle.loc_spec_plane.specs.Lists.{is_rising}
+use Rattle.loc_spec_plane.specs.{Lists.is_rising, Rings.Rings, Rings.ring_segments, Rings.segments}
 use Rattle.loc_spec_plane.specs.Points.{Point, Edge, before, lies_on, same_point}
-use Rattle.loc_spec_plane.specs.Rings.{Rings, ring_segments, segments}
 use Rattle.loc_spec_plane.specs.Tables.{cut_at, layer_corners, neighbour_edges}
 use Rattle.loc_spec_valid.specs.Breaches.{feature_rings}
 use Rattle.loc_laws_order.proofs.Kept.{rising_kept}
 use Rattle.loc_laws_order.proofs.Sides.{before-asym_test, before-differ, same_point-true, same_point_refl}
-use Rattle.loc_laws_noding.proofs.Layers.{any-corners, corners_rise}
-use Rattle.loc_laws_noding.proofs.Pieces.{member_kept}
+use Rattle.loc_laws_noding.proofs.{Layers.any-corners, Layers.corners_rise, Pieces.member_kept}
 use Rattle.loc_laws_valid.specs.Laws.{FewerPieces}
 use Rattle.loc_laws_valid.proofs.OneRing.{all_segments, single}
 

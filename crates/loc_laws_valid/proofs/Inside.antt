@@ -3,18 +3,14 @@ use Rattle.std.proofs.Common.{◌≡◌, ℕ, ◌<◌, Bool, true, false, not, �
 use Rattle.std.specs.Prelude.{nat_lt, ◌==◌}
 use Rattle.std.specs.List.{list_any}
 use Rattle.std.proofs.lemmas.Bool.{and_parts, and_from, and_right, cases_eq, eq-eqb, eqb-true, ne_eqb, ltb-true, or_cases, true≢false}
-use Rattle.loc_spec_plane.specs.Lists.{is_in, exactly_one, odd_many}
-use Rattle.loc_spec_plane.specs.Rings.{Rings}
+use Rattle.loc_spec_plane.specs.{Lists.is_in, Lists.exactly_one, Lists.odd_many, Rings.Rings}
 use Rattle.loc_spec_plane.specs.Tables.{Table, edge, edge_numbers, has, has_odd}
 use Rattle.loc_spec_plane.specs.Places.{alive_at, lower_of}
 use Rattle.loc_spec_plane.specs.Covers.{cover_above, is_over, is_at_or_under}
 use Rattle.loc_spec_valid.specs.Breaches.{belongs, lies_inside, feature_rings, ring_numbers}
-use Rattle.loc_laws_order.proofs.Booleans.{and_swap, same-from_both}
-use Rattle.loc_laws_order.proofs.Sets.{number_swap}
-use Rattle.loc_laws_order.proofs.TableOrder.{numbers_within}
-use Rattle.loc_laws_order.proofs.Unique.{all-at}
-use Rattle.loc_laws_rays.proofs.Covering.{any-found}
-use Rattle.loc_laws_rays.proofs.Members.{in_cover}
+use Rattle.loc_laws_order.proofs.{Booleans.and_swap, Booleans.same-from_both, Sets.number_swap}
+use Rattle.loc_laws_order.proofs.{TableOrder.numbers_within, Unique.all-at}
+use Rattle.loc_laws_rays.proofs.{Covering.any-found, Members.in_cover}
 use Rattle.loc_laws_rays.proofs.Parity.{odd_many-same, odd_many-agree, odd_many-exactly_one, never}
 use Rattle.loc_laws_dissolve.proofs.Prefixes.{one_number}
 use Rattle.loc_laws_valid.specs.Laws.{HasOneRing, InsideByList}

@@ -6,20 +6,15 @@ use Rattle.std.proofs.lemmas.Bool.{cases_Bool, cases_lt, cond-true, cond-false, 
 use Rattle.std.proofs.lemmas.List.{append-nil, get_or-map}
 use Rattle.std.proofs.lemmas.List.Folds.{list_any-append, list_any_at}
 use Rattle.std.proofs.lemmas.List.Sums.{sum_by-append, sum_by-cons}
-use Rattle.loc_spec_plane.specs.declared.Mark.{Mark}
-use Rattle.loc_spec_plane.specs.Points.{Edge, same_edge}
+use Rattle.loc_spec_plane.specs.{declared.Mark.Mark, Points.Edge, Points.same_edge}
 use Rattle.loc_spec_plane.specs.Lists.{exactly_one, is_in, odd_many}
 use Rattle.loc_spec_plane.specs.Rings.{Ring, Rings, ring_segments, segments}
 use Rattle.loc_spec_plane.specs.Tables.{Table, table_by, noded_table_of, cut_at, edge, edge_marks, has, has_odd, layer_corners, layer_segments}
 use Rattle.loc_spec_valid.specs.Breaches.{feature_rings, ring_numbers, ring_table}
-use Rattle.loc_laws_order.proofs.Booleans.{same-from_both}
-use Rattle.loc_laws_order.proofs.TableOrder.{origin_point}
+use Rattle.loc_laws_order.proofs.{Booleans.same-from_both, TableOrder.origin_point, Tests.same_edge_decides}
 use Rattle.loc_laws_rays.proofs.Members.{in_numbers}
-use Rattle.loc_laws_noding.proofs.Counting.{odd_none}
-use Rattle.loc_laws_noding.proofs.Marks.{is_hit, mark_passes}
-use Rattle.loc_laws_noding.proofs.Noded.{cutting_noded}
+use Rattle.loc_laws_noding.proofs.{Counting.odd_none, Marks.is_hit, Marks.mark_passes, Noded.cutting_noded}
 use Rattle.loc_laws_noding.proofs.Tables.{any_of_pieces, as_many_ends, edge_is_piece, pieces}
-use Rattle.loc_laws_order.proofs.Tests.{same_edge_decides}
 use Rattle.loc_laws_valid.specs.Laws.{NoneTwice, OneRing, ring_of}
 
 pub no_edge : Edge

@@ -1,12 +1,10 @@
 -- The rings of a feature and their polygons: each ring of a polygon has a number, with its polygon and whether it is a hole, and a polygon has one exterior.
 use Rattle.std.proofs.Common.{◌≡◌, ℕ, zero, suc, ◌+◌, ◌-◌, ◌<◌, ◌≤◌, Bool, false, not, List, [], ◌∷◌, length, get_or, map, refl, sym, ◌∙◌, ap, inl, inr, arith}
 use Rattle.std.specs.Prelude.{◌==◌}
-use Rattle.std.proofs.Math.Seq.{get_or-append_right}
-use Rattle.std.proofs.lemmas.Bool.{cases_lt, eqb-true, not-false}
+use Rattle.std.proofs.{Math.Seq.get_or-append_right, lemmas.Bool.cases_lt, lemmas.Bool.eqb-true, lemmas.Bool.not-false}
 use Rattle.std.proofs.lemmas.List.{length-append, get_or_append_left, get_or-append-add}
 use Rattle.std.proofs.lemmas.List.FromFn.{get_or-map-range_with_len, length-map-range_with_len}
-use Rattle.loc_spec_plane.specs.Lists.{numbers}
-use Rattle.loc_spec_plane.specs.Rings.{Rings}
+use Rattle.loc_spec_plane.specs.{Lists.numbers, Rings.Rings}
 use Rattle.loc_spec_valid.specs.Breaches.{ring_places, feature_rings}
 
 -- the places of the rings of polygon n

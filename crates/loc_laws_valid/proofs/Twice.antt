@@ -4,25 +4,17 @@ use Rattle.std.specs.Prelude.{nat_lt, count_by, find, Option, Some, None, option
 use Rattle.std.specs.List.{list_any, list_all, flat_map}
 use Rattle.std.proofs.lemmas.Bool.{and_parts, cases_Bool, both_ways, false_from_ne_true, le-ltb, lt-ltb, or_left, or_right}
 use Rattle.std.proofs.lemmas.List.Sums.{sum_by-append, sum_by-cons}
-use Rattle.loc_spec_plane.specs.Lists.{is_rising, numbers}
+use Rattle.loc_spec_plane.specs.{Lists.is_rising, Lists.numbers, Rings.Rings, Rings.segments}
 use Rattle.loc_spec_plane.specs.Points.{Point, Edge, before, edge_before, lies_on, same_edge}
-use Rattle.loc_spec_plane.specs.Rings.{Rings, segments}
 use Rattle.loc_spec_plane.specs.Tables.{Table, table_by, noded_table_of, cut_at, edge, layer_corners, neighbour_edges}
 use Rattle.loc_spec_valid.specs.Breaches.{feature_rings, is_twice, ring_table}
-use Rattle.loc_laws_order.proofs.Kept.{rising_kept}
-use Rattle.loc_laws_order.proofs.TableOrder.{rises}
-use Rattle.loc_laws_order.proofs.Tests.{same_edge_decides}
-use Rattle.loc_laws_noding.proofs.Chains.{edges_rise}
-use Rattle.loc_laws_noding.proofs.Layers.{corners_rise}
-use Rattle.loc_laws_noding.proofs.Noded.{cutting_noded}
-use Rattle.loc_laws_noding.proofs.Orders.{edges_by_before}
+use Rattle.loc_laws_order.proofs.{Kept.rising_kept, TableOrder.rises, Tests.same_edge_decides}
+use Rattle.loc_laws_noding.proofs.{Chains.edges_rise, Layers.corners_rise, Noded.cutting_noded, Orders.edges_by_before}
 use Rattle.loc_laws_noding.proofs.SortedSet.{irrefl}
 use Rattle.loc_laws_noding.proofs.Tables.{any_of_pieces, as_many_ends, edge_is_piece, pieces, pieces_rise}
 use Rattle.loc_laws_repeats.specs.Repeats.{IsFirstTwice}
 use Rattle.loc_laws_valid.specs.Laws.{TwiceByPieces}
-use Rattle.loc_laws_valid.proofs.Calm.{edge_place}
-use Rattle.loc_laws_valid.proofs.Least.{first_at, first_none}
-use Rattle.loc_laws_valid.proofs.Once.{one_if}
+use Rattle.loc_laws_valid.proofs.{Calm.edge_place, Least.first_at, Least.first_none, Once.one_if}
 use Rattle.loc_laws_valid.proofs.OneRing.{all_segments, no_edge, single}
 
 -- ---- an edge is at most one piece of a segment

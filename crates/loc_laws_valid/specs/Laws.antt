@@ -3,12 +3,10 @@
 -- `ring_pieces`, `TwiceByPieces`, `ConflictsCross`, `FewerPieces`, `ByLists`, `BreachesByLists`.
 use Rattle.std.specs.Prelude.{◌≡◌, ◌⊎◌, ℕ, ◌<◌, ◌≤◌, Bool, true, false, not, ◌&&◌, List, [], ◌∷◌, length, get_or, map, find, Option, option_map, unwrap_or, ◌==◌}
 use Rattle.std.specs.List.{flat_map, list_any}
-use Rattle.loc_spec_plane.specs.Lists.{is_in, exactly_one, odd_many}
+use Rattle.loc_spec_plane.specs.{Lists.is_in, Lists.exactly_one, Lists.odd_many, Rings.Rings, Rings.segments}
 use Rattle.loc_spec_plane.specs.Points.{Edge, before, conflict, is_above}
-use Rattle.loc_spec_plane.specs.Rings.{Rings, segments}
 use Rattle.loc_spec_plane.specs.Tables.{Table, IsTable, AllEnds, AllEven, NoConflict, cut_at, edge, edge_numbers, piece_count, lo_of, hi_of, ends_at, has, has_odd}
-use Rattle.loc_spec_plane.specs.Places.{lower, lower_of}
-use Rattle.loc_spec_plane.specs.Covers.{cover_above, is_over}
+use Rattle.loc_spec_plane.specs.{Places.lower, Places.lower_of, Covers.cover_above, Covers.is_over}
 use Rattle.loc_laws_repeats.specs.Repeats.{IsFirstTwice}
 use Rattle.loc_spec_valid.specs.Breaches.{HasNoCrossing, feature_rings, is_crossing, is_twice, is_hole, is_pinch, is_outside, is_nested, is_overlap, lies_inside, polygon_of, polygon_table, ring_numbers, ring_table}
 

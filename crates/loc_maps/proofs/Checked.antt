@@ -1,11 +1,8 @@
 -- The course of a check writes at once, makes no file and searches nothing.
 use Rattle.loc_csvform.specs.Layer.{layer_of}
-use Rattle.loc_course.specs.Courses.{writes}
-use Rattle.loc_course.specs.Outcomes.{exactly}
-use Rattle.loc_course.specs.Sentences.{IsPlain, SearchesNothing}
+use Rattle.loc_course.specs.{Courses.writes, Outcomes.exactly, Sentences.IsPlain, Sentences.SearchesNothing}
 use Rattle.loc_course.proofs.Plain.{plain_reads, plain_refuses, plain_writes}
-use Rattle.loc_maps.specs.Located.{counts_of}
-use Rattle.loc_maps.specs.MapCourses.{LayerFile, check_course, accepted_course}
+use Rattle.loc_maps.specs.{Located.counts_of, MapCourses.LayerFile, MapCourses.check_course, MapCourses.accepted_course}
 use Rattle.loc_maps.proofs.Judged.{accepted_all, layer_all}
 
 pub check_plain : (file : LayerFile) → IsPlain (check_course file)

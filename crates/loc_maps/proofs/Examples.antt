@@ -1,10 +1,7 @@
 -- Examples, computed: counts, conflicts and the lines that name what is wrong with a layer.
 use Rattle.std.proofs.Common.{◌≡◌, List, [], ◌∷◌, true, false, refl, codes}
-use Rattle.std.specs.Prelude.{pos, neg_ℤ}
-use Rattle.std.specs.Fmt.{digits}
-use Rattle.loc_spec_plane.specs.Points.{Edge, point_at, turn}
-use Rattle.loc_spec_plane.specs.Rings.{Ring}
-use Rattle.loc_spec_plane.specs.Tables.{table_by}
+use Rattle.std.specs.{Prelude.pos, Prelude.neg_ℤ, Fmt.digits}
+use Rattle.loc_spec_plane.specs.{Points.Edge, Points.point_at, Points.turn, Rings.Ring, Tables.table_by}
 use Rattle.loc_spec_text.specs.declared.Form.TheVariants as form
 use Rattle.loc_spec_text.specs.declared.TextFault.TheVariants as t
 use Rattle.loc_csvform.specs.declared.faults.LayerFault.TheVariants as l

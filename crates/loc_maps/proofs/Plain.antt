@@ -2,18 +2,14 @@
 use Rattle.std.proofs.Common.{◌≡◌, ◌≤◌, true, List, [], ◌∷◌, ◌++◌, length, refl, sym, ◌∙◌, ap, ap₂, subst, arith}
 use Rattle.std.specs.List.{list_any, flat_map}
 use Rattle.std.proofs.lemmas.Bool.{or_left, or_right}
-use Rattle.loc_spec_plane.specs.Covers.{feature_count}
-use Rattle.loc_spec_plane.specs.Points.{Edge, same_edge}
+use Rattle.loc_spec_plane.specs.{Covers.feature_count, Points.Edge, Points.same_edge}
 use Rattle.loc_spec_plane.specs.Tables.{Table, AllEnds, AllEven, NoConflict, cut_at, layer_corners, layer_segments, table_of, whole}
 use Rattle.loc_laws_order.proofs.Tests.{same_edge_decides}
 use Rattle.loc_laws_noding.proofs.Noded.{plain_is_noded, uncut}
-use Rattle.loc_rings.specs.Layers.{IsLayer}
-use Rattle.loc_rings.specs.Values.{Feature}
+use Rattle.loc_rings.specs.{Layers.IsLayer, Values.Feature}
 use Rattle.loc_edges.specs.Layers.{layer_rings}
-use Rattle.loc_edges.proofs.Counts.{few_pieces}
-use Rattle.loc_edges.proofs.SmallLayers.{few_written_points}
-use Rattle.loc_maps.specs.Located.{table_in}
-use Rattle.loc_maps.specs.Maps.{HasFewPieces, IsTableOf}
+use Rattle.loc_edges.proofs.{Counts.few_pieces, SmallLayers.few_written_points}
+use Rattle.loc_maps.specs.{Located.table_in, Maps.HasFewPieces, Maps.IsTableOf}
 
 -- segments that are their own one pieces have as many pieces as if nothing were cut
 as_whole : (cut : Edge → List Edge) (ss : List Edge) → ((s : Edge) → list_any (same_edge s) ss ≡ true → cut s ≡ whole s) → flat_map cut ss ≡ flat_map whole ss

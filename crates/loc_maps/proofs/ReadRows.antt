@@ -1,22 +1,15 @@
 -- What the told file of a layer comes to, as rows: each refusal, and what comes behind a layer that reads.
 use Rattle.std.proofs.Common.{◌≡◌, ◌<◌, ◌≤◌, List, length, Option, None, Ok, Err, refl, ◌∙◌, ap, inl, inr, codes}
 use Rattle.loc_io.specs.Meaning.{Told, holds}
-use Rattle.loc_spec_text.specs.Bytes.{Text}
-use Rattle.loc_spec_text.specs.Points.{ended}
+use Rattle.loc_spec_text.specs.{Bytes.Text, Points.ended, Limits.most_text}
 use Rattle.loc_rings.specs.Values.{Feature}
-use Rattle.loc_csvform.specs.Layer.{LayerRead, layer_of}
-use Rattle.loc_csvform.specs.declared.faults.LayerFault.{LayerFault}
-use Rattle.loc_course.specs.Courses.{Course, Source}
-use Rattle.loc_course.specs.Moments.{Moment}
+use Rattle.loc_csvform.specs.{Layer.LayerRead, Layer.layer_of, declared.faults.LayerFault.LayerFault}
+use Rattle.loc_course.specs.{Courses.Course, Courses.Source, Moments.Moment, Sentences.EndsSo, Stops.source}
 use Rattle.loc_course.specs.Outcomes.{Outcome, exactly, outcome, refusal}
-use Rattle.loc_course.specs.Sentences.{EndsSo}
-use Rattle.loc_course.specs.Stops.{source}
-use Rattle.loc_course.proofs.Streamed.{long_or_short}
+use Rattle.loc_course.proofs.{Streamed.long_or_short, Texts.long, Texts.short}
 use Rattle.loc_told.proofs.Ends.{not_done}
-use Rattle.loc_course.proofs.Texts.{long, short}
 use Rattle.loc_maps.specs.LineTexts.{layer_fault_text}
 use Rattle.loc_maps.specs.MapCourses.{IsRead, LayerFile, read_course, read_in}
-use Rattle.loc_spec_text.specs.Limits.{most_text}
 
 module _ (told : Text → Told) (file : LayerFile) (next : List Feature → Course) (layer : Text) (is : told file.name ≡ holds layer) where
   abbrev behind : LayerRead → Outcome

@@ -1,9 +1,7 @@
 -- The table of a layer: by its marks it touches and covers what the layer does by its rings.
 use Rattle.std.proofs.Common.{◌≡◌, ℕ, ◌≤◌, List, [], length, get_or, subst}
 use Rattle.std.proofs.lemmas.List.{length-map}
-use Rattle.loc_spec_plane.specs.Points.{Point}
-use Rattle.loc_spec_plane.specs.Rings.{touches, covers}
-use Rattle.loc_spec_plane.specs.Covers.{feature_count}
+use Rattle.loc_spec_plane.specs.{Points.Point, Rings.touches, Rings.covers, Covers.feature_count}
 use Rattle.loc_spec_plane.specs.Tables.{IsTable, cut_at, layer_corners, noded_table_of, touches_by_marks, covers_by_marks}
 use Rattle.loc_laws_noding.proofs.Noded.{cutting_noded}
 use Rattle.loc_laws_noding.proofs.Tables as laws

@@ -1,23 +1,16 @@
 -- The order of points behind numbers along a way, and where in it the points on an edge stand.
 use Rattle.std.proofs.Common.{◌≡◌, ℕ, zero, suc, ◌+◌, ◌<◌, ◌-◌, ◌≤◌, true, false, ◌&&◌, List, [], ◌∷◌, filter, get_or, length, map, take, refl, sym, ◌∙◌, ap, subst, inl, inr, arith, ℤ, pos, ◌<ℤ◌, Ordering, Less, Equal, Greater, int_cmp}
-use Rattle.std.specs.Prelude.{All, int_lt}
-use Rattle.std.specs.Cmp.{int_ranks}
+use Rattle.std.specs.{Prelude.All, Prelude.int_lt, Cmp.int_ranks, List.Sorted.IsSorted, List.Sorted.IsSortedBy}
 use Rattle.std.specs.Ordering.{MatchOrdering, int_eq, is_lt, ordering_then}
-use Rattle.std.specs.List.Sorted.{IsSorted, IsSortedBy}
 use Rattle.std.proofs.lemmas.Bool.{and_from, and_parts, both_ways, cases_Bool, false_from_ne_true, not-true, not_from_false, or_cases, or_left, or_right, true≢false}
-use Rattle.std.proofs.lemmas.Bool.Decides.{Decides-int_eq}
-use Rattle.std.proofs.lemmas.Int.{ints}
-use Rattle.std.proofs.lemmas.List.{get_or-map, length-map}
-use Rattle.std.proofs.lemmas.List.Elements.{All-cons}
+use Rattle.std.proofs.{lemmas.Bool.Decides.Decides-int_eq, lemmas.Int.ints}
+use Rattle.std.proofs.{lemmas.List.get_or-map, lemmas.List.length-map, lemmas.List.Elements.All-cons}
 use Rattle.loc_algebra.proofs.Signs.{trichotomy}
 use Rattle.loc_spec_plane.specs.Points.{Point, Edge, before, up_to, is_on, lies_on}
-use Rattle.loc_laws_order.proofs.Ranks.{point_rank}
-use Rattle.loc_laws_order.proofs.TableOrder.{origin_point}
+use Rattle.loc_laws_order.proofs.{Ranks.point_rank, TableOrder.origin_point, Tests.up_to_trans}
 use Rattle.loc_laws_order.proofs.Sides.{before-asym_test, before_irrefl, before_trans, lt_decides}
-use Rattle.loc_laws_order.proofs.Tests.{up_to_trans}
 use Rattle.loc_laws_noding.specs.Search.{is_parallel, number_along}
-use Rattle.loc_laws_noding.proofs.Orders.{point_cmp, points_by_before}
-use Rattle.loc_laws_noding.proofs.Search.{way_law}
+use Rattle.loc_laws_noding.proofs.{Orders.point_cmp, Orders.points_by_before, Search.way_law}
 use Rattle.loc_laws_noding.proofs.SortedSet.{same_from_neither}
 use Rattle.loc_node.specs.Ways.{IsWayOrder, WayOrder, points_along, way_before}
 use Rattle.loc_node.proofs.Skipping.{fail_all}

@@ -1,16 +1,12 @@
 -- The pieces of tagged segments, one segment more at a time; and those of a layer.
 use Rattle.std.proofs.Common.{◌≡◌, ℕ, suc, ◌+◌, ◌<◌, ◌≤◌, List, [], ◌∷◌, ◌++◌, length, get_or, take, refl, sym, ◌∙◌, ap, ap₂, arith, append-nil}
 use Rattle.std.specs.Prelude.{All, ◌^◌}
-use Rattle.std.specs.List.{flat_map}
-use Rattle.std.specs.List.Sorted.{IsPermutation}
+use Rattle.std.specs.{List.flat_map, List.Sorted.IsPermutation}
 use Rattle.std.proofs.lemmas.List.{length-map, map-append, take_more}
 use Rattle.std.proofs.lemmas.List.Concat.{flat_map-append, length-flat_map}
 use Rattle.std.proofs.lemmas.List.Elements.{All-append, All-cons}
-use Rattle.std.proofs.lemmas.List.Sorted.{sum_by-IsPermutation}
-use Rattle.std.proofs.lemmas.List.Sums.{sum_by_more_le}
-use Rattle.loc_spec_plane.specs.Points.{Edge, edge_before}
-use Rattle.loc_spec_plane.specs.Lists.{sorted_set}
-use Rattle.loc_spec_plane.specs.Rings.{Rings, segments}
+use Rattle.std.proofs.{lemmas.List.Sorted.sum_by-IsPermutation, lemmas.List.Sums.sum_by_more_le}
+use Rattle.loc_spec_plane.specs.{Points.Edge, Points.edge_before, Lists.sorted_set, Rings.Rings, Rings.segments}
 use Rattle.loc_spec_plane.specs.Tables.{cut_at, layer_corners, piece_count}
 use Rattle.loc_laws_noding.proofs.SortedSet.{length-sorted_set}
 use Rattle.loc_edges.specs.Tagged.{segments_in, tagged_by, tagged_from, tagged_pieces}

@@ -1,18 +1,12 @@
 -- Edges between neighbours, one more at a time; and what is kept of a sorted set.
 use Rattle.std.proofs.Common.{◌≡◌, ℕ, zero, suc, ◌+◌, ◌-◌, ◌<◌, ◌≤◌, Bool, true, ◌&&◌, ◌||◌, List, [], ◌∷◌, ◌++◌, filter, get_or, length, take, refl, sym, ◌∙◌, ap, subst, inl, inr, arith}
-use Rattle.std.specs.List.{list_any}
-use Rattle.std.specs.List.Sorted.{IsPermutation}
+use Rattle.std.specs.{List.list_any, List.Sorted.IsPermutation}
 use Rattle.std.proofs.lemmas.Bool.{cases_Bool, cond-true, cond-false}
-use Rattle.std.proofs.lemmas.List.{get_or_default}
-use Rattle.std.proofs.lemmas.List.Sorted.{list_any-IsPermutation}
-use Rattle.loc_spec_plane.specs.Points.{Point, Edge, before}
-use Rattle.loc_spec_plane.specs.Lists.{is_rising, sorted_set}
-use Rattle.loc_spec_plane.specs.Rings.{segment_between}
-use Rattle.loc_spec_plane.specs.Tables.{neighbour_edges}
-use Rattle.loc_laws_order.proofs.Kept.{rising_kept}
-use Rattle.loc_laws_order.proofs.TableOrder.{rises}
-use Rattle.loc_laws_noding.proofs.Lines.{from_to}
-use Rattle.loc_laws_noding.proofs.Orders.{points_by_before}
+use Rattle.std.proofs.{lemmas.List.get_or_default, lemmas.List.Sorted.list_any-IsPermutation}
+use Rattle.loc_spec_plane.specs.{Points.Point, Points.Edge, Points.before, Lists.is_rising, Lists.sorted_set}
+use Rattle.loc_spec_plane.specs.{Rings.segment_between, Tables.neighbour_edges}
+use Rattle.loc_laws_order.proofs.{Kept.rising_kept, TableOrder.rises}
+use Rattle.loc_laws_noding.proofs.{Lines.from_to, Orders.points_by_before}
 use Rattle.loc_laws_noding.proofs.SortedSet.{any-sorted_set, is-sorted_set, rising-sorted_set, same-sorted_set}
 
 -- one point more is one edge more

@@ -1,14 +1,10 @@
 -- The lists of the noded table, as they are made one from another: placed pieces, their edges and sources by corner numbers, and the pieces with their features.
 use Rattle.std.proofs.Common.{◌≡◌, ℕ, ◌<◌, List, [], ◌∷◌, length, map, refl, sym, ◌∙◌, ap, ap₂, subst, arith}
-use Rattle.std.specs.Prelude.{All}
-use Rattle.std.specs.List.Sorted.{IsPermutation, IsSortedBy}
+use Rattle.std.specs.{Prelude.All, List.Sorted.IsPermutation, List.Sorted.IsSortedBy}
 use Rattle.std.proofs.lemmas.List.Sorted.{All-permutation, IsPermutation-refl, length_permutation}
-use Rattle.loc_spec_plane.specs.Points.{Point, Edge, edge_before}
-use Rattle.loc_spec_plane.specs.Lists.{sorted_set}
-use Rattle.loc_spec_plane.specs.Rings.{Rings}
+use Rattle.loc_spec_plane.specs.{Points.Point, Points.Edge, Points.edge_before, Lists.sorted_set, Rings.Rings}
 use Rattle.loc_spec_plane.specs.Tables.{cut_at, layer_corners, number_of, numbered_ends, piece_count, pieces_of, source_in, whole}
-use Rattle.loc_edges.specs.Layers.{AreOfLayer}
-use Rattle.loc_edges.specs.Tagged.{segments_in, tagged_from}
+use Rattle.loc_edges.specs.{Layers.AreOfLayer, Tagged.segments_in, Tagged.tagged_from}
 use Rattle.loc_edges.proofs.Tagged.{in_order as edges_in_order}
 use Rattle.loc_node.specs.Pieces.{cut_tagged, first_with, piece_before, placed_from, with_feature}
 use Rattle.loc_node.proofs.Cutting.{low_features, many_pieces}

@@ -1,8 +1,7 @@
 -- Pieces sorted by their edges and then by their features: the features of an edge stand as they do in the layer.
 use Rattle.std.proofs.Common.{◌≡◌, ℕ, suc, ◌+◌, ◌<◌, ◌≤◌, Bool, true, false, cond, not, ◌&&◌, ◌||◌, List, [], ◌∷◌, ◌++◌, length, get_or, map, refl, sym, ◌∙◌, ap, ap₂, inl, inr, arith, Ordering, Less, Equal, Greater}
 use Rattle.std.specs.Prelude.{◌==◌, nat_lt, filter, count_by, sum_by}
-use Rattle.std.specs.Cmp.{IsTotalOrder}
-use Rattle.std.specs.List.{list_all, list_any, flat_map}
+use Rattle.std.specs.{Cmp.IsTotalOrder, List.list_all, List.list_any, List.flat_map}
 use Rattle.std.specs.List.Sorted.{IsPermutation, IsSorted, IsSortedByKey}
 use Rattle.std.specs.Ordering.{is_lt, nat_cmp, ordering_then}
 use Rattle.std.proofs.lemmas.Bool.{and_from, and_parts, both_ways, cases_Bool, cases_lt, cases_order, cond-true, cond-false, eq-eqb, le-ltb, lt-ltb, ne_eqb, not-true, not_from_false}
@@ -11,13 +10,10 @@ use Rattle.std.proofs.lemmas.List.Folds.{list_any-append}
 use Rattle.std.proofs.lemmas.List.Sorted.{list_any-IsPermutation, ranks_by, sorted_far, sum_by-IsPermutation}
 use Rattle.std.proofs.lemmas.List.Sums.{list_all-from_AllPass, sum_by-append, sum_by-cons}
 use Rattle.loc_spec_plane.specs.Points.{Point, Edge, edge_before, same_edge}
-use Rattle.loc_spec_plane.specs.Lists.{is_rising, sorted_set}
-use Rattle.loc_spec_plane.specs.Rings.{Rings, segments}
+use Rattle.loc_spec_plane.specs.{Lists.is_rising, Lists.sorted_set, Rings.Rings, Rings.segments}
 use Rattle.loc_spec_plane.specs.Tables.{cut_at, layer_corners, layer_segments, numbered_ends, pieces_of, source_in}
-use Rattle.loc_laws_order.proofs.Kept.{rising_kept}
-use Rattle.loc_laws_order.proofs.Tests.{same_edge_decides}
-use Rattle.loc_laws_noding.proofs.Noded.{cutting_noded}
-use Rattle.loc_laws_noding.proofs.Orders.{edge_cmp, edges_by_before}
+use Rattle.loc_laws_order.proofs.{Kept.rising_kept, Tests.same_edge_decides}
+use Rattle.loc_laws_noding.proofs.{Noded.cutting_noded, Orders.edge_cmp, Orders.edges_by_before}
 use Rattle.loc_laws_noding.proofs.SortedSet.{irrefl, same-sorted_set}
 use Rattle.loc_edges.specs.Layers.{AreOfLayer}
 use Rattle.loc_edges.specs.Tagged.{features_of, segments_in, tagged_by, tagged_from, tagged_pieces}

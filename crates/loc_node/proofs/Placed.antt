@@ -5,19 +5,14 @@ use Rattle.std.specs.List.{list_any, dedup, dedup_from}
 use Rattle.std.specs.List.Sorted.{IsPermutation, IsSorted, IsSortedBy}
 use Rattle.std.specs.Ordering.{is_lt, nat_cmp, ordering_then}
 use Rattle.std.proofs.lemmas.Bool.{and_from, and_parts, both_ways, cases_Bool, cases_lt, cond-true, cond-false, eq-eqb, eqb-true, false_from_ne_true, lt-ltb, or_cases, or_left, or_right, true≢false}
-use Rattle.std.proofs.lemmas.Cmp.{by_ranked}
+use Rattle.std.proofs.{lemmas.Cmp.by_ranked, lemmas.List.Concat.flat_map_single, lemmas.List.Elements.All-cons}
 use Rattle.std.proofs.lemmas.List.{map-append, map-id, length-map, get_or-map}
-use Rattle.std.proofs.lemmas.List.Concat.{flat_map_single}
-use Rattle.std.proofs.lemmas.List.Elements.{All-cons}
 use Rattle.std.proofs.lemmas.List.Folds.{list_any-append, list_any_at}
 use Rattle.std.proofs.lemmas.List.Sorted.{IsPermutation-map, IsPermutation-trans, list_any-IsPermutation, ranks_by, sorted_far}
-use Rattle.loc_spec_plane.specs.Points.{Edge, edge_before, same_edge}
-use Rattle.loc_spec_plane.specs.Lists.{sorted_set}
-use Rattle.loc_spec_plane.specs.Rings.{Rings}
+use Rattle.loc_spec_plane.specs.{Points.Edge, Points.edge_before, Points.same_edge, Lists.sorted_set, Rings.Rings}
 use Rattle.loc_spec_plane.specs.Tables.{layer_segments, pieces_of, source_in, whole}
 use Rattle.loc_laws_order.proofs.Tests.{same_edge_decides}
-use Rattle.loc_laws_noding.proofs.Noded.{number_in}
-use Rattle.loc_laws_noding.proofs.Orders.{edge_cmp, edges_by_before}
+use Rattle.loc_laws_noding.proofs.{Noded.number_in, Orders.edge_cmp, Orders.edges_by_before}
 use Rattle.loc_laws_noding.proofs.SortedSet.{less, same_from_neither}
 use Rattle.loc_edges.specs.Tagged.{segments_in, tagged_by}
 use Rattle.loc_edges.proofs.EdgeRows.{edges_left}

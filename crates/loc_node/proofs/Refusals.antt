@@ -1,7 +1,6 @@
 -- Why segments are refused, as it is handed on.
 use Rattle.std.proofs.Common.{ℕ, ◌≤◌, arith, Result, Ok, Err}
-use Rattle.std.specs.Prelude.{IfErr}
-use Rattle.std.specs.Result.{IsErrAnd}
+use Rattle.std.specs.{Prelude.IfErr, Result.IsErrAnd}
 use Rattle.loc_node.specs.declared.fault.NodeFault.{NodeFault}
 use Rattle.loc_node.specs.declared.fault.NodeFault.TheVariants.{ManyPieces, NoMemory}
 use Rattle.loc_node.specs.Pieces.{IsRefused}

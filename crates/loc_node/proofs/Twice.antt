@@ -1,27 +1,22 @@
 -- The first of pieces in order that stands there more than once.
 use Rattle.std.proofs.Common.{◌≡◌, ℕ, ◌+◌, ◌-◌, ◌<◌, ◌≤◌, true, false, cond, List, [], ◌∷◌, length, take, get_or, refl, sym, ◌∙◌, ap, subst, inl, inr, arith}
 use Rattle.std.specs.Prelude.{count_by, sum_by, Option, Some, None}
-use Rattle.std.specs.Cmp.{IsStrictWeakOrder}
-use Rattle.std.specs.List.Sorted.{IsPermutation, IsSortedBy}
+use Rattle.std.specs.{Cmp.IsStrictWeakOrder, List.Sorted.IsPermutation, List.Sorted.IsSortedBy}
 use Rattle.std.proofs.lemmas.Bool.{both_ways, cases_Bool, false_from_ne_true}
 use Rattle.std.proofs.lemmas.List.{get_or-map, length-map, length-take}
 use Rattle.std.proofs.lemmas.List.Sums.{count_by-le-length, sum_by-append, sum_by-cons}
 use Rattle.std.proofs.lemmas.List.Sorted.{sum_by-IsPermutation}
-use Rattle.loc_spec_plane.specs.Points.{Edge, edge_before, same_edge}
-use Rattle.loc_spec_plane.specs.Rings.{Rings}
+use Rattle.loc_spec_plane.specs.{Points.Edge, Points.edge_before, Points.same_edge, Rings.Rings}
 use Rattle.loc_spec_plane.specs.Tables.{cut_at, layer_corners}
 use Rattle.loc_laws_repeats.specs.Repeats.{IsFirstTwice}
 use Rattle.loc_laws_repeats.proofs.Repeats.{few_all, few_before, few_more, many_at}
-use Rattle.loc_laws_order.proofs.TableOrder.{origin_point}
-use Rattle.loc_laws_order.proofs.Tests.{same_edge_decides}
+use Rattle.loc_laws_order.proofs.{TableOrder.origin_point, Tests.same_edge_decides}
 use Rattle.loc_laws_noding.proofs.Orders.{edges_by_before}
 use Rattle.loc_laws_noding.proofs.SortedSet.{from_less, less, same_from_neither}
 use Rattle.loc_edges.specs.Tagged.{segments_in, tagged_from}
 use Rattle.loc_node.specs.Pieces.{cut_tagged, layer_pieces, placed_from}
 use Rattle.loc_edges.proofs.Tagged.{segments_in-pieces}
-use Rattle.loc_node.proofs.Cutting.{cut_layer, own}
-use Rattle.loc_node.proofs.NodedLists.{edges_kept}
-use Rattle.loc_node.proofs.Placed.{featured_are}
+use Rattle.loc_node.proofs.{Cutting.cut_layer, Cutting.own, NodedLists.edges_kept, Placed.featured_are}
 
 no_edge : Edge
 no_edge = record { lo = origin_point; hi = origin_point }

@@ -2,8 +2,7 @@
 use Rattle.std.specs.Prelude.{ℕ, ◌<◌, nat_lt, Bool, ◌&&◌, ◌||◌, List, map, find, unwrap_or, slice_index_or}
 use Rattle.std.specs.List.{flat_map, list_any, enumerate_from}
 use Rattle.loc_spec_text.specs.Limits.{most_pieces}
-use Rattle.loc_spec_plane.specs.Points.{Edge, edge_before, same_edge}
-use Rattle.loc_spec_plane.specs.Rings.{Rings}
+use Rattle.loc_spec_plane.specs.{Points.Edge, Points.edge_before, Points.same_edge, Rings.Rings}
 use Rattle.loc_spec_plane.specs.Tables.{cut_at, layer_corners, layer_segments}
 use Rattle.loc_edges.specs.Tagged.{tagged_by}
 use Rattle.loc_node.specs.declared.fault.NodeFault.{NodeFault}

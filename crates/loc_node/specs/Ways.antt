@@ -1,7 +1,6 @@
 -- The corners along a way. The words: `WayOrder`, `way_before`, `points_along`, `IsWayOrder`.
 use Rattle.std.specs.Prelude.{◌≡◌, ℤ, int_lt, Bool, ◌&&◌, ◌||◌, List, map, All, IsTrue}
-use Rattle.std.specs.Ordering.{int_eq}
-use Rattle.std.specs.List.Sorted.{IsSortedBy}
+use Rattle.std.specs.{Ordering.int_eq, List.Sorted.IsSortedBy}
 use Rattle.loc_spec_plane.specs.Points.{Point, Edge, before}
 use Rattle.loc_laws_noding.specs.Search.{number_along}
 

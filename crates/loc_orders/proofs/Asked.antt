@@ -1,13 +1,11 @@
 -- How far reading an order comes along a course.
 use Rattle.std.proofs.Common.{◌≡◌, ℕ, Bool, List, Some, Result, Ok, Err, refl, sym, subst}
-use Rattle.loc_spec_text.specs.Bytes.{Text}
-use Rattle.loc_spec_text.specs.Points.{ended}
+use Rattle.loc_spec_text.specs.{Bytes.Text, Points.ended}
 use Rattle.loc_course.specs.Courses.{Source, Course, reads, refuses, refused}
 use Rattle.loc_course.specs.Following.{Moment, Follows, lacks, refuses_by}
 use Rattle.loc_course.specs.Outcomes.{exactly}
 use Rattle.loc_course.proofs.Told.{exactly_it}
-use Rattle.loc_trapdag.specs.Orders.{IsFaultOf, order_of}
-use Rattle.loc_trapdag.specs.declared.order.OrderFault.{OrderFault}
+use Rattle.loc_trapdag.specs.{Orders.IsFaultOf, Orders.order_of, declared.order.OrderFault.OrderFault}
 use Rattle.loc_trapdag.specs.declared.order.OrderFault.TheVariants.{NotNumber, OutOfRange, Twice, Missing, NoMemory}
 use Rattle.loc_spec_asked.specs.Orders.{AskedOrder, in_file, shuffled_from}
 use Rattle.loc_orders.specs.declared.given.GivenOrder.{GivenOrder}

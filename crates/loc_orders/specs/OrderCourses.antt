@@ -1,11 +1,7 @@
 -- The course that reads the order of edges that is asked for. The words: `IsGivenOrder`, `order_given`, `order_in`, `order_course`, `asked_course`.
 use Rattle.std.specs.Prelude.{ℕ, List, Result, Ok, Err, ⊤, codes}
-use Rattle.loc_spec_text.specs.Bytes.{Text}
-use Rattle.loc_spec_text.specs.Points.{ended}
-use Rattle.loc_course.specs.Courses.{Course, refuses, reads}
-use Rattle.loc_course.specs.Outcomes.{exactly}
-use Rattle.loc_course.specs.Stops.{source}
-use Rattle.loc_spec_text.specs.Limits.{most_text}
+use Rattle.loc_spec_text.specs.{Bytes.Text, Points.ended, Limits.most_text}
+use Rattle.loc_course.specs.{Courses.Course, Courses.refuses, Courses.reads, Outcomes.exactly, Stops.source}
 use Rattle.loc_spec_asked.specs.Orders.{AskedOrder, in_file, shuffled_from}
 use Rattle.loc_trapdag.specs.Orders.{IsOrder, order_of, shuffled_order}
 use Rattle.loc_trapdag.specs.declared.order.OrderFault.{OrderFault}

@@ -2,9 +2,9 @@
 
 ghost use Rattle.std.specs.Prelude.{◌≤◌, IfOk, List, ℕ, length};
 ghost use Rattle.loc_spec_asked.specs.Orders.{asked_order};
-ghost use Rattle.loc_io.specs.Streams.{Stream};
 ghost use Rattle.loc_course.specs.Courses.{Course};
-ghost use Rattle.loc_course.specs.Following.{Moment, moment};
+ghost use Rattle.loc_course.specs.Following.{Moment};
+ghost use Rattle.loc_course.specs.Runs.{GoesOnFiles};
 ghost use Rattle.loc_course.specs.Stops.{GoesOn};
 ghost use Rattle.loc_spec_text.specs.Limits.{most_text};
 ghost use Rattle.loc_trapdag.specs.Orders.{IsOrder, order_of};
@@ -35,9 +35,7 @@ fn read_order_in(alloc: Global, text: &[u8], edges: u32) -> Result<Order, Stop>
 
 // Reads the file of an order of so many edges.
 fn read_order<F: Shelf>(alloc: Global, shelf: &mut F, name: &str, edges: u32) -> Result<Order, Stop>
-    ensures goes_on { (next : List ℕ → Course) (o : Stream) (k : ℕ) → GoesOn (order_course name.now edges next)
-        (moment (F.meaning shelf.old) o k) next
-        (moment (F.meaning shelf.new) o k) result }
+    ensures goes_on { GoesOnFiles (order_course name.now edges) (λ next. next) F.meaning shelf result }
     ensures permutation { IfOk result (IsOrder edges) }
 {
     let text = read_source(alloc, shelf, name, MOST_TEXT, b"order: too long")?;
@@ -51,10 +49,8 @@ pub fn read_order_file<F: Shelf>(
     order: EdgeOrder<'_>,
     edges: u32,
 ) -> Result<GivenOrder, Stop>
-    ensures goes_on { (next : GivenOrder → Course) (o : Stream) (k : ℕ)
-        → GoesOn (asked_course (asked_order order.entry) edges next)
-        (moment (F.meaning shelf.old) o k) next
-        (moment (F.meaning shelf.new) o k) result }
+    ensures goes_on { GoesOnFiles (asked_course (asked_order order.entry) edges) (λ next. next)
+        F.meaning shelf result }
     ensures permutation { IfOk result (IsGivenOrder edges) }
 {
     match order {

@@ -1,10 +1,8 @@
 -- The making of a whole file: it was begun, its text came into it, and it was ended.
 use Rattle.std.proofs.Common.{◌≡◌, ◌≢◌, ◌⊎◌, ℕ, ◌≤◌, arith, List, [], ◌++◌, Option, Some, None, Result, Ok, Err, sym, ◌∙◌, ap, append-nil, subst, inl, inr}
 use Rattle.std.specs.Io.KnownBytes.{Appends}
-use Rattle.loc_io.specs.declared.failed.Failed.{Failed}
-use Rattle.loc_io.specs.Causes.{Rose}
+use Rattle.loc_io.specs.{declared.failed.Failed.Failed, Causes.Rose, Reading.WroteFront}
 use Rattle.loc_io.specs.Meaning.{Meaning, Told, untold, absent, holds, bytes_of, Creates, CreatesFile, Finishes}
-use Rattle.loc_io.specs.Reading.{WroteFront}
 use Rattle.loc_io.proofs.Reading.{in_time_by}
 use Rattle.loc_page.specs.Making.{Grew, Broke}
 use Rattle.loc_page.specs.Writing.{IsToldAtMost, IsWhole, IsFront, WritesFile}

@@ -1,8 +1,6 @@
 -- Bytes that come into a file one piece after the other.
 use Rattle.std.proofs.Common.{◌≡◌, ℕ, ◌≤◌, true, List, [], ◌++◌, take, drop, Result, Ok, Err, refl, sym, ◌∙◌, ap, append_assoc, append-nil, subst, take-append-drop}
-use Rattle.loc_io.specs.declared.failed.Failed.{Failed}
-use Rattle.loc_io.specs.declared.sink.WriteFault.{WriteFault}
-use Rattle.loc_io.specs.Causes.{Rose}
+use Rattle.loc_io.specs.{declared.failed.Failed.Failed, declared.sink.WriteFault.WriteFault, Causes.Rose}
 use Rattle.loc_io.specs.Meaning.{Meaning, KeepsReading, NoneLate, Writes, bytes_of}
 use Rattle.loc_io.proofs.Appending.{Appends-more, appends-none, front-of, front-behind}
 use Rattle.loc_io.proofs.Reading.{in_time_by}

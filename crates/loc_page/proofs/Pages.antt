@@ -1,11 +1,8 @@
 -- Texts that are put on a page one after the other.
-use Rattle.std.specs.Prelude.{OnOk}
+use Rattle.std.specs.{Prelude.OnOk, Io.KnownBytes.Appends}
 use Rattle.std.proofs.Common.{◌≡◌, ℕ, ◌+◌, ◌<◌, ◌≤◌, List, [], ◌∷◌, ◌++◌, length, drop, get_or, Result, Ok, Err, refl, sym, ◌∙◌, ap, append_assoc, append-nil, subst, arith}
 use Rattle.std.proofs.lemmas.List.{at_drop_more, drop_all}
-use Rattle.std.specs.Io.KnownBytes.{Appends}
-use Rattle.loc_io.specs.declared.sink.WriteFault.{WriteFault}
-use Rattle.loc_io.specs.Causes.{HasCause, Rose}
-use Rattle.loc_io.specs.Reading.{WroteFront}
+use Rattle.loc_io.specs.{declared.sink.WriteFault.WriteFault, Causes.HasCause, Causes.Rose, Reading.WroteFront}
 use Rattle.loc_io.specs.Streams.{Stream, TakesAll}
 use Rattle.loc_io.proofs.Appending.{Appends-more, in_time_after, appends-none, front-of, front-behind}
 use Rattle.loc_page.specs.Puts.{Fails, IsSteady, Passes, PutsText}

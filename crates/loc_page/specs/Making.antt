@@ -6,9 +6,8 @@
 --   PutsBytes    likewise by the result of a call: these bytes were put behind what was held, or a write failed
 use Rattle.std.specs.Prelude.{◌≡◌, ◌≢◌, ℕ, ◌≤◌, true, List, ◌++◌, Some, Result, OnOk, OnErr}
 use Rattle.std.specs.Io.KnownBytes.{Appends}
-use Rattle.loc_io.specs.Causes.{Rose}
+use Rattle.loc_io.specs.{Causes.Rose, Reading.WroteFront}
 use Rattle.loc_io.specs.Meaning.{Meaning, KeepsReading, NoneLate, bytes_of}
-use Rattle.loc_io.specs.Reading.{WroteFront}
 
 -- the bytes came behind those of the file that is being made, where they are told; no write failed, and no other file changed
 pub record Grew (text : List ℕ) (old new : Meaning) : Type 0 where

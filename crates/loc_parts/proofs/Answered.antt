@@ -1,19 +1,14 @@
 -- What the rows of a part name at the place of a point, by the numbers of the layer.
 use Rattle.std.proofs.Common.{◌≡◌, ℕ, zero, suc, ◌<◌, Bool, true, false, ◌&&◌, List, [], ◌∷◌, length, get_or, filter, Option, Some, None, refl, sym, ◌∙◌, ap, ap₂, subst, inl, inr, arith}
 use Rattle.std.specs.Prelude.{nat_lt}
-use Rattle.std.proofs.lemmas.Bool.{and_left, cases_lt, ltb-true}
-use Rattle.std.proofs.lemmas.List.{get_or_past}
+use Rattle.std.proofs.{lemmas.Bool.and_left, lemmas.Bool.cases_lt, lemmas.Bool.ltb-true, lemmas.List.get_or_past}
 use Rattle.loc_spec_plane.specs.declared.Place.{Place}
 use Rattle.loc_spec_plane.specs.declared.Place.TheVariants.{Corner, Border, Area}
-use Rattle.loc_spec_plane.specs.Lists.{is_in, is_rising, numbers}
-use Rattle.loc_spec_plane.specs.Places.{IsPlace}
-use Rattle.loc_spec_plane.specs.Points.{Point}
+use Rattle.loc_spec_plane.specs.{Lists.is_in, Lists.is_rising, Lists.numbers, Places.IsPlace, Points.Point}
 use Rattle.loc_spec_plane.specs.Rings.{Rings, touches, covers}
 use Rattle.loc_spec_plane.specs.Tables.{Table, IsTable, covers_by_marks, touches_by_marks}
 use Rattle.loc_spec_plane.proofs.Checks.{is_in-past}
-use Rattle.loc_laws_order.proofs.Kept.{numbers_rise, rising_kept}
-use Rattle.loc_laws_order.proofs.TableOrder.{numbers_within}
-use Rattle.loc_laws_order.proofs.Unique.{rising-unique}
+use Rattle.loc_laws_order.proofs.{Kept.numbers_rise, Kept.rising_kept, TableOrder.numbers_within, Unique.rising-unique}
 use Rattle.loc_laws_rays.proofs.Members.{in_numbers, is_in-filter}
 use Rattle.loc_laws_any.specs.Unions.{by_place, part_of, passing}
 use Rattle.loc_laws_any.proofs.Joining.{part_answers}

@@ -1,7 +1,6 @@
 -- Rings that are copied polygon by polygon.
 use Rattle.std.proofs.Common.{ℕ, ◌+◌, ◌-◌, ◌≤◌, [], ◌∷◌, ◌++◌, length, take, drop, slice_range, ap, arith, length-append}
-use Rattle.std.proofs.lemmas.List.{append-nil, length-take}
-use Rattle.std.proofs.lemmas.Grind.{flat_map-append}
+use Rattle.std.proofs.{lemmas.List.append-nil, lemmas.List.length-take, lemmas.Grind.flat_map-append}
 use Rattle.loc_spec_plane.specs.Rings.{Rings}
 use Rattle.loc_spec_text.specs.Reading.{Polygons, all_rings}
 use Rattle.loc_rings.specs.Values.{rings_before}

@@ -5,8 +5,7 @@ use Rattle.loc_spec_plane.specs.Tables.{Table, AllEnds, AllEven, noded_table_of,
 use Rattle.loc_rings.specs.Values.{Feature}
 use Rattle.loc_edges.specs.Layers.{layer_rings}
 use Rattle.loc_spec_text.specs.Limits.{most_members, most_pieces}
-use Rattle.loc_maps.specs.Located.{table_in}
-use Rattle.loc_maps.specs.Maps.{IsTableOf}
+use Rattle.loc_maps.specs.{Located.table_in, Maps.IsTableOf}
 use Rattle.loc_parts.specs.Faults.{HasConflict, IsFaultOf, IsRefusedBy}
 use Rattle.loc_parts.specs.declared.fault.PlaneFault.{PlaneFault}
 use Rattle.loc_parts.specs.declared.fault.PlaneFault.TheVariants as f

@@ -1,8 +1,7 @@
 -- Members by flags: what a test of all members, an order and a map of them say of those with a flag.
 use Rattle.std.proofs.Common.{◌≡◌, ℕ, suc, ◌+◌, ◌<◌, ◌≤◌, Bool, true, false, ◌||◌, cond, List, [], ◌∷◌, ◌++◌, length, map, filter, get_or, take, refl, sym, ◌∙◌, ap, arith}
 use Rattle.std.specs.List.{list_all, list_any, zip}
-use Rattle.std.proofs.lemmas.Bool.{and_from, and_parts}
-use Rattle.std.proofs.lemmas.List.{length-take-le, take_more}
+use Rattle.std.proofs.{lemmas.Bool.and_from, lemmas.Bool.and_parts, lemmas.List.length-take-le, lemmas.List.take_more}
 use Rattle.loc_spec_plane.specs.Lists.{is_rising}
 use Rattle.loc_rings.specs.Flags.{flagged, unflagged}
 use Rattle.loc_rings.proofs.Flags.{chosen, flags-more}

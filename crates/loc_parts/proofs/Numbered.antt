@@ -1,9 +1,7 @@
 -- All numbers of a layer, and the features with them.
 use Rattle.std.proofs.Common.{◌≡◌, ℕ, zero, suc, ◌+◌, Bool, true, false, not, ◌&&◌, ◌||◌, List, [], ◌∷◌, length, get_or, refl, sym, ◌∙◌, ap, arith}
-use Rattle.std.specs.Prelude.{nat_lt}
-use Rattle.std.specs.List.{list_all, list_any, range_with_len}
-use Rattle.std.proofs.lemmas.Bool.{and_from, le-ltb, lt-ltb}
-use Rattle.std.proofs.lemmas.List.FromFn.{fill_by_all}
+use Rattle.std.specs.{Prelude.nat_lt, List.list_all, List.list_any, List.range_with_len}
+use Rattle.std.proofs.{lemmas.Bool.and_from, lemmas.Bool.le-ltb, lemmas.Bool.lt-ltb, lemmas.List.FromFn.fill_by_all}
 use Rattle.loc_spec_plane.specs.Lists.{is_in, numbers}
 use Rattle.loc_laws_order.proofs.Kept.{is_in-range, numbers_rise}
 use Rattle.loc_rings.specs.Values.{Feature}

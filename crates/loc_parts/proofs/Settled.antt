@@ -1,11 +1,9 @@
 -- Features of a layer go into a part or are left, until none is in no part.
 use Rattle.std.proofs.Common.{◌≡◌, ◌+◌, ℕ, Bool, true, false, ◌||◌, List, [], ◌∷◌, ◌++◌, length, map, get_or, refl, sym, ◌∙◌, ap, subst, arith}
-use Rattle.std.specs.Prelude.{nat_lt}
-use Rattle.std.specs.List.{list_any, sum_by}
+use Rattle.std.specs.{Prelude.nat_lt, List.list_any, List.sum_by}
 use Rattle.std.proofs.lemmas.List.{length-map, map-append}
 use Rattle.std.proofs.lemmas.List.Elements.{All-nil, All-push}
-use Rattle.std.proofs.lemmas.List.Sums.{sum_by-append, sum_by-cons}
-use Rattle.std.proofs.lemmas.List.Folds.{list_any-append}
+use Rattle.std.proofs.{lemmas.List.Sums.sum_by-append, lemmas.List.Sums.sum_by-cons, lemmas.List.Folds.list_any-append}
 use Rattle.loc_spec_plane.specs.Lists.{is_in, numbers}
 use Rattle.loc_rings.specs.Values.{Feature}
 use Rattle.loc_edges.specs.Layers.{layer_rings}
@@ -14,8 +12,7 @@ use Rattle.loc_treeidx.specs.Meaning.{meaning_of}
 use Rattle.loc_maps.specs.Maps.{IsMapOf}
 use Rattle.loc_spans.specs.Boxes.{IsBoxed}
 use Rattle.loc_parts.specs.Parts.{AreNumbersOf, IsLeftOf, IsPartOf, IsPartedBut, IsRestOf, features_with, no_rings, numbers_in}
-use Rattle.loc_parts.specs.declared.parts.Left.{Left}
-use Rattle.loc_parts.specs.declared.parts.Part.{Part}
+use Rattle.loc_parts.specs.{declared.parts.Left.Left, declared.parts.Part.Part}
 use Rattle.loc_parts.proofs.Numbered.{all_features, all_numbers, in_all}
 
 -- of lists in two rows, one goes from those that are in no row to the end of the first, or of the second

@@ -1,7 +1,6 @@
 -- Why a layer has no plane. The words: `HasConflict`, `IsFaultOf`, `IsRefusedBy`.
 use Rattle.std.specs.Prelude.{◌≡◌, ℕ, ◌<◌, List, length, IsTrue}
-use Rattle.loc_spec_plane.specs.Covers.{cover_sum}
-use Rattle.loc_spec_plane.specs.Points.{conflict}
+use Rattle.loc_spec_plane.specs.{Covers.cover_sum, Points.conflict}
 use Rattle.loc_spec_plane.specs.Tables.{Table, NoConflict, edge, piece_count}
 use Rattle.loc_rings.specs.Values.{Feature}
 use Rattle.loc_edges.specs.Layers.{layer_rings}

@@ -17,9 +17,7 @@ use Rattle.loc_sweep.specs.Swept.{IsSwept}
 use Rattle.loc_treeidx.specs.Meaning.{meaning_of}
 use Rattle.loc_maps.specs.Maps.{IsMapOf}
 use Rattle.loc_spans.specs.Boxes.{IsBoxed}
-use Rattle.loc_parts.specs.declared.parts.Left.{Left}
-use Rattle.loc_parts.specs.declared.parts.Part.{Part}
-use Rattle.loc_parts.specs.declared.parts.Parted.{Parted}
+use Rattle.loc_parts.specs.{declared.parts.Left.Left, declared.parts.Part.Part, declared.parts.Parted.Parted}
 
 -- a feature without an id that has no rings
 abbrev pub no_rings : Feature

@@ -1,11 +1,8 @@
 -- The rows of versions by number are within their bounds.
 use Rattle.std.proofs.Common.{◌≡◌, ◌≤◌, ◌<◌, ℕ, true, false, refl, length, ◌∙◌, ap, sym, subst, arith}
 use Rattle.std.specs.Prelude.{Option, Some, None}
-use Rattle.loc_pool.specs.declared.Link.{Link}
-use Rattle.loc_pool.specs.declared.Extra.{Extra}
-use Rattle.loc_pool.specs.declared.Turn.{Turn}
-use Rattle.loc_pool.specs.declared.Turn.TheVariants.{Left, Right}
-use Rattle.loc_pool.specs.Maps.{Map, has}
+use Rattle.loc_pool.specs.{declared.Link.Link, declared.Extra.Extra, declared.Turn.Turn}
+use Rattle.loc_pool.specs.{declared.Turn.TheVariants.Left, declared.Turn.TheVariants.Right, Maps.Map, Maps.has}
 use Rattle.loc_pool.specs.Rows.{Row, row}
 use Rattle.loc_spec_index.specs.declared.NodeRow.{NodeRow}
 use Rattle.loc_persist.specs.Meaning.{VersionsMeaning, IsMeaning}

@@ -1,24 +1,18 @@
 -- A tree that stands in the rows in a version stands in their table by number: it is read there as its items, and no path is longer than it is deep.
 use Rattle.std.proofs.Common.{◌≡◌, ◌≢◌, ℕ, zero, suc, ◌+◌, ◌-◌, ◌*◌, ◌^◌, ◌<◌, ◌≤◌, Bool, true, false, cond, ◌&&◌, List, [], ◌∷◌, ◌++◌, length, refl, sym, ◌∙◌, ap, subst, arith}
 use Rattle.std.specs.Prelude.{Option, Some, None, slice_get, get_or, nat_le, ◌==◌}
-use Rattle.std.proofs.lemmas.Bool.{le-ltb, not_from_false}
-use Rattle.std.proofs.Math.Pow.{pow_mono}
+use Rattle.std.proofs.{lemmas.Bool.le-ltb, lemmas.Bool.not_from_false, Math.Pow.pow_mono}
 use Rattle.std.proofs.lemmas.Option.{slice_get_within}
-use Rattle.loc_pool.proofs.Maps.{length-links}
-use Rattle.loc_pool.specs.declared.Link.{Link}
-use Rattle.loc_pool.specs.declared.Extra.{Extra}
-use Rattle.loc_pool.specs.declared.Turn.{Turn}
-use Rattle.loc_pool.specs.declared.Turn.TheVariants.{Left, Right}
-use Rattle.loc_pool.specs.Maps.{Map, links}
-use Rattle.loc_pool.proofs.Same.{some-link}
+use Rattle.loc_pool.proofs.{Maps.length-links, Same.some-link}
+use Rattle.loc_pool.specs.{declared.Link.Link, declared.Extra.Extra, declared.Turn.Turn}
+use Rattle.loc_pool.specs.{declared.Turn.TheVariants.Left, declared.Turn.TheVariants.Right, Maps.Map, Maps.links}
 use Rattle.loc_pool.specs.Rows.{Row, row, child_at, child_by, plain_child, IsPlace}
 use Rattle.loc_rb.specs.Trees.{Tree, leaf, node, top, items}
 use Rattle.loc_rb.specs.Balance.{depth}
 use Rattle.loc_spec_index.specs.declared.NodeRow.{NodeRow}
 use Rattle.loc_spec_index.specs.Nodes as nodes
-use Rattle.loc_persist.specs.Reading.{IsThere}
+use Rattle.loc_persist.specs.{Reading.IsThere, ByNumber.AreRowsByNumber, ByNumber.RowsByNumberRead}
 use Rattle.loc_persist.specs.Numbered.{IsNumber, IsNodeRow, side_of, stamp_of, to_of, turn_number}
-use Rattle.loc_persist.specs.ByNumber.{AreRowsByNumber, RowsByNumberRead}
 
 -- a turn as a side
 abbrev side : Turn → nodes.Side

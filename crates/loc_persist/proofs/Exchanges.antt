@@ -1,24 +1,17 @@
 -- How a stamp ends a change, and a copy hands it on to the node above.
 use Rattle.std.proofs.Common.{◌≡◌, ℕ, ◌+◌, ◌≤◌, true, false, ◌&&◌, cond, nat_le, List, [], ◌∷◌, ◌++◌, length, length-append, take, refl, sym, ap, ◌∙◌, subst, Option, Some, None}
 use Rattle.std.specs.Prelude.{◌≢◌}
-use Rattle.loc_pool.specs.declared.Link.{Link}
-use Rattle.loc_pool.specs.declared.Extra.{Extra}
-use Rattle.loc_pool.specs.declared.Turn.{Turn}
+use Rattle.loc_pool.specs.{declared.Link.Link, declared.Extra.Extra, declared.Turn.Turn}
 use Rattle.loc_pool.specs.declared.Turn.TheVariants.{Left, Right}
 use Rattle.loc_pool.specs.Maps.{Map, has, put}
 use Rattle.loc_pool.specs.Rows as pool
-use Rattle.loc_pool.proofs.Maps.{has-put, has-last}
-use Rattle.loc_rb.specs.Nodes.{live, CanChange}
-use Rattle.loc_rb.specs.Exchanges.{Exchanges}
+use Rattle.loc_pool.proofs.{Maps.has-put, Maps.has-last, Found.row-append}
+use Rattle.loc_rb.specs.{Nodes.live, Nodes.CanChange, Exchanges.Exchanges}
 use Rattle.loc_rb.proofs.OneChange.{by-link, some-link}
-use Rattle.loc_pool.proofs.Found.{row-append}
 use Rattle.loc_rb.proofs.Exchanging.{leads-end, in-place, copied-top, can-go-up, copied-up}
-use Rattle.loc_persist.specs.Keeping.{KeepsBefore}
+use Rattle.loc_persist.specs.{Keeping.KeepsBefore, Use.is_used, Use.in_use, Written.IsWritten}
 use Rattle.loc_persist.specs.Present.{copy_of, is_among, nodes_at, IsClosed, IsPresent, IsFreshAfter}
-use Rattle.loc_persist.specs.Use.{is_used, in_use}
-use Rattle.loc_persist.specs.Written.{IsWritten}
-use Rattle.loc_persist.proofs.Prefix.{prefix-append, fresh-append}
-use Rattle.loc_persist.proofs.Use.{sum-copied}
+use Rattle.loc_persist.proofs.{Prefix.prefix-append, Prefix.fresh-append, Use.sum-copied}
 use Rattle.loc_persist.proofs.Rows.{put-has, put-by, append-by}
 use Rattle.loc_persist.proofs.NewestRows.{copy-copies, live-is, among-more}
 

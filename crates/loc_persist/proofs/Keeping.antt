@@ -1,16 +1,13 @@
 -- Versions stay: a stamp of a later version, a new row, and a change of colour leave what is read in an earlier one.
 use Rattle.std.proofs.Common.{◌≡◌, ℕ, zero, suc, ◌<◌, ◌≤◌, true, false, cond, ◌&&◌, nat_le, refl, sym, ap, ◌∙◌, Option, Some, None, inl, inr, arith}
 use Rattle.std.proofs.lemmas.Bool.{and_right}
-use Rattle.loc_pool.specs.declared.Link.{Link}
-use Rattle.loc_pool.specs.declared.Turn.{Turn}
-use Rattle.loc_pool.specs.declared.Turn.TheVariants.{Left, Right}
-use Rattle.loc_pool.specs.declared.Colour.{Colour}
+use Rattle.loc_pool.specs.{declared.Link.Link, declared.Turn.Turn}
+use Rattle.loc_pool.specs.{declared.Turn.TheVariants.Left, declared.Turn.TheVariants.Right, declared.Colour.Colour}
 use Rattle.loc_pool.specs.Maps.{Map, has, put}
 use Rattle.loc_pool.specs.Rows.{Row, row, plain_child, same_turn, child_by, child_at, stamped, IsFree}
 use Rattle.loc_rb.specs.Trees.{Tree, leaf, node, top, items}
 use Rattle.loc_rb.specs.Balance.{depth}
-use Rattle.loc_persist.specs.Keeping.{KeepsBefore}
-use Rattle.loc_persist.specs.Reading.{IsThere, between, reading}
+use Rattle.loc_persist.specs.{Keeping.KeepsBefore, Reading.IsThere, Reading.between, Reading.reading}
 use Rattle.loc_persist.proofs.Rows.{put-has, put-by}
 
 not-yet : (i n : ℕ) → i < n → nat_le n i ≡ false

@@ -2,24 +2,18 @@
 use Rattle.std.proofs.Common.{◌≡◌, ℕ, zero, suc, ◌+◌, ◌*◌, ◌^◌, ◌<◌, ◌≤◌, max, Bool, true, false, cond, not, ◌&&◌, List, [], ◌∷◌, ◌++◌, map, length, length-append, refl, sym, ap, ◌∙◌, subst, Option, Some, None, ◌⊎◌, inl, inr, arith}
 use Rattle.std.specs.Prelude.{slice_get}
 use Rattle.std.proofs.lemmas.Bool.{le-leb}
-use Rattle.loc_pool.specs.declared.Link.{Link}
-use Rattle.loc_pool.specs.declared.Extra.{Extra}
-use Rattle.loc_pool.specs.declared.Turn.{Turn}
+use Rattle.loc_pool.specs.{declared.Link.Link, declared.Extra.Extra, declared.Turn.Turn}
 use Rattle.loc_pool.specs.declared.Turn.TheVariants.{Left, Right}
 use Rattle.loc_pool.specs.Maps.{Map, has, found}
 use Rattle.loc_pool.specs.Rows as pool
-use Rattle.loc_rb.specs.Trees.{Row, leaf}
-use Rattle.loc_rb.specs.Nodes.{IsOld, KeepsItems}
-use Rattle.loc_rb.specs.Places.{Holds, LeadsToGap, LeadsTo}
-use Rattle.loc_rb.specs.Balance.{depth}
-use Rattle.loc_persist.specs.Present.{found_in, row_in, IsPresent}
+use Rattle.loc_rb.specs.{Trees.Row, Trees.leaf, Nodes.IsOld, Nodes.KeepsItems}
+use Rattle.loc_rb.specs.{Places.Holds, Places.LeadsToGap, Places.LeadsTo, Balance.depth}
+use Rattle.loc_persist.specs.{Present.found_in, Present.row_in, Present.IsPresent, Reading.reading, Reading.list_in}
 use Rattle.loc_rb.proofs.Trees.{count-leaf}
-use Rattle.loc_persist.specs.Reading.{reading, list_in}
 use Rattle.loc_persist.specs.Stored.{Stored, kept_from, nodes_of, IsVersion, IsStored}
 use Rattle.loc_persist.specs.Meaning.{VersionsMeaning, fresh, present_nodes, Reads, IsMeaning, Inserts, Removes, Seals, lists_of, list_of, meaning, IsKept}
-use Rattle.loc_persist.proofs.NewestRows.{live-is, row-of, row-is}
+use Rattle.loc_persist.proofs.{NewestRows.live-is, NewestRows.row-of, NewestRows.row-is, Prefix.versions-whole}
 use Rattle.loc_persist.proofs.SameTree.{Wider, holds-wider, gap-narrow, node-narrow}
-use Rattle.loc_persist.proofs.Prefix.{versions-whole}
 use Rattle.loc_persist.proofs.Stores.{list-is, holds-version, holds-list, after_seal}
 
 -- in the meaning all nodes count as current

@@ -1,14 +1,11 @@
 -- What a stamp and a copy do to the nodes in the newest version.
 use Rattle.std.proofs.Common.{◌≡◌, ℕ, true, false, cond, not, ◌||◌, nat_le, List, [], ◌∷◌, ◌++◌, refl, sym, ap, ◌∙◌, Option, Some, None, inl, inr, arith}
 use Rattle.std.specs.Prelude.{◌≢◌}
-use Rattle.loc_pool.specs.declared.Link.{Link}
-use Rattle.loc_pool.specs.declared.Turn.{Turn}
+use Rattle.loc_pool.specs.{declared.Link.Link, declared.Turn.Turn}
 use Rattle.loc_pool.specs.declared.Turn.TheVariants.{Left, Right}
 use Rattle.loc_pool.specs.Maps.{Map, has, put, found}
 use Rattle.loc_pool.specs.Rows as pool
-use Rattle.loc_rb.specs.Trees.{Row, with_child}
-use Rattle.loc_rb.specs.Nodes.{live}
-use Rattle.loc_rb.specs.Exchanges.{InPlace, Copies}
+use Rattle.loc_rb.specs.{Trees.Row, Trees.with_child, Nodes.live, Exchanges.InPlace, Exchanges.Copies}
 use Rattle.loc_rb.proofs.OneChange.{not-same}
 use Rattle.loc_pool.proofs.Found.{found-none, found-row, has-found, found-append-new, found-append-other, found-put-here, found-put-other}
 use Rattle.loc_persist.specs.Present.{row_in, found_in, copy_of, is_among, nodes_at}

@@ -2,11 +2,9 @@
 use Rattle.std.proofs.Common.{◌≡◌, ℕ, zero, suc, true, false, cond, ◌||◌, ◌-◌, List, [], ◌∷◌, refl, sym, ap, ◌∙◌, subst, Option, Some, None, arith}
 use Rattle.std.specs.Prelude.{◌≢◌, slice_get, unwrap_or}
 use Rattle.std.specs.List.{AllByRecursion}
-use Rattle.loc_pool.specs.declared.Link.{Link}
-use Rattle.loc_pool.specs.declared.Turn.{Turn}
-use Rattle.loc_pool.specs.declared.Turn.TheVariants.{Left, Right}
+use Rattle.loc_pool.specs.{declared.Link.Link, declared.Turn.Turn}
+use Rattle.loc_pool.specs.{declared.Turn.TheVariants.Left, declared.Turn.TheVariants.Right, Same.same}
 use Rattle.loc_pool.specs.Rows.{same_turn, AreNames, IsPlace, no_link}
-use Rattle.loc_pool.specs.Same.{same}
 use Rattle.loc_pool.specs.Maps.{Map, has, links}
 use Rattle.loc_pool.proofs.Same.{same-eq, not-same}
 use Rattle.loc_persist.specs.Roots.{root_by}

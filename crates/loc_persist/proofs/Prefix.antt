@@ -1,25 +1,16 @@
 -- The first rows: those of the nodes that there were when a version was sealed.
 use Rattle.std.proofs.Common.{◌≡◌, ℕ, zero, suc, ◌-◌, ◌<◌, ◌≤◌, true, false, cond, ◌||◌, List, [], ◌∷◌, ◌++◌, length, length-append, take, refl, sym, ap, ◌∙◌, subst, Option, Some, None, arith}
-use Rattle.std.proofs.Math.Seq.{take-length}
-use Rattle.std.proofs.lemmas.List.{take-append-le}
+use Rattle.std.proofs.{Math.Seq.take-length, lemmas.List.take-append-le}
 use Rattle.std.specs.Prelude.{slice_get}
-use Rattle.loc_pool.specs.declared.Link.{Link}
-use Rattle.loc_pool.specs.declared.Turn.{Turn}
-use Rattle.loc_pool.specs.declared.Turn.TheVariants.{Left, Right}
-use Rattle.loc_pool.specs.Same.{same}
-use Rattle.loc_pool.proofs.Same.{same-refl, same-eq}
+use Rattle.loc_pool.specs.{declared.Link.Link, declared.Turn.Turn}
+use Rattle.loc_pool.specs.{declared.Turn.TheVariants.Left, declared.Turn.TheVariants.Right, Same.same}
+use Rattle.loc_pool.proofs.{Same.same-refl, Same.same-eq, Maps.has-put, Found.length-put}
 use Rattle.loc_pool.specs.Maps.{Map, has, value_or, put, links}
 use Rattle.loc_pool.specs.Rows.{Row, row, child_at, AreNames, IsPlace}
-use Rattle.loc_pool.proofs.Maps.{has-put}
 use Rattle.loc_rb.specs.Trees.{Tree, leaf, node}
-use Rattle.loc_pool.proofs.Found.{length-put}
-use Rattle.loc_persist.specs.Keeping.{KeepsBefore}
-use Rattle.loc_persist.specs.Present.{IsFreshAfter}
-use Rattle.loc_persist.specs.Reading.{IsThere}
+use Rattle.loc_persist.specs.{Keeping.KeepsBefore, Present.IsFreshAfter, Reading.IsThere}
 use Rattle.loc_persist.specs.Stored.{IsVersion, AreVersions}
-use Rattle.loc_persist.proofs.Keeping.{keeps-refl, keeps-put}
-use Rattle.loc_persist.proofs.Places.{place-once}
-use Rattle.loc_persist.proofs.Rows.{put-by, append-by}
+use Rattle.loc_persist.proofs.{Keeping.keeps-refl, Keeping.keeps-put, Places.place-once, Rows.put-by, Rows.append-by}
 
 -- an exchanged row is exchanged among the first rows too
 pub take-put : (n : ℕ) (rows : Map Row) (at : Link) (x : Row) → take n (put rows at x) ≡ put (take n rows) at x

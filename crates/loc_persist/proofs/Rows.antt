@@ -1,9 +1,8 @@
 -- The row of a link after one row was exchanged or came.
 use Rattle.std.proofs.Common.{◌≡◌, Bool, true, false, ◌||◌, [], ◌∷◌, ◌++◌, refl, sym, ap, ◌∙◌, subst, Some, None}
 use Rattle.std.specs.Prelude.{◌≢◌}
-use Rattle.loc_pool.specs.declared.Link.{Link}
+use Rattle.loc_pool.specs.{declared.Link.Link, Rows.Row, Rows.row, Rows.blank}
 use Rattle.loc_pool.specs.Maps.{Map, has, put, found}
-use Rattle.loc_pool.specs.Rows.{Row, row, blank}
 use Rattle.loc_pool.proofs.Maps.{has-put, has-append, value_or-append}
 use Rattle.loc_rb.proofs.OneChange.{not-same, by-link}
 use Rattle.loc_pool.proofs.Found.{some-row, found-row, found-put-here, found-put-other, row-append}

@@ -1,13 +1,10 @@
 -- The present tree as callers see it is the one that the store keeps: a root leads to one tree.
 use Rattle.std.proofs.Common.{◌≡◌, ℕ, List, ◌∷◌, ◌++◌, append_assoc, refl, sym, ap, ◌∙◌, subst, Some}
-use Rattle.loc_pool.specs.declared.Link.{Link}
-use Rattle.loc_pool.specs.declared.Turn.{Turn}
+use Rattle.loc_pool.specs.{declared.Link.Link, declared.Turn.Turn}
 use Rattle.loc_rb.specs.Trees.{Row, Reading, Tree, leaf, node, top, items, Fits, Frame, plug, before, after}
 use Rattle.loc_rb.specs.Nodes.{Nodes, live}
 use Rattle.loc_rb.specs.Places.{Spot, Holds, LeadsToGap, LeadsTo}
-use Rattle.loc_rb.proofs.Trees.{items-plug, stays}
-use Rattle.loc_rb.proofs.OneChange.{some-link}
-use Rattle.loc_rb.proofs.Recolouring.{some-row}
+use Rattle.loc_rb.proofs.{Trees.items-plug, Trees.stays, OneChange.some-link, Recolouring.some-row}
 
 -- a root leads to one tree
 pub same-tree : (f g : Reading) → ((l : Link) (x : Row) → f l ≡ Some x → g l ≡ Some x) → (t u : Tree) → Fits f t → Fits g u → top t ≡ top u → t ≡ u

@@ -1,30 +1,23 @@
 -- What the calls of the store do to it, and that they keep the sealed versions.
 use Rattle.std.proofs.Common.{◌≡◌, ℕ, zero, suc, ◌+◌, ◌-◌, ◌^◌, ◌<◌, ◌≤◌, true, false, not, List, [], ◌∷◌, ◌++◌, length, length-append, take, refl, sym, ap, ◌∙◌, subst, Option, Some, None, ◌⊎◌, inl, inr, arith}
-use Rattle.std.proofs.Math.Seq.{take-length}
+use Rattle.std.proofs.{Math.Seq.take-length, lemmas.Option.slice_get_within}
 use Rattle.std.specs.Prelude.{slice_get}
-use Rattle.std.proofs.lemmas.Option.{slice_get_within}
-use Rattle.loc_pool.specs.declared.Link.{Link}
-use Rattle.loc_pool.specs.declared.Colour.{Colour}
-use Rattle.loc_pool.specs.declared.Turn.{Turn}
+use Rattle.loc_pool.specs.{declared.Link.Link, declared.Colour.Colour, declared.Turn.Turn}
 use Rattle.loc_pool.specs.declared.Turn.TheVariants.{Left, Right}
 use Rattle.loc_pool.specs.Maps.{Map, has, put}
 use Rattle.loc_pool.specs.Rows as pool
 use Rattle.loc_rb.specs.Trees.{Row, Tree, leaf, node, top, items, Fits, child_of}
 use Rattle.loc_rb.specs.Nodes.{live, IsLive, CanChange, Makes, Colours, Changes, Roots}
-use Rattle.loc_rb.specs.Places.{Holds}
-use Rattle.loc_rb.specs.Exchanges.{Exchanges}
-use Rattle.loc_rb.proofs.OneChange.{some-link}
-use Rattle.loc_rb.proofs.Descent.{bounded, at-most-42}
+use Rattle.loc_rb.specs.{Places.Holds, Exchanges.Exchanges}
+use Rattle.loc_rb.proofs.{OneChange.some-link, Descent.bounded, Descent.at-most-42}
 use Rattle.loc_pool.proofs.Found.{found-none, found-append-new, found-append-other, found-put-here, found-put-other, length-put}
-use Rattle.loc_persist.specs.Keeping.{KeepsBefore}
+use Rattle.loc_persist.specs.{Keeping.KeepsBefore, Use.in_use}
 use Rattle.loc_persist.specs.Present.{found_in, row_in, is_among, nodes_at, IsPresent, IsFreshAfter}
 use Rattle.loc_persist.specs.Reading.{IsThere, reading, listed, list_in}
 use Rattle.loc_persist.specs.Stored.{Stored, kept_from, nodes_of, IsVersion, AreVersions, IsStored}
-use Rattle.loc_persist.specs.Use.{in_use}
 use Rattle.loc_persist.proofs.Keeping.{there-keeps, reading-there, child-colour}
 use Rattle.loc_persist.proofs.Prefix.{prefix-put, prefix-append, fresh-put, fresh-append, fresh-all, version-whole, versions-whole}
-use Rattle.loc_persist.proofs.Use.{sum-made, sum-same}
-use Rattle.loc_persist.proofs.Rows.{is-found}
+use Rattle.loc_persist.proofs.{Use.sum-made, Use.sum-same, Rows.is-found}
 use Rattle.loc_persist.proofs.NewestRows.{row-is, not-among, live-is}
 use Rattle.loc_persist.proofs.Exchanges.{present-put, present-made, present-root}
 

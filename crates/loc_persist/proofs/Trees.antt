@@ -1,14 +1,10 @@
 -- What the reading calls tell of the present tree and of a tree that stands in a version: what a search may cite.
 use Rattle.std.proofs.Common.{◌≡◌, ℕ, true, length, sym, ap, ◌∙◌, Option, Some}
-use Rattle.loc_pool.specs.declared.Link.{Link}
-use Rattle.loc_pool.specs.declared.Turn.{Turn}
-use Rattle.loc_pool.specs.Maps.{has}
+use Rattle.loc_pool.specs.{declared.Link.Link, declared.Turn.Turn, Maps.has}
 use Rattle.loc_pool.specs.Rows as pool
-use Rattle.loc_rb.specs.Trees.{Row, child_of}
-use Rattle.loc_rb.specs.Nodes.{HasRow}
+use Rattle.loc_rb.specs.{Trees.Row, Trees.child_of, Nodes.HasRow}
 use Rattle.loc_persist.specs.Meaning.{VersionsMeaning, present_nodes}
-use Rattle.loc_persist.proofs.NewestRows.{row-is}
-use Rattle.loc_persist.proofs.Stores.{child-in}
+use Rattle.loc_persist.proofs.{NewestRows.row-is, Stores.child-in}
 
 -- a row of the present tree is one of the rows
 pub present-row : (m : VersionsMeaning) (at : Link) → HasRow (present_nodes m) at → has m.rows at ≡ true

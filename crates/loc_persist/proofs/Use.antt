@@ -1,13 +1,9 @@
 -- How the count of the extras in use goes.
 use Rattle.std.proofs.Common.{◌≡◌, ℕ, ◌+◌, ◌≤◌, Bool, true, false, cond, ◌&&◌, ◌||◌, not, List, [], ◌∷◌, ◌++◌, length, length-append, refl, ap, ◌∙◌, None, arith}
-use Rattle.loc_pool.specs.declared.Link.{Link}
-use Rattle.loc_pool.specs.Same.{same}
+use Rattle.loc_pool.specs.{declared.Link.Link, Same.same, Rows.Row, Rows.row}
 use Rattle.loc_pool.specs.Maps.{Map, has, value_or, put}
-use Rattle.loc_pool.specs.Rows.{Row, row}
-use Rattle.loc_pool.proofs.Same.{same-eq, same-refl}
-use Rattle.loc_pool.proofs.Found.{length-put}
-use Rattle.loc_persist.specs.Present.{is_among}
-use Rattle.loc_persist.specs.Use.{is_used, in_use}
+use Rattle.loc_pool.proofs.{Same.same-eq, Same.same-refl, Found.length-put}
+use Rattle.loc_persist.specs.{Present.is_among, Use.is_used, Use.in_use}
 
 at-most-one : (b : Bool) → cond b 1 0 ≤ 1
 at-most-one b = grind arith

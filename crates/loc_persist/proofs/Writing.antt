@@ -1,8 +1,6 @@
 -- A pointer that is written into a node, in place or as a stamp.
 use Rattle.std.proofs.Common.{◌≡◌, ℕ, true, false, take, refl, sym, ap, ◌∙◌, Option, Some, None, inl, inr, arith}
-use Rattle.loc_pool.specs.declared.Link.{Link}
-use Rattle.loc_pool.specs.declared.Extra.{Extra}
-use Rattle.loc_pool.specs.declared.Turn.{Turn}
+use Rattle.loc_pool.specs.{declared.Link.Link, declared.Extra.Extra, declared.Turn.Turn}
 use Rattle.loc_pool.specs.declared.Turn.TheVariants.{Left, Right}
 use Rattle.loc_pool.specs.Maps.{Map, has, put}
 use Rattle.loc_pool.specs.Rows as pool
@@ -10,10 +8,8 @@ use Rattle.loc_rb.specs.Trees.{with_child}
 use Rattle.loc_pool.proofs.Found.{extra-child, length-put}
 use Rattle.loc_persist.specs.Present.{row_in, IsClosed, IsFreshAfter}
 use Rattle.loc_persist.specs.Written.{HasRoom, IsWritten}
-use Rattle.loc_persist.proofs.Keeping.{child_at-stamped}
-use Rattle.loc_persist.proofs.Use.{sum-put, sum-same}
-use Rattle.loc_persist.proofs.NewestRows.{put-in-place, row_in-stamped}
-use Rattle.loc_persist.proofs.Prefix.{prefix-put, fresh-put}
+use Rattle.loc_persist.proofs.{Keeping.child_at-stamped, Use.sum-put, Use.sum-same}
+use Rattle.loc_persist.proofs.{NewestRows.put-in-place, NewestRows.row_in-stamped, Prefix.prefix-put, Prefix.fresh-put}
 use Rattle.loc_persist.proofs.Exchanges.{present-put, stamped-closed}
 
 -- where there is no extra, the plain child is the one of each version

@@ -1,8 +1,6 @@
 -- What of the rows stays for the versions before one: `KeepsBefore`.
 use Rattle.std.specs.Prelude.{◌≡◌, ℕ, ◌<◌, true}
-use Rattle.loc_pool.specs.declared.Link.{Link}
-use Rattle.loc_pool.specs.declared.Turn.{Turn}
-use Rattle.loc_pool.specs.Maps.{Map, has}
+use Rattle.loc_pool.specs.{declared.Link.Link, declared.Turn.Turn, Maps.Map, Maps.has}
 use Rattle.loc_pool.specs.Rows.{Row, row, child_at}
 
 -- each link that has a row keeps it, with its item, and has the same children in each version before this one

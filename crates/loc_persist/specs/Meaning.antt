@@ -1,16 +1,10 @@
 -- What versions mean, `VersionsMeaning`; what holds of them, `IsMeaning`; and what each call does to them: `Inserts`, `Removes`, `Seals`.
 use Rattle.std.specs.Prelude.{◌≡◌, ℕ, ◌+◌, ◌*◌, ◌^◌, ◌<◌, ◌≤◌, max, Bool, true, false, List, [], ◌∷◌, ◌++◌, length, map, Option, None, Some, slice_get}
-use Rattle.loc_pool.specs.declared.Link.{Link}
-use Rattle.loc_pool.specs.declared.Extra.{Extra}
-use Rattle.loc_pool.specs.declared.Turn.{Turn}
-use Rattle.loc_pool.specs.Maps.{Map, has, found}
+use Rattle.loc_pool.specs.{declared.Link.Link, declared.Extra.Extra, declared.Turn.Turn, Maps.Map, Maps.has, Maps.found}
 use Rattle.loc_pool.specs.Rows.{Row, row}
-use Rattle.loc_rb.specs.Trees.{Tree, top, items}
-use Rattle.loc_rb.specs.Nodes.{Nodes}
-use Rattle.loc_rb.specs.Balance.{depth}
+use Rattle.loc_rb.specs.{Trees.Tree, Trees.top, Trees.items, Nodes.Nodes, Balance.depth}
 use Rattle.loc_rb.specs.Places.{Holds, LeadsToGap, LeadsTo}
-use Rattle.loc_persist.specs.Present.{found_in}
-use Rattle.loc_persist.specs.Reading.{IsThere, list_in}
+use Rattle.loc_persist.specs.{Present.found_in, Reading.IsThere, Reading.list_in}
 use Rattle.loc_persist.specs.Stored.{Stored, kept_from, nodes_of}
 
 -- what can be said of versions at one moment

@@ -1,14 +1,10 @@
 -- The rows as the steps of a tree see them in the newest version: `nodes_at`, and what holds of them, `IsPresent`.
 use Rattle.std.specs.Prelude.{◌≡◌, ℕ, ◌≤◌, Bool, true, false, not, ◌||◌, List, [], ◌∷◌, length, take, Option, None, Some}
-use Rattle.loc_pool.specs.declared.Link.{Link}
-use Rattle.loc_pool.specs.declared.Extra.{Extra}
-use Rattle.loc_pool.specs.declared.Turn.{Turn}
-use Rattle.loc_pool.specs.declared.Turn.TheVariants.{Left, Right}
-use Rattle.loc_pool.specs.Same.{same}
+use Rattle.loc_pool.specs.{declared.Link.Link, declared.Extra.Extra, declared.Turn.Turn}
+use Rattle.loc_pool.specs.{declared.Turn.TheVariants.Left, declared.Turn.TheVariants.Right, Same.same}
 use Rattle.loc_pool.specs.Maps.{Map, has, found}
 use Rattle.loc_pool.specs.Rows as pool
-use Rattle.loc_rb.specs.Trees.{Row, with_child}
-use Rattle.loc_rb.specs.Nodes.{Nodes}
+use Rattle.loc_rb.specs.{Trees.Row, Trees.with_child, Nodes.Nodes}
 
 -- a row as it is in a version
 abbrev pub row_in : ℕ → pool.Row → Row

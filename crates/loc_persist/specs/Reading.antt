@@ -1,9 +1,7 @@
 -- What is read from the rows of all versions: `IsThere`, a tree that stands in a version, and `reading`, its list.
 use Rattle.std.specs.Prelude.{◌≡◌, ℕ, zero, suc, true, cond, List, [], ◌∷◌, ◌++◌, Option, None, Some}
-use Rattle.loc_pool.specs.declared.Link.{Link}
-use Rattle.loc_pool.specs.declared.Turn.TheVariants.{Left, Right}
-use Rattle.loc_pool.specs.Maps.{Map, has}
-use Rattle.loc_pool.specs.Rows.{Row, row, child_at}
+use Rattle.loc_pool.specs.{declared.Link.Link, declared.Turn.TheVariants.Left, declared.Turn.TheVariants.Right}
+use Rattle.loc_pool.specs.{Maps.Map, Maps.has, Rows.Row, Rows.row, Rows.child_at}
 use Rattle.loc_rb.specs.Trees.{Tree, leaf, node, top}
 
 -- the tree stands in the rows in a version: each link has a row, with the item, and its children there. Colours play no part

@@ -1,14 +1,9 @@
 -- The store of all versions: `Stored`, the nodes that it stands for, and what holds of it, `IsStored`.
 use Rattle.std.specs.Prelude.{◌≡◌, ℕ, ◌+◌, ◌-◌, ◌*◌, ◌^◌, ◌<◌, ◌≤◌, not, List, [], ◌∷◌, length, take, Option, Some, slice_get}
-use Rattle.loc_pool.specs.declared.Link.{Link}
-use Rattle.loc_pool.specs.Maps.{Map, found}
-use Rattle.loc_pool.specs.Rows.{Row}
-use Rattle.loc_rb.specs.Trees.{Tree, top, items}
-use Rattle.loc_rb.specs.Nodes.{Nodes}
-use Rattle.loc_rb.specs.Balance.{depth}
+use Rattle.loc_pool.specs.{declared.Link.Link, Maps.Map, Maps.found, Rows.Row}
+use Rattle.loc_rb.specs.{Trees.Tree, Trees.top, Trees.items, Nodes.Nodes, Balance.depth}
 use Rattle.loc_persist.specs.Present.{found_in, is_among, IsPresent, IsFreshAfter}
-use Rattle.loc_persist.specs.Reading.{IsThere, list_in}
-use Rattle.loc_persist.specs.Use.{in_use}
+use Rattle.loc_persist.specs.{Reading.IsThere, Reading.list_in, Use.in_use}
 
 -- the rows, the root of each sealed version and the newest root, how many nodes there were at the last seal, the links that were copied, the counts of `make` and of `change`, and the room
 pub record Stored : Type 0 where

@@ -1,9 +1,6 @@
 -- How many extras are in use in nodes that were not copied: `in_use`. It pays for the copies to come.
 use Rattle.std.specs.Prelude.{ℕ, ◌+◌, Bool, true, false, cond, ◌&&◌, not, List, [], ◌∷◌, Option, None, Some}
-use Rattle.loc_pool.specs.declared.Link.{Link}
-use Rattle.loc_pool.specs.declared.Extra.{Extra}
-use Rattle.loc_pool.specs.Maps.{Map}
-use Rattle.loc_pool.specs.Rows.{Row}
+use Rattle.loc_pool.specs.{declared.Link.Link, declared.Extra.Extra, Maps.Map, Rows.Row}
 use Rattle.loc_persist.specs.Present.{is_among}
 
 -- whether an extra is there

@@ -1,8 +1,7 @@
 -- The store as contracts see it. The word: `stored`.
 use Rattle.std.specs.Prelude.{ℕ, List, Option}
 use Rattle.loc_pool.specs.declared.Link.{Link}
-use Rattle.loc_persist.specs.declared.present.Present.{Present}
-use Rattle.loc_persist.specs.Stored.{Stored}
+use Rattle.loc_persist.specs.{declared.present.Present.Present, Stored.Stored}
 
 -- the store of these fields
 abbrev pub stored : Present → List (Option Link) → ℕ → ℕ → ℕ → ℕ → Stored

@@ -1,12 +1,8 @@
 -- Where a pointer can be written into a node, in place or as a stamp, `HasRoom`, and what that does to the rows, `IsWritten`.
 use Rattle.std.specs.Prelude.{◌≡◌, ◌⊎◌, ℕ, ◌+◌, ◌≤◌, false, List, length, take, Option}
-use Rattle.loc_pool.specs.declared.Link.{Link}
-use Rattle.loc_pool.specs.declared.Turn.{Turn}
-use Rattle.loc_pool.specs.Maps.{Map, has}
-use Rattle.loc_pool.specs.Rows.{Row, row, IsFree}
+use Rattle.loc_pool.specs.{declared.Link.Link, declared.Turn.Turn, Maps.Map, Maps.has, Rows.Row, Rows.row, Rows.IsFree}
 use Rattle.loc_rb.specs.Exchanges.{InPlace}
-use Rattle.loc_persist.specs.Keeping.{KeepsBefore}
-use Rattle.loc_persist.specs.Present.{nodes_at, IsPresent, IsFreshAfter}
+use Rattle.loc_persist.specs.{Keeping.KeepsBefore, Present.nodes_at, Present.IsPresent, Present.IsFreshAfter}
 use Rattle.loc_persist.specs.Use.{in_use}
 
 -- the node has room for a pointer on this side: it comes after the first nodes, or its extra fits

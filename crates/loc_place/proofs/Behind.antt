@@ -2,13 +2,11 @@
 use Rattle.std.proofs.Common.{◌≡◌, ◌≢◌, ℕ, ◌<◌, ◌≤◌, true, not, ◌&&◌, length, sym, ◌∙◌, subst, inl, inr, arith}
 use Rattle.std.specs.Prelude.{nat_lt}
 use Rattle.std.proofs.lemmas.Bool.{and_left, and_right, cases_eq, cases_lt, lt-ltb, le-ltb, not_from_false}
-use Rattle.loc_spec_plane.specs.Points.{Point, before, same_point}
+use Rattle.loc_spec_plane.specs.{Points.Point, Points.before, Points.same_point, Places.is_corner_of, Places.alive}
 use Rattle.loc_spec_plane.specs.Tables.{Table, IsTable, corner, edge, lo_of, hi_of}
-use Rattle.loc_spec_plane.specs.Places.{is_corner_of, alive}
 use Rattle.loc_laws_order.proofs.AliveAt as AliveAt
-use Rattle.loc_laws_order.proofs.AliveAt.{IsPassed}
+use Rattle.loc_laws_order.proofs.{AliveAt.IsPassed, TableOrder.corner_before}
 use Rattle.loc_laws_order.proofs.Sides.{before_trans, before-asym_test, before-differ, same_point_sym}
-use Rattle.loc_laws_order.proofs.TableOrder.{corner_before}
 use Rattle.loc_place.specs.Standing.{IsBehind}
 use Rattle.loc_place.proofs.Cornerless.{corner_ahead}
 

@@ -4,8 +4,7 @@ use Rattle.std.proofs.lemmas.Bool.{cases_Bool, not_from_true, not_from_false}
 use Rattle.loc_spec_plane.specs.Points.{Point, before, up_to, same_point, is_on, lies_on}
 use Rattle.loc_spec_plane.specs.Tables.{Table, IsTable, corner, edge, lo_of, hi_of}
 use Rattle.loc_spec_plane.specs.Places.{alive, IsCornerless}
-use Rattle.loc_laws_order.proofs.AliveAt.{not_corner}
-use Rattle.loc_laws_order.proofs.Sides.{before_either, before-asym_test, same_point_sym}
+use Rattle.loc_laws_order.proofs.{AliveAt.not_corner, Sides.before_either, Sides.before-asym_test, Sides.same_point_sym}
 
 -- for different points, up to is before
 up_to_is_before : (p q : Point) → same_point q p ≡ false → up_to p q ≡ before p q

@@ -1,10 +1,8 @@
 -- The place that is found by a look at every corner and every edge is the place.
 use Rattle.std.proofs.Common.{◌≡◌, ◌≢◌, ℕ, zero, suc, ◌+◌, ◌<◌, ◌≤◌, Bool, true, false, List, [], ◌∷◌, length, refl, sym, ◌∙◌, subst, inl, inr, arith, Option, Some, None}
-use Rattle.std.specs.Prelude.{nat_lt, find, fold}
-use Rattle.std.specs.List.{range_with_len}
+use Rattle.std.specs.{Prelude.nat_lt, Prelude.find, Prelude.fold, List.range_with_len}
 use Rattle.std.proofs.lemmas.Bool.{and_parts, and_left, both_ways, cases_Bool, cases_eq, cases_lt, cond-true, cond-false, lt-ltb, le-ltb, not-true, not_from_false, and_from}
-use Rattle.loc_spec_plane.specs.declared.Place.{Place}
-use Rattle.loc_spec_plane.specs.Points.{Point, same_point, lies_on}
+use Rattle.loc_spec_plane.specs.{declared.Place.Place, Points.Point, Points.same_point, Points.lies_on}
 use Rattle.loc_spec_plane.specs.Tables.{Table, corner, edge, corner_numbers, edge_numbers}
 use Rattle.loc_spec_plane.specs.Places.{is_edge, is_corner_of, is_border_of, IsCornerless, IsBorderless, IsFloor, IsPlace}
 use Rattle.loc_place.specs.Found.{is_under, with_edge, first_place, place_at}

@@ -1,9 +1,6 @@
 -- A search that halves what is left: the power of two of its steps.
 use Rattle.std.proofs.Common.{◌≡◌, ℕ, zero, suc, ◌+◌, ◌-◌, ◌*◌, ◌^◌, ◌<◌, ◌≤◌, sym, subst, inl, inr, arith}
-use Rattle.std.proofs.Math.Nat.{pow-suc}
-use Rattle.std.proofs.Math.Pow.{pow_mono}
-use Rattle.std.proofs.lemmas.Bool.{cases_lt}
-use Rattle.std.proofs.lemmas.Nat.{mul-le}
+use Rattle.std.proofs.{Math.Nat.pow-suc, Math.Pow.pow_mono, lemmas.Bool.cases_lt, lemmas.Nat.mul-le}
 
 -- one step more, where at most half of what was left is left
 pub halved : (k w less v : ℕ) → 2 ^ k * w ≤ v → 2 * less ≤ w → 2 ^ suc k * less ≤ v

@@ -2,12 +2,10 @@
 use Rattle.std.proofs.Common.{◌≡◌, ◌≢◌, ℕ, ◌+◌, ◌<◌, true, false, not, ◌&&◌, length, sym, subst, ◌⊎◌, inl, inr, arith, Option, Some, None}
 use Rattle.std.specs.Prelude.{nat_lt}
 use Rattle.std.proofs.lemmas.Bool.{and_parts, and_from, and_left, and_right, both_ways, cases_Bool, cases_eq, cond-true, cond-false, ltb-true, lt-ltb, le-ltb, not-true, not_from_false}
-use Rattle.loc_spec_plane.specs.Points.{Point, is_above}
-use Rattle.loc_spec_plane.specs.Tables.{Table, edge}
+use Rattle.loc_spec_plane.specs.{Points.Point, Points.is_above, Tables.Table, Tables.edge}
 use Rattle.loc_spec_plane.specs.Places.{alive_at, lower_of, IsHighest}
 use Rattle.loc_laws_order.proofs.AliveAt.{alive_parts, lower_passes, one_is_lower}
-use Rattle.loc_place.specs.Found.{is_under, higher_of, with_edge}
-use Rattle.loc_place.specs.Planar.{IsPlanar}
+use Rattle.loc_place.specs.{Found.is_under, Found.higher_of, Found.with_edge, Planar.IsPlanar}
 
 -- the highest of those of the first n edges that are under p
 abbrev pub IsHighestAmong : Table → Point → ℕ → Option ℕ → Type 0

@@ -1,20 +1,13 @@
 -- How many edges the list at a point has.
 use Rattle.std.proofs.Common.{◌≡◌, ℕ, ◌+◌, ◌*◌, ◌≤◌, true, not, List, length, filter, refl, sym, ◌∙◌, ap, arith}
-use Rattle.std.proofs.Math.Dec.{eqb}
+use Rattle.std.proofs.{Math.Dec.eqb, lemmas.Cmp.nat_eq_equiv, lemmas.Nat.mul-le, lemmas.List.Filters.length-filter_both}
 use Rattle.std.specs.Set.{is_member}
 use Rattle.std.proofs.lemmas.Bool.{le-ltb, not_from_false, and_from, eqb-true, lt-ltb}
-use Rattle.std.proofs.lemmas.Cmp.{nat_eq_equiv}
-use Rattle.std.proofs.lemmas.Nat.{mul-le}
-use Rattle.std.proofs.lemmas.List.Filters.{length-filter_both}
 use Rattle.std.proofs.lemmas.List.FromFn.{length-range_with_len}
 use Rattle.std.proofs.lemmas.Map.Made.{is_member-filter, length-le_from_is_member}
-use Rattle.loc_spec_plane.specs.Points.{Point}
-use Rattle.loc_spec_plane.specs.Lists.{is_in}
-use Rattle.loc_spec_plane.specs.Tables.{Table, edge_numbers}
+use Rattle.loc_spec_plane.specs.{Points.Point, Lists.is_in, Tables.Table, Tables.edge_numbers}
 use Rattle.loc_spec_plane.specs.Places.{alive_at, IsListAt}
-use Rattle.loc_laws_order.proofs.AliveAt.{alive_parts}
-use Rattle.loc_laws_order.proofs.Kept.{is_in-range}
-use Rattle.loc_laws_order.proofs.Sets.{any_weaker, number_swap}
+use Rattle.loc_laws_order.proofs.{AliveAt.alive_parts, Kept.is_in-range, Sets.any_weaker, Sets.number_swap}
 use Rattle.loc_place.specs.Steps.{alive_count}
 use Rattle.loc_place.proofs.Listed.{distinct}
 

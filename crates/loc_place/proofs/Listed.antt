@@ -1,24 +1,16 @@
 -- A point that is no corner against the list of the edges alive there: it is above the first of them and below the others, and on one of them at most.
 use Rattle.std.proofs.Common.{◌≡◌, ℕ, ◌-◌, ◌<◌, ◌≤◌, true, false, ◌&&◌, List, length, map, get_or, sym, ◌∙◌, subst, inl, inr, arith, Option, Some, None, slice_get}
-use Rattle.std.proofs.Math.Dec.{eqb}
+use Rattle.std.proofs.{Math.Dec.eqb, lemmas.Grind.get_or_default_zero, lemmas.List.Folds.Any-from_list_any}
 use Rattle.std.specs.List.{list_any, IsDistinct}
 use Rattle.std.proofs.lemmas.Bool.{and_from, and_parts, both_ways, cases_Bool, cases_eq, cases_lt, eqb-true, false_from_ne_true, ltb-true, ne_eqb, not_from_false, or_cases}
-use Rattle.std.proofs.lemmas.Grind.{get_or_default_zero}
-use Rattle.std.proofs.lemmas.List.Folds.{Any-from_list_any}
-use Rattle.std.proofs.lemmas.Map.Keys.{IsDistinct-from_apart}
-use Rattle.std.proofs.lemmas.Map.Steps.{length-le_from_distinct_below}
+use Rattle.std.proofs.{lemmas.Map.Keys.IsDistinct-from_apart, lemmas.Map.Steps.length-le_from_distinct_below}
 use Rattle.std.proofs.lemmas.Option.{slice_get-get_or, slice_get_within, get_or_from_slice_get}
-use Rattle.loc_spec_plane.specs.declared.Place.TheVariants.{Area}
+use Rattle.loc_spec_plane.specs.{declared.Place.TheVariants.Area, Lists.is_in, Tables.Table, Tables.edge}
 use Rattle.loc_spec_plane.specs.Points.{Point, is_above, is_on, is_below, lies_on, same_point}
-use Rattle.loc_spec_plane.specs.Lists.{is_in}
-use Rattle.loc_spec_plane.specs.Tables.{Table, edge}
 use Rattle.loc_spec_plane.specs.Places.{alive, is_edge, is_border_of, lower_of, IsBorderless, IsCornerless, IsFloor, IsListAt, IsPlace}
-use Rattle.loc_laws_order.proofs.ChainLaws.{chain_above}
-use Rattle.loc_laws_order.proofs.Floors.{floor_of_list}
-use Rattle.loc_laws_order.proofs.AliveAt.{alive_parts}
-use Rattle.loc_laws_order.proofs.ListLaws.{get-map, is_in-get, list_is_chain}
+use Rattle.loc_laws_order.proofs.{ChainLaws.chain_above, Floors.floor_of_list, AliveAt.alive_parts}
+use Rattle.loc_laws_order.proofs.{ListLaws.get-map, ListLaws.is_in-get, ListLaws.list_is_chain, TableOrder.rises}
 use Rattle.loc_laws_order.proofs.Sides.{above-not_below, lower-asym, on-not_above, on-not_below}
-use Rattle.loc_laws_order.proofs.TableOrder.{rises}
 use Rattle.loc_place.specs.Planar.{IsPlanar}
 use Rattle.loc_place.proofs.Cornerless.{begins_elsewhere, lies_on_is}
 use Rattle.loc_status.specs.Targets.{IsSearchEnd}

@@ -9,8 +9,7 @@ use Rattle.loc_spec_plane.specs.Tables.{Table, IsTable, NoConflict, corner, edge
 use Rattle.loc_spec_plane.specs.Places.{alive, lower_of, is_edge, is_corner_of, is_border_of, IsCornerless, IsPlace}
 use Rattle.loc_laws_order.proofs.Sides.{same_point-true, on-not_above, on-not_below}
 use Rattle.loc_laws_order.proofs.TableOrder.{same_corner, different}
-use Rattle.loc_laws_order.proofs.PairLaws.{order_is_total, above_passes}
-use Rattle.loc_laws_order.proofs.Unique.{floor-unique}
+use Rattle.loc_laws_order.proofs.{PairLaws.order_is_total, PairLaws.above_passes, Unique.floor-unique}
 use Rattle.loc_place.proofs.Cornerless.{begins_elsewhere, lies_on_is}
 
 module _ (t : Table) (ok : IsTable t) (p : Point) where

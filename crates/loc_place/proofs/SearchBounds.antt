@@ -1,8 +1,7 @@
 -- Powers of two and the steps of a search.
 use Rattle.std.proofs.Common.{◌≡◌, ℕ, zero, suc, ◌+◌, ◌-◌, ◌*◌, ◌^◌, ◌<◌, ◌≤◌, true, length, sym, subst, inl, inr, arith}
 use Rattle.std.specs.Prelude.{nat_le, ◌≢◌}
-use Rattle.std.proofs.Math.Nat.{pow-suc}
-use Rattle.std.proofs.lemmas.Nat.{pow-add, mul-le}
+use Rattle.std.proofs.{Math.Nat.pow-suc, lemmas.Nat.pow-add, lemmas.Nat.mul-le}
 use Rattle.std.proofs.lemmas.Bool.{both_ways, cases_Bool, cases_eq, cond-true, cond-false, le-leb, leb-true}
 use Rattle.loc_spec_plane.specs.Tables.{Table}
 use Rattle.loc_place.specs.Steps.{search_bound, greatest_power, most_steps}

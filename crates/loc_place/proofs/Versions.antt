@@ -2,9 +2,8 @@
 use Rattle.std.proofs.Common.{◌≡◌, ℕ, zero, suc, ◌+◌, ◌<◌, ◌≤◌, Bool, not, ◌&&◌, List, [], ◌∷◌, length, get_or, refl, sym, ◌∙◌, ap, arith}
 use Rattle.std.specs.Prelude.{nat_lt}
 use Rattle.std.proofs.lemmas.Bool.{and_left, and_right, le-ltb}
-use Rattle.loc_spec_plane.specs.Points.{Point}
+use Rattle.loc_spec_plane.specs.{Points.Point, Places.alive_at, Places.is_edge, Places.IsListAt}
 use Rattle.loc_spec_plane.specs.Tables.{Table, IsTable, lo_of, hi_of}
-use Rattle.loc_spec_plane.specs.Places.{alive_at, is_edge, IsListAt}
 use Rattle.loc_status.specs.Versions.{AreVersions}
 use Rattle.loc_laws_order.proofs.AliveAt.{alive_at_is, alive_at_corner}
 use Rattle.loc_place.specs.Standing.{IsBehind}

@@ -1,7 +1,6 @@
 -- Where a point stands among the corners of a table: `IsStanding`.
 use Rattle.std.specs.Prelude.{◌≡◌, ℕ, ◌<◌, ◌≤◌, length, IsTrue, nat_lt}
-use Rattle.loc_spec_plane.specs.Points.{Point, before}
-use Rattle.loc_spec_plane.specs.Tables.{Table, corner}
+use Rattle.loc_spec_plane.specs.{Points.Point, Points.before, Tables.Table, Tables.corner}
 use Rattle.loc_spec_plane.specs.Places.{is_corner_of, IsCornerless}
 use Rattle.loc_place.specs.declared.corners.Standing.{Standing}
 use Rattle.loc_place.specs.declared.corners.Standing.TheVariants.{OnCorner, Behind}

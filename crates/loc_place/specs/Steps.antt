@@ -1,8 +1,6 @@
 -- How many steps a search takes at most: `most_steps`.
 use Rattle.std.specs.Prelude.{ℕ, zero, suc, ◌+◌, ◌*◌, ◌^◌, length, filter, if◌then◌else◌, nat_le}
-use Rattle.loc_spec_plane.specs.Points.{Point}
-use Rattle.loc_spec_plane.specs.Tables.{Table, edge_numbers}
-use Rattle.loc_spec_plane.specs.Places.{alive_at}
+use Rattle.loc_spec_plane.specs.{Points.Point, Tables.Table, Tables.edge_numbers, Places.alive_at}
 
 -- how many edges are alive at p
 abbrev pub alive_count : Table → Point → ℕ

@@ -3,9 +3,7 @@ use Rattle.std.proofs.Common.{◌+◌, ◌-◌, ◌*◌, ◌/◌, ◌%◌, ◌<�
 use Rattle.std.specs.Prelude.{slice_get}
 use Rattle.std.proofs.lemmas.List.{set-append_left, set-append_right, length-append, append-nil, append_assoc}
 use Rattle.std.proofs.lemmas.Option.{slice_get_read, slice_get_within}
-use Rattle.loc_pool.specs.declared.heap.Address.{Address}
-use Rattle.loc_pool.specs.declared.node.Node.{Node}
-use Rattle.loc_pool.specs.declared.node.Slab.{Slab}
+use Rattle.loc_pool.specs.{declared.heap.Address.Address, declared.node.Node.Node, declared.node.Slab.Slab}
 use Rattle.loc_pool.specs.Cells.{Cell, addresses, nodes_of, IsFull}
 
 -- a list at one of its items

@@ -1,10 +1,8 @@
 -- What is found in rows where one is added or exchanged.
 use Rattle.std.proofs.Common.{◌≡◌, true, false, cond, ◌||◌, [], ◌∷◌, ◌++◌, refl, sym, ap, ◌∙◌, Option, Some, None, length, arith}
 use Rattle.std.specs.Prelude.{◌≢◌}
-use Rattle.loc_pool.specs.declared.Link.{Link}
-use Rattle.loc_pool.specs.declared.Turn.{Turn}
-use Rattle.loc_pool.specs.declared.Turn.TheVariants.{Left, Right}
-use Rattle.loc_pool.specs.Same.{same}
+use Rattle.loc_pool.specs.{declared.Link.Link, declared.Turn.Turn}
+use Rattle.loc_pool.specs.{declared.Turn.TheVariants.Left, declared.Turn.TheVariants.Right, Same.same}
 use Rattle.loc_pool.specs.Maps.{Map, has, value_or, found, put}
 use Rattle.loc_pool.specs.Rows.{Row, row, with_child}
 use Rattle.loc_pool.proofs.Same.{same-refl, same-eq, not-same}

@@ -2,8 +2,7 @@
 use Rattle.std.proofs.Common.{ℕ, zero, suc, Some, length, ◌≡◌, true, false, cond, ◌||◌, [], ◌∷◌, ◌++◌, refl, ap, ◌∙◌}
 use Rattle.std.proofs.lemmas.Bool.{or_parts, or_right}
 use Rattle.std.specs.Prelude.{slice_get}
-use Rattle.loc_pool.specs.declared.Link.{Link}
-use Rattle.loc_pool.specs.Same.{same}
+use Rattle.loc_pool.specs.{declared.Link.Link, Same.same}
 use Rattle.loc_pool.specs.Maps.{Map, has, value_or, put, links}
 use Rattle.loc_pool.proofs.Same.{same-refl}
 

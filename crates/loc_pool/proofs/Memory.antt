@@ -11,11 +11,10 @@ use base.Fml.{Lft}
 use types.Kit.{Item, Step, step, prop, ‵, raw, ◌⊛◌, ◌$◌, ◌∵◌, !, qed, move, use0, use1, use2, split, frame, fsplit, fjoin, done}
 use contract.Monad.{fact, fact_i}
 use denote.RawPtr.{Ptr, ptr_val}
-use Rattle.loc_pool.specs.Cells.{Cell}
+use Rattle.loc_pool.specs.{Cells.Cell, Ownership.cell_own, Ownership.cells_own, Ownership.cells_lent}
 use Rattle.loc_pool.specs.contracts.heap.Address.{the_row as Ad}
 use denote.Struct.Lending.{lent_at}
 use Rattle.std.specs.declared.alloc.Global.{Global}
-use Rattle.loc_pool.specs.Ownership.{cell_own, cells_own, cells_lent}
 use Rattle.loc_pool.specs.contracts.node.Slab.{the_row as R}
 use types.Logic.{Logic, sem}
 use denote.RattleType.{RattleType}

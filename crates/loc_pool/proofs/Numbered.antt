@@ -3,14 +3,10 @@ use Rattle.std.proofs.Common.{◌+◌, ◌-◌, ◌<◌, ◌≤◌, suc, zero, l
 use Rattle.std.specs.Prelude.{◌≢◌, slice_get}
 use Rattle.std.specs.List.{AllByRecursion}
 use Rattle.std.proofs.lemmas.List.{length-take, length-take-le, take_more_set}
-use Rattle.std.proofs.Math.Nat.{min-le_left}
-use Rattle.std.proofs.Math.Seq.{take-set-lt}
-use Rattle.loc_pool.specs.declared.Link.{Link}
-use Rattle.loc_pool.specs.declared.node.Node.{Node}
-use Rattle.loc_pool.specs.Same.{same}
+use Rattle.std.proofs.{Math.Nat.min-le_left, Math.Seq.take-set-lt}
+use Rattle.loc_pool.specs.{declared.Link.Link, declared.node.Node.Node, Same.same}
 use Rattle.loc_pool.specs.Maps.{has, value_or, put, links}
-use Rattle.loc_pool.specs.Rows.{row, AreNames, IsPlace}
-use Rattle.loc_pool.specs.Cells.{row_of, rows_from}
+use Rattle.loc_pool.specs.{Rows.row, Rows.AreNames, Rows.IsPlace, Cells.row_of, Cells.rows_from}
 use Rattle.loc_pool.proofs.Same.{same-eq, apart-same}
 
 -- the link with a number

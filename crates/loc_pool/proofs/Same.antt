@@ -2,8 +2,7 @@
 use Rattle.std.proofs.Common.{◌≡◌, Bool, true, false, ◌==◌, refl, sym, ap, ◌∙◌, eqb→eq, T, Some}
 use Rattle.std.specs.Prelude.{◌≢◌}
 use lib.Dec.{eqb_refl}
-use Rattle.loc_pool.specs.declared.Link.{Link}
-use Rattle.loc_pool.specs.Same.{same}
+use Rattle.loc_pool.specs.{declared.Link.Link, Same.same}
 
 true_of : (b : Bool) → T b → b ≡ true
 true_of true t = refl

@@ -10,8 +10,7 @@ use contract.BorrowLft.{⊑_static}
 use denote.RawPtr.{lies_at}
 use denote.Shares.{Shares-less}
 use denote.Struct.Lending.{Lends, lent_at, lent_at_shr_laws, Lends-lies, Lends-first, Lends-both, Lends-nothing}
-use Rattle.loc_pool.specs.Cells.{Cell}
-use Rattle.loc_pool.specs.Ownership.{cells_own, cells_lent, cell_own}
+use Rattle.loc_pool.specs.{Cells.Cell, Ownership.cells_own, Ownership.cells_lent, Ownership.cell_own}
 use Rattle.loc_pool.proofs.Memory.{handle}
 use Rattle.loc_pool.specs.contracts.node.Slab.{the_row as R}
 use Rattle.loc_pool.proofs.node.Slab.TheLaws.{the_row_laws as L}

@@ -1,17 +1,11 @@
 -- The slabs in memory by their addresses, the nodes in them, and the rows that these stand for. The words: `Cell`, `addresses`, `nodes_of`, `IsFull`,
 -- `if_there`, `mark_of`, `extra_of`, `row_of`, `rows_from`, `IsPool`.
 use Rattle.std.specs.Prelude.{◌≡◌, ℕ, ◌+◌, ◌^◌, ◌<◌, ◌≤◌, Bool, true, false, List, [], ◌∷◌, ◌++◌, length, Option, None, Some}
-use Rattle.loc_pool.specs.declared.Link.{Link}
-use Rattle.loc_pool.specs.declared.Extra.{Extra}
-use Rattle.loc_pool.specs.declared.Turn.{Turn}
+use Rattle.loc_pool.specs.{declared.Link.Link, declared.Extra.Extra, declared.Turn.Turn}
 use Rattle.loc_pool.specs.declared.Turn.TheVariants.{Left, Right}
-use Rattle.loc_pool.specs.declared.heap.Address.{Address}
-use Rattle.loc_pool.specs.declared.node.Node.{Node}
-use Rattle.loc_pool.specs.declared.node.Slab.{Slab}
-use Rattle.loc_pool.specs.declared.node.Mark.{Mark}
+use Rattle.loc_pool.specs.{declared.heap.Address.Address, declared.node.Node.Node, declared.node.Slab.Slab}
+use Rattle.loc_pool.specs.{declared.node.Mark.Mark, Maps.Map, Rows.Row}
 use Rattle.loc_pool.specs.declared.node.Mark.TheVariants.{Free, LeftEnd, LeftTo, RightEnd, RightTo}
-use Rattle.loc_pool.specs.Maps.{Map}
-use Rattle.loc_pool.specs.Rows.{Row}
 
 -- a slab and where it lies
 abbrev pub Cell : Type 0

@@ -1,8 +1,7 @@
 -- A map from links to values: the pairs in the order in which they came, of which the first counts. The words: `Map`, `has`, `value_or`, `found`, `put`,
 -- `links`.
 use Rattle.std.specs.Prelude.{Bool, false, cond, ◌||◌, List, [], ◌∷◌, Option, None, Some}
-use Rattle.loc_pool.specs.declared.Link.{Link}
-use Rattle.loc_pool.specs.Same.{same}
+use Rattle.loc_pool.specs.{declared.Link.Link, Same.same}
 
 -- a map from links
 abbrev pub Map : Type 0 → Type 0

@@ -3,11 +3,9 @@ use Rattle.std.specs.Prelude.{List, [], ◌∷◌}
 use base.Fml.{Lft, Fml, ftrue, fsep}
 use denote.Sharing.{nothing, beside}
 use denote.Struct.Lending.{lent_at}
-use Rattle.std.specs.declared.alloc.Global.{Global}
-use Rattle.std.specs.contracts.impls.GlobalAllocator.TheImpl.{ghosts}
+use Rattle.std.specs.{declared.alloc.Global.Global, contracts.impls.GlobalAllocator.TheImpl.ghosts}
 use Rattle.std_alloc.specs.Box.Ownership.{box_owns}
-use Rattle.loc_pool.specs.Cells.{Cell}
-use Rattle.loc_pool.specs.contracts.node.Slab.{the_row}
+use Rattle.loc_pool.specs.{Cells.Cell, contracts.node.Slab.the_row}
 
 -- a slab in its block, and the right to free the block by the handle a
 abbrev pub cell_own : Global → Cell → Fml

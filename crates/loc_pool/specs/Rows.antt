@@ -1,14 +1,10 @@
 -- A pool as contracts see it: the rows of its nodes by their links, and the room for more. The words: `Row`, `Nodes`, `no_link`, `blank`, `row`, `new_row`,
 -- `plain_child`, `with_child`, `same_turn`, `child_by`, `child_at`, `stamped`, `IsFree`, `AreNames`, `IsNew`, `IsPlace`.
 use Rattle.std.specs.Prelude.{◌≡◌, ◌≢◌, ℕ, ◌-◌, ◌≤◌, ◌&&◌, ◌⊎◌, Bool, true, false, cond, nat_le, List, [], ◌∷◌, Option, None, Some, slice_get}
-use Rattle.loc_pool.specs.declared.Link.{Link}
-use Rattle.loc_pool.specs.declared.Extra.{Extra}
-use Rattle.loc_pool.specs.declared.Turn.{Turn}
-use Rattle.loc_pool.specs.declared.Turn.TheVariants.{Left, Right}
-use Rattle.loc_pool.specs.declared.Colour.{Colour}
-use Rattle.loc_pool.specs.declared.Colour.TheVariants.{Black}
+use Rattle.loc_pool.specs.{declared.Link.Link, declared.Extra.Extra, declared.Turn.Turn}
+use Rattle.loc_pool.specs.{declared.Turn.TheVariants.Left, declared.Turn.TheVariants.Right, declared.Colour.Colour}
+use Rattle.loc_pool.specs.{declared.Colour.TheVariants.Black, Maps.Map, Maps.has, Maps.value_or}
 use Rattle.std.specs.List.{AllByRecursion}
-use Rattle.loc_pool.specs.Maps.{Map, has, value_or}
 
 -- a node's row: its item, its plain children, the child that counts from a version on, and its colour
 pub record Row : Type 0 where

@@ -1,11 +1,9 @@
 -- A query follows its course where its parts do: the layer, the order of its edges, and what is asked of an index.
 use Rattle.std.proofs.Common.{◌≡◌, List, Bool, Option, length, subst}
 use Rattle.loc_spec_text.specs.Bytes.{Text}
-use Rattle.loc_spec_asked.specs.declared.Index.{Index}
-use Rattle.loc_spec_asked.specs.Orders.{AskedOrder}
+use Rattle.loc_spec_asked.specs.{declared.Index.Index, Orders.AskedOrder}
 use Rattle.loc_rings.specs.Values.{Feature}
-use Rattle.loc_course.specs.Courses.{Course, Stopped}
-use Rattle.loc_course.specs.Following.{Follows, Moment}
+use Rattle.loc_course.specs.{Courses.Course, Courses.Stopped, Following.Follows, Following.Moment}
 use Rattle.loc_maps.specs.Located.{table_in}
 use Rattle.loc_maps.specs.MapCourses.{LayerFile, accepted_course, layer_course, pieces_course}
 use Rattle.loc_orders.specs.OrderCourses.{asked_course}

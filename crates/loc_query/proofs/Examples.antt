@@ -1,10 +1,7 @@
 -- Answers, computed.
 use Rattle.std.proofs.Common.{◌≡◌, false, [], ◌∷◌, refl, codes}
-use Rattle.std.specs.Prelude.{pos}
-use Rattle.std.specs.Fmt.{digits}
-use Rattle.loc_spec_plane.specs.Points.{point_at, turn}
-use Rattle.loc_spec_plane.specs.Rings.{Ring}
-use Rattle.loc_spec_plane.specs.Tables.{table_by}
+use Rattle.std.specs.{Prelude.pos, Fmt.digits}
+use Rattle.loc_spec_plane.specs.{Points.point_at, Points.turn, Rings.Ring, Tables.table_by}
 use Rattle.loc_spec_text.specs.Number.{scaled, unit}
 use Rattle.loc_place.specs.Found.{place_at}
 use Rattle.loc_maps.specs.Located.{table_in}

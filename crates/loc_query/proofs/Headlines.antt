@@ -1,37 +1,27 @@
 -- The headline, by what the told files come to.
 use Rattle.std.proofs.Common.{◌≡◌, ◌⊎◌, ℕ, ◌*◌, ◌<◌, ◌≤◌, Bool, true, false, List, length, Option, None, Result, Ok, Err, refl, sym, subst, inl, inr, arith}
-use Rattle.std.specs.Prelude.{IsTrue, codes, not}
-use Rattle.std.specs.Io.KnownBytes.{Appends}
-use Rattle.std.proofs.lemmas.Bool.{cases_lt}
-use Rattle.std.proofs.lemmas.Bool.Decides.{Decides-ltb}
-use Rattle.loc_io.specs.Streams.{Stream}
-use Rattle.loc_io.specs.Meaning.{Told, holds}
-use Rattle.loc_spec_plane.specs.Covers.{cover_sum}
-use Rattle.loc_spec_asked.specs.declared.Index.{Index}
-use Rattle.loc_spec_asked.specs.Orders.{AskedOrder, in_file, shuffled_from}
-use Rattle.loc_spec_text.specs.Bytes.{Text, lines}
-use Rattle.loc_spec_text.specs.Points.{ended}
+use Rattle.std.specs.{Prelude.IsTrue, Prelude.codes, Prelude.not, Io.KnownBytes.Appends}
+use Rattle.std.proofs.{lemmas.Bool.cases_lt, lemmas.Bool.Decides.Decides-ltb}
+use Rattle.loc_io.specs.{Streams.Stream, Meaning.Told, Meaning.holds}
+use Rattle.loc_spec_plane.specs.{Covers.cover_sum, Tables.piece_count}
+use Rattle.loc_spec_asked.specs.{declared.Index.Index, Orders.AskedOrder, Orders.in_file, Orders.shuffled_from}
+use Rattle.loc_spec_text.specs.{Bytes.Text, Bytes.lines, Points.ended}
 use Rattle.loc_rings.specs.Values.{Feature}
 use Rattle.loc_csvform.specs.Layer.{LayerRead, layer_of}
-use Rattle.loc_spec_plane.specs.Tables.{piece_count}
-use Rattle.loc_edges.specs.Conflicts.{has_conflict}
-use Rattle.loc_edges.specs.Layers.{layer_rings}
+use Rattle.loc_edges.specs.{Conflicts.has_conflict, Layers.layer_rings}
 use Rattle.loc_spec_text.specs.Limits.{most_members, most_pieces, most_text}
 use Rattle.loc_batch.specs.PointLines.{is_point_line, point_count}
 use Rattle.loc_course.specs.Courses.{Source, Course, reads as reads_from, refuses}
 use Rattle.loc_course.specs.Moments.{Moment, IsToldText}
 use Rattle.loc_course.specs.Outcomes.{Outcome, refusal, output, exactly, outcome}
 use Rattle.loc_course.specs.Sentences.{EndsSo, IsDoing, MakesNone, MayRefuseBehind, NoneFailed, OutSo, Sentences, Steady, WithinSteps, Wrote}
-use Rattle.loc_course.proofs.Streamed.{long_or_short, seen_steps}
-use Rattle.loc_course.proofs.Told.{it_exactly}
+use Rattle.loc_course.proofs.{Streamed.long_or_short, Streamed.seen_steps, Told.it_exactly}
 use Rattle.loc_maps.specs.Conflicts.{Accepts, names_conflict}
 use Rattle.loc_maps.specs.LineTexts.{layer_fault_text, covers_text, pieces_text}
 use Rattle.loc_maps.specs.Located.{edges_of, table_in}
-use Rattle.loc_maps.specs.MapCourses.{LayerFile, accepted_course, layer_in}
-use Rattle.loc_maps.specs.Maps.{HasFewPieces}
+use Rattle.loc_maps.specs.{MapCourses.LayerFile, MapCourses.accepted_course, MapCourses.layer_in, Maps.HasFewPieces}
 use Rattle.loc_maps.proofs.Judged.{accepted_all, layer_all, pieces_all}
-use Rattle.loc_trapdag.specs.Orders.{order_of}
-use Rattle.loc_trapdag.specs.declared.order.OrderFault.{OrderFault}
+use Rattle.loc_trapdag.specs.{Orders.order_of, declared.order.OrderFault.OrderFault}
 use Rattle.loc_orders.specs.OrderTexts.{order_fault_text}
 use Rattle.loc_orders.proofs.Asked.{asked_all}
 use Rattle.loc_query.specs.Answered.{output_of, output_within}

@@ -2,28 +2,23 @@
 use Rattle.std.proofs.Common.{◌≡◌, ℕ, suc, ◌+◌, ◌<◌, Bool, true, false, ◌&&◌, List, [], ◌∷◌, length, get_or, map, filter, Option, Some, None, Ok, refl, sym, ◌∙◌, ap, ap₂, subst, inl, inr, arith}
 use Rattle.std.specs.Prelude.{nat_lt, codes, option_map, unwrap_or}
 use Rattle.std.specs.List.{range_with_len}
-use Rattle.std.proofs.Math.Path.{fun_ext}
+use Rattle.std.proofs.{Math.Path.fun_ext, lemmas.List.get_or_past, lemmas.List.length-map}
 use Rattle.std.proofs.lemmas.Bool.{and_left, and_parts, cases_Bool, cases_lt, cond-true, cond-false, ltb-true}
-use Rattle.std.proofs.lemmas.List.{get_or_past, length-map}
-use Rattle.loc_spec_text.specs.Bytes.{Text}
+use Rattle.loc_spec_text.specs.{Bytes.Text, Limits.most_text}
 use Rattle.loc_spec_asked.specs.declared.Index.{Index}
 use Rattle.loc_spec_plane.specs.declared.Place.{Place}
 use Rattle.loc_spec_plane.specs.declared.Place.TheVariants.{Corner, Border, Area}
 use Rattle.loc_spec_plane.specs.Lists.{is_in, is_rising, numbers}
-use Rattle.loc_spec_plane.specs.Points.{Point, lies_on, same_point}
-use Rattle.loc_spec_plane.specs.Places.{IsPlace, is_edge}
+use Rattle.loc_spec_plane.specs.{Points.Point, Points.lies_on, Points.same_point, Places.IsPlace, Places.is_edge}
 use Rattle.loc_spec_plane.specs.Rings.{Rings, touches, covers}
 use Rattle.loc_spec_plane.specs.Tables.{Table, IsTable, corner, edge, covers_by_marks, touches_by_marks}
 use Rattle.loc_spec_plane.proofs.Checks.{is_in-past}
 use Rattle.loc_spec_text.specs.Points.{answer_to, ended, no_point, on_corner, on_border, in_face, point_of}
-use Rattle.loc_laws_order.proofs.Kept.{numbers_rise, rising_kept}
-use Rattle.loc_laws_order.proofs.TableOrder.{numbers_within}
-use Rattle.loc_laws_order.proofs.Unique.{rising-unique}
+use Rattle.loc_laws_order.proofs.{Kept.numbers_rise, Kept.rising_kept, TableOrder.numbers_within, Unique.rising-unique}
 use Rattle.loc_laws_rays.proofs.Members.{in_numbers, is_in-filter}
 use Rattle.loc_rings.specs.Values.{Feature, rings_of}
 use Rattle.loc_edges.specs.Layers.{layer_rings}
-use Rattle.loc_place.specs.Found.{place_at}
-use Rattle.loc_place.specs.Planar.{IsPlanar}
+use Rattle.loc_place.specs.{Found.place_at, Planar.IsPlanar}
 use Rattle.loc_place.proofs.FoundPlace.{place_at_is}
 use Rattle.loc_cover.specs.Legends.{LegendRows, IsSound, covering, touching}
 use Rattle.loc_cover.proofs.Covered.{covering_covers, touching_touches}
@@ -32,15 +27,10 @@ use Rattle.loc_batch.specs.PointLines.{is_point_line}
 use Rattle.loc_batch.proofs.Marks.{covering_rises}
 use Rattle.loc_faces.specs.Subdivision.{shown_at}
 use Rattle.loc_answering.specs.ByLine.{as_bytes, by_line}
-use Rattle.loc_course.specs.Courses.{Stopped, answers}
-use Rattle.loc_course.specs.Following.{Follows}
-use Rattle.loc_course.specs.Moments.{Moment}
-use Rattle.loc_course.specs.Stops.{source}
+use Rattle.loc_course.specs.{Courses.Stopped, Courses.answers, Following.Follows, Moments.Moment, Stops.source}
 use Rattle.loc_course.specs.Streams.{Answering}
 use Rattle.loc_maps.proofs.TableLaws.{covers_is, is_table, touches_is}
-use Rattle.loc_maps.specs.Located.{table_in}
-use Rattle.loc_spec_text.specs.Limits.{most_text}
-use Rattle.loc_maps.specs.Maps.{IsMapOf}
+use Rattle.loc_maps.specs.{Located.table_in, Maps.IsMapOf}
 use Rattle.loc_query.specs.Answered.{answer_at, answer_line, ids_where, located}
 use Rattle.loc_query.specs.QueryCourses.{points_course, steps_by}
 

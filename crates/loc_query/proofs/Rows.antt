@@ -1,37 +1,28 @@
 -- The refusals of a query and its output, as rows: what the told files come to.
 use Rattle.std.proofs.Common.{◌≡◌, ℕ, ◌<◌, ◌≤◌, Bool, List, length, take, Result, Ok, Err, refl, ◌∙◌, ap, true, codes}
 use Rattle.std.specs.Prelude.{nat_lt}
-use Rattle.std.proofs.lemmas.Bool.{cond-true}
-use Rattle.std.proofs.lemmas.Bool.Decides.{Decides-ltb}
+use Rattle.std.proofs.{lemmas.Bool.cond-true, lemmas.Bool.Decides.Decides-ltb}
 use Rattle.loc_io.specs.Meaning.{Told, holds}
 use Rattle.loc_spec_plane.specs.Covers.{cover_sum}
-use Rattle.loc_spec_asked.specs.declared.Index.{Index}
-use Rattle.loc_spec_asked.specs.Orders.{AskedOrder, in_file, shuffled_from}
-use Rattle.loc_spec_text.specs.Answered.{Answered, answered}
-use Rattle.loc_spec_text.specs.Bytes.{Text, ended_lines, lines}
-use Rattle.loc_spec_text.specs.Points.{ended}
+use Rattle.loc_spec_asked.specs.{declared.Index.Index, Orders.AskedOrder, Orders.in_file, Orders.shuffled_from}
+use Rattle.loc_spec_text.specs.{Answered.Answered, Answered.answered, Bytes.Text, Bytes.ended_lines, Bytes.lines}
+use Rattle.loc_spec_text.specs.{Points.ended, Limits.most_members, Limits.most_text}
 use Rattle.loc_spec_text.proofs.AnsweredLaws.{all_answered, joined}
 use Rattle.loc_rings.specs.Values.{Feature}
-use Rattle.loc_csvform.specs.Layer.{LayerRead, layer_of}
-use Rattle.loc_csvform.specs.declared.faults.LayerFault.{LayerFault}
+use Rattle.loc_csvform.specs.{Layer.LayerRead, Layer.layer_of, declared.faults.LayerFault.LayerFault}
 use Rattle.loc_edges.specs.Conflicts.{has_conflict}
-use Rattle.loc_course.specs.Courses.{Source, Course, refuses}
+use Rattle.loc_course.specs.{Courses.Source, Courses.Course, Courses.refuses, Stops.source}
 use Rattle.loc_course.specs.Outcomes.{Outcome, refusal, output, partly, by_text, by_lines, by_refusal, exactly, outcome}
-use Rattle.loc_course.specs.Stops.{source}
 use Rattle.loc_course.specs.Streams.{Answering, answered_long, out_of}
-use Rattle.loc_course.proofs.Streamed.{of_whole}
-use Rattle.loc_course.proofs.Texts.{long, short}
+use Rattle.loc_course.proofs.{Streamed.of_whole, Texts.long, Texts.short}
 use Rattle.loc_maps.specs.Conflicts.{Accepts, names_conflict}
 use Rattle.loc_maps.specs.LineTexts.{layer_fault_text, covers_text, pieces_text}
 use Rattle.loc_maps.specs.Located.{edges_of, table_in}
 use Rattle.loc_maps.specs.MapCourses.{LayerFile, accepted_course, covers_course, layer_in}
-use Rattle.loc_spec_text.specs.Limits.{most_members, most_text}
 use Rattle.loc_maps.specs.Maps.{HasFewPieces, has_many_covers, has_many_pieces}
 use Rattle.loc_maps.proofs.Judged.{on_apart, on_few_covers, on_few_pieces}
-use Rattle.loc_trapdag.specs.Orders.{order_of}
-use Rattle.loc_trapdag.specs.declared.order.OrderFault.{OrderFault}
-use Rattle.loc_orders.specs.OrderCourses.{asked_course, order_in}
-use Rattle.loc_orders.specs.OrderTexts.{order_fault_text}
+use Rattle.loc_trapdag.specs.{Orders.order_of, declared.order.OrderFault.OrderFault}
+use Rattle.loc_orders.specs.{OrderCourses.asked_course, OrderCourses.order_in, OrderTexts.order_fault_text}
 use Rattle.loc_query.specs.Answered.{answer_line, output_of, output_within}
 use Rattle.loc_query.specs.Headline.{IsInOrder, edge_count}
 use Rattle.loc_query.specs.QueryCourses.{asked_layer, points_course, query_course}

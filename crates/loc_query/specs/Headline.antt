@@ -2,31 +2,22 @@
 -- `edge_count`, `steps_in`, `Headline`.
 use Rattle.std.specs.Prelude.{◌≡◌, ◌⊎◌, ℕ, ◌+◌, ◌*◌, ◌<◌, ◌≤◌, Bool, List, length, Ok, Err, IsTrue, ⊤, codes}
 use Rattle.std.specs.Io.KnownBytes.{Appends}
-use Rattle.loc_io.specs.Streams.{Stream}
-use Rattle.loc_io.specs.Meaning.{Told, holds}
+use Rattle.loc_io.specs.{Streams.Stream, Meaning.Told, Meaning.holds}
 use Rattle.loc_spec_plane.specs.Covers.{cover_sum}
-use Rattle.loc_spec_asked.specs.declared.Index.{Index}
-use Rattle.loc_spec_asked.specs.Orders.{AskedOrder, in_file, shuffled_from}
-use Rattle.loc_spec_text.specs.Bytes.{Text, lines}
-use Rattle.loc_spec_text.specs.Points.{ended}
+use Rattle.loc_spec_asked.specs.{declared.Index.Index, Orders.AskedOrder, Orders.in_file, Orders.shuffled_from}
+use Rattle.loc_spec_text.specs.{Bytes.Text, Bytes.lines, Points.ended, Limits.most_members, Limits.most_text}
 use Rattle.loc_rings.specs.Values.{Feature}
-use Rattle.loc_csvform.specs.Layer.{LayerRead, layer_of}
-use Rattle.loc_csvform.specs.declared.faults.LayerFault.{LayerFault}
+use Rattle.loc_csvform.specs.{Layer.LayerRead, Layer.layer_of, declared.faults.LayerFault.LayerFault}
 use Rattle.loc_edges.specs.Conflicts.{has_conflict}
-use Rattle.loc_course.specs.Moments.{Moment}
-use Rattle.loc_course.specs.Sentences.{Steady, Wrote}
+use Rattle.loc_course.specs.{Moments.Moment, Sentences.Steady, Sentences.Wrote}
 use Rattle.loc_maps.specs.Conflicts.{Accepts, names_conflict}
 use Rattle.loc_maps.specs.LineTexts.{layer_fault_text, covers_text, pieces_text}
-use Rattle.loc_maps.specs.Located.{edges_of, table_in}
-use Rattle.loc_maps.specs.MapCourses.{LayerFile}
-use Rattle.loc_spec_text.specs.Limits.{most_members, most_text}
+use Rattle.loc_maps.specs.{Located.edges_of, Located.table_in, MapCourses.LayerFile}
 use Rattle.loc_maps.specs.Maps.{HasFewPieces, has_many_pieces}
-use Rattle.loc_trapdag.specs.Orders.{order_of}
-use Rattle.loc_trapdag.specs.declared.order.OrderFault.{OrderFault}
+use Rattle.loc_trapdag.specs.{Orders.order_of, declared.order.OrderFault.OrderFault}
 use Rattle.loc_orders.specs.OrderTexts.{order_fault_text}
 use Rattle.loc_batch.specs.PointLines.{point_count}
-use Rattle.loc_query.specs.Answered.{output_of, output_within}
-use Rattle.loc_query.specs.QueryCourses.{steps_by}
+use Rattle.loc_query.specs.{Answered.output_of, Answered.output_within, QueryCourses.steps_by}
 
 -- the text is within the limit and reads as a layer of these features, its pieces are few, no two of its edges conflict, and its cover lists are few
 pub record IsAccepted (file : LayerFile) (layer : Text) (features : List Feature) : Type 0 where

@@ -1,16 +1,12 @@
 -- Red-black trees by their parts.
 use Rattle.std.proofs.Common.{◌≡◌, ℕ, List, [], ◌∷◌, ◌++◌, refl, sym, ap, ◌∙◌, subst, ◌+◌, arith}
-use Rattle.loc_pool.specs.declared.Link.{Link}
-use Rattle.loc_pool.specs.declared.Turn.{Turn}
-use Rattle.loc_pool.specs.declared.Turn.TheVariants.{Left, Right}
-use Rattle.loc_pool.specs.declared.Colour.{Colour}
+use Rattle.loc_pool.specs.{declared.Link.Link, declared.Turn.Turn}
+use Rattle.loc_pool.specs.{declared.Turn.TheVariants.Left, declared.Turn.TheVariants.Right, declared.Colour.Colour}
 use Rattle.loc_pool.specs.declared.Colour.TheVariants.{Red, Black}
 use Rattle.loc_rb.specs.Trees.{Tree, leaf, node, items, Frame, node_at, under, plug, SameButLinks}
-use Rattle.loc_rb.specs.Nodes.{Nodes}
+use Rattle.loc_rb.specs.{Nodes.Nodes, Places.Spot, Places.Holds, Steps.IsRedTop}
 use Rattle.loc_rb.proofs.OneChange.{alike-induction}
 use Rattle.loc_rb.specs.Balance.{IsBlackTop, MayHang, black, HasBlackHeight, IsRedBlack, MayBe, Takes, Awaits}
-use Rattle.loc_rb.specs.Places.{Spot, Holds}
-use Rattle.loc_rb.specs.Steps.{IsRedTop}
 
 -- a balanced node seen from a side: its children may hang under it, and have one black height
 pub balanced-parts : (turn : Turn) (l : Link) (t : Tree) (x : ℕ) (c : Colour) (o : Tree) (h : ℕ) → HasBlackHeight (node_at turn l t x c o) h → MayHang c t × MayHang c o × ((k : ℕ) × (h ≡ black c + k) × HasBlackHeight t k × HasBlackHeight o k)

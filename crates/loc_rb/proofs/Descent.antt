@@ -1,18 +1,12 @@
 -- The way down to the first node of a tree, and how long a path is.
 use Rattle.std.proofs.Common.{◌-◌, ◌≡◌, ℕ, suc, List, [], ◌∷◌, ◌++◌, refl, sym, ap, ◌∙◌, subst, ◌+◌, ◌*◌, ◌^◌, ◌≤◌, arith, Some, None, inl, inr, append_assoc, append-nil, length, length-append}
-use Rattle.std.proofs.Math.Nat.{pow-suc}
-use Rattle.std.proofs.Math.Pow.{pow_mono}
-use Rattle.std.proofs.lemmas.Nat.{pow-add, mul-le}
-use Rattle.loc_pool.specs.declared.Link.{Link}
-use Rattle.loc_pool.specs.declared.Turn.{Turn}
-use Rattle.loc_pool.specs.declared.Turn.TheVariants.{Left, Right}
-use Rattle.loc_pool.specs.declared.Colour.{Colour}
+use Rattle.std.proofs.{Math.Nat.pow-suc, Math.Pow.pow_mono, lemmas.Nat.pow-add, lemmas.Nat.mul-le}
+use Rattle.loc_pool.specs.{declared.Link.Link, declared.Turn.Turn}
+use Rattle.loc_pool.specs.{declared.Turn.TheVariants.Left, declared.Turn.TheVariants.Right, declared.Colour.Colour}
 use Rattle.loc_pool.specs.declared.Colour.TheVariants.{Red, Black}
 use Rattle.loc_rb.specs.Trees.{Tree, leaf, node, top, items, Fits, Frame, node_at, plug, entries, before, after, lower, higher}
-use Rattle.loc_rb.specs.Nodes.{Nodes, live}
+use Rattle.loc_rb.specs.{Nodes.Nodes, Nodes.live, Places.Spot, Steps.LeftmostPath}
 use Rattle.loc_rb.specs.Balance.{IsBlackTop, HasBlackHeight, IsRedBlack, depth}
-use Rattle.loc_rb.specs.Places.{Spot}
-use Rattle.loc_rb.specs.Steps.{LeftmostPath}
 use Rattle.loc_rb.proofs.Trees.{fits-end, plug-snoc}
 use Rattle.loc_rb.proofs.OneChange.{pushed, frame_of, some-link, none-or}
 

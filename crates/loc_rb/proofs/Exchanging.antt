@@ -3,17 +3,14 @@
 use Rattle.std.proofs.Common.{◌≡◌, List, [], ◌∷◌, ◌++◌, refl, sym, ap, ◌∙◌, subst, Option, Some, None, cond, true, false, ◌⊎◌, inl, inr}
 use Rattle.std.specs.Prelude.{◌≢◌}
 use Rattle.std.specs.List.{AllByRecursion}
-use Rattle.loc_pool.specs.declared.Link.{Link}
-use Rattle.loc_pool.specs.declared.Turn.{Turn}
+use Rattle.loc_pool.specs.{declared.Link.Link, declared.Turn.Turn}
 use Rattle.loc_pool.specs.declared.Turn.TheVariants.{Left, Right}
 use Rattle.loc_rb.specs.Trees.{Row, Reading, with_child, links_of, next, Once, Leads, Carried}
 use Rattle.loc_rb.specs.Nodes.{Nodes, live, IsLive, IsOld, KeepsItems, StandsFor, StandFor, CanChange}
 use Rattle.loc_rb.specs.Exchanges.{Exchanges, InPlace, Copies}
-use Rattle.loc_rb.proofs.Counts.{keeps-trans}
-use Rattle.loc_rb.proofs.Trees.{apart-all}
+use Rattle.loc_rb.proofs.{Counts.keeps-trans, Trees.apart-all, Recolouring.some-row, Recolouring.path-same}
 use Rattle.loc_rb.proofs.OneChange.{live-rows, is-live, some-link, not-new}
 pub use Rattle.loc_rb.proofs.OneChange.{by-link}
-use Rattle.loc_rb.proofs.Recolouring.{some-row, path-same}
 
 item-same : (turn : Turn) (x : Row) (o : Option Link) → (with_child turn o x).item ≡ x.item
 item-same Left x o = refl

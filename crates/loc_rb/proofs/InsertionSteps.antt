@@ -1,10 +1,7 @@
 -- The steps of an insertion.
 use Rattle.std.proofs.Common.{◌≡◌, ℕ, List, [], ◌∷◌, ◌++◌, refl, sym, ap, ◌∙◌, subst, ◌+◌, ◌≤◌, arith, Some, None, cond, true, false, inl, inr}
-use Rattle.loc_pool.specs.declared.Link.{Link}
-use Rattle.loc_pool.specs.declared.Turn.{Turn}
-use Rattle.loc_pool.specs.declared.Turn.TheVariants.{Left}
-use Rattle.loc_pool.specs.declared.Colour.{Colour}
-use Rattle.loc_pool.specs.declared.Colour.TheVariants.{Red, Black}
+use Rattle.loc_pool.specs.{declared.Link.Link, declared.Turn.Turn, declared.Turn.TheVariants.Left}
+use Rattle.loc_pool.specs.{declared.Colour.Colour, declared.Colour.TheVariants.Red, declared.Colour.TheVariants.Black}
 use Rattle.loc_rb.specs.Trees.{Row, Tree, leaf, node, items, Fits, Frame, node_at, plug, flip, count}
 use Rattle.loc_rb.specs.Nodes.{Nodes, live, IsLive, Colours, Makes}
 use Rattle.loc_rb.specs.Balance.{IsBlackTop, MayHang, black, HasBlackHeight, MayBe, Awaits}
@@ -13,10 +10,9 @@ use Rattle.loc_rb.specs.Steps.{IsRedTop, ToRotate, Replaced, RedViolation, RedPa
 use Rattle.loc_rb.proofs.Trees.{inner, fits-end, node-row, plug-snoc, stays, count-leaf, count-node_at, items-plug}
 use Rattle.loc_rb.proofs.OneChange.{pushed, popped, frame_of, has-row, SameButLinks-refl, no-frames, live-rows, is-live, none-or, in-row}
 use Rattle.loc_rb.proofs.Rotations.{Beside, beside-hung, to_turn, to-rotate, turned_tree, node_at-flip, flip-flip}
-use Rattle.loc_rb.proofs.Recolouring.{recolour-spot}
+use Rattle.loc_rb.proofs.{Recolouring.recolour-spot, ReadCalls.colour-is}
 use Rattle.loc_rb.proofs.Balanced.{balanced-join, may-hang, may-be-black, may-be-red, red-top-node_at, black-top-node_at, RedShape, red-shape, red-parts, red-join, red-blackened, zero-black, awaits-popped, awaits-above, awaits-alike, awaits-root, awaits-cut, holds-of, taken-by}
 use Rattle.loc_rb.proofs.ItemLists.{items-alike, items-under, items-turned, replaced-up, before-SameButLinks, after-SameButLinks}
-use Rattle.loc_rb.proofs.ReadCalls.{colour-is}
 use Rattle.std.specs.Prelude.{◌≢◌}
 use Rattle.loc_pool.specs.Same.{same}
 use Rattle.loc_pool.proofs.Same.{same-eq}

@@ -1,16 +1,11 @@
 -- What stays where only links are exchanged, and where a rotation or a colour changes a tree.
 use Rattle.std.proofs.Common.{◌≡◌, ℕ, List, [], ◌∷◌, ◌++◌, refl, sym, ap, ◌∙◌, subst, append_assoc}
-use Rattle.loc_pool.specs.declared.Link.{Link}
-use Rattle.loc_pool.specs.declared.Turn.{Turn}
-use Rattle.loc_pool.specs.declared.Turn.TheVariants.{Left, Right}
-use Rattle.loc_pool.specs.declared.Colour.{Colour}
+use Rattle.loc_pool.specs.{declared.Link.Link, declared.Turn.Turn}
+use Rattle.loc_pool.specs.{declared.Turn.TheVariants.Left, declared.Turn.TheVariants.Right, declared.Colour.Colour}
 use Rattle.loc_rb.specs.Trees.{Tree, items, Frame, node_at, plug, entries, SameButLinks, before, after, lower, higher}
-use Rattle.loc_rb.specs.Nodes.{Nodes}
-use Rattle.loc_rb.specs.Places.{Spot}
-use Rattle.loc_rb.specs.Steps.{Replaced}
-use Rattle.loc_rb.proofs.Trees.{items-plug}
+use Rattle.loc_rb.specs.{Nodes.Nodes, Places.Spot, Steps.Replaced}
+use Rattle.loc_rb.proofs.{Trees.items-plug, Rotations.to_turn, Rotations.turned_tree}
 use Rattle.loc_rb.proofs.OneChange.{alike-induction, frame_of, entries-snoc, unpushed}
-use Rattle.loc_rb.proofs.Rotations.{to_turn, turned_tree}
 
 -- links play no part in the items before
 pub before-SameButLinks : (C D : List Frame) → SameButLinks C D → before D ≡ before C

@@ -1,19 +1,14 @@
 -- A new node takes the place of another.
 use Rattle.std.proofs.Common.{◌≡◌, ℕ, List, [], refl, sym, ap, ◌∙◌, subst, ◌+◌, ◌≤◌, arith, Some, None, Option, cond}
-use Rattle.loc_pool.specs.declared.Link.{Link}
-use Rattle.loc_pool.specs.declared.Turn.{Turn}
-use Rattle.loc_pool.specs.declared.Turn.TheVariants.{Left, Right}
-use Rattle.loc_pool.specs.declared.Colour.{Colour}
+use Rattle.loc_pool.specs.{declared.Link.Link, declared.Turn.Turn}
+use Rattle.loc_pool.specs.{declared.Turn.TheVariants.Left, declared.Turn.TheVariants.Right, declared.Colour.Colour}
 use Rattle.loc_pool.specs.Same.{same}
 use Rattle.loc_rb.specs.Trees.{Row, Tree, leaf, node, Fits, node_at, plug, count, child_of}
 use Rattle.loc_rb.specs.Nodes.{Nodes, live, CanChange, Changes, Makes, Within, IsOld}
-use Rattle.loc_rb.specs.Places.{Spot}
-use Rattle.loc_rb.specs.Steps.{CanTransplant, NodeAt}
-use Rattle.loc_rb.proofs.ReadCalls.{child-is, colour-is}
+use Rattle.loc_rb.specs.{Places.Spot, Steps.CanTransplant, Steps.NodeAt}
+use Rattle.loc_rb.proofs.{ReadCalls.child-is, ReadCalls.colour-is, OneChange.by-link, InsertionSteps.new-beside}
 use Rattle.loc_rb.proofs.Trees.{count-leaf, self-once, count-plug, count-node_at, inner, fits-end}
-use Rattle.loc_rb.proofs.OneChange.{by-link}
 use Rattle.loc_rb.proofs.Rotations.{Beside, can-change-beside, beside-changed, beside-hung}
-use Rattle.loc_rb.proofs.InsertionSteps.{new-beside}
 
 -- the tree of the node whose place is taken
 abbrev pub tree_at : (n : Nodes) (es : List (Link × Turn)) (at : Link) → NodeAt n es at → Tree

@@ -2,17 +2,14 @@
 use Rattle.std.proofs.Common.{◌≡◌, ℕ, zero, suc, List, [], ◌∷◌, ◌++◌, refl, sym, ap, ◌∙◌, subst, Option, Some, None, ◌+◌, ◌≤◌, ◌<◌, cond, true, false, arith, ◌⊎◌, inl, inr, length}
 use Rattle.std.specs.Prelude.{◌≢◌}
 use Rattle.std.specs.List.{AllByRecursion}
-use Rattle.loc_pool.specs.declared.Link.{Link}
-use Rattle.loc_pool.specs.declared.Turn.{Turn}
-use Rattle.loc_pool.specs.declared.Turn.TheVariants.{Left, Right}
-use Rattle.loc_pool.specs.declared.Colour.{Colour}
+use Rattle.loc_pool.specs.{declared.Link.Link, declared.Turn.Turn}
+use Rattle.loc_pool.specs.{declared.Turn.TheVariants.Left, declared.Turn.TheVariants.Right, declared.Colour.Colour}
 use Rattle.loc_pool.specs.Same.{same}
 use Rattle.loc_pool.proofs.Same.{same-eq}
 pub use Rattle.loc_pool.proofs.Same.{not-same, by-link, some-link}
 use Rattle.loc_rb.specs.Trees.{Row, Reading, Tree, leaf, node, top, Fits, Frame, node_at, under, plug, entries, links_of, next, Carried, SameButLinks, count, IsApart, child_of, Once, Leads}
 use Rattle.loc_rb.specs.Nodes.{Nodes, live, IsLive, IsLiveOrNone, HasRow, CanChange, Changes, Roots, StandFor}
-use Rattle.loc_rb.specs.Places.{Spot}
-use Rattle.loc_rb.specs.Steps.{Replaced, CanTransplant}
+use Rattle.loc_rb.specs.{Places.Spot, Steps.Replaced, Steps.CanTransplant}
 use Rattle.loc_rb.proofs.Trees.{rename, change-tree, stays, fits-end, inner, top-node_at, node-row, occurs, sides, self-once, count-at, absent, split-last, plug-snoc}
 pub use Rattle.loc_rb.proofs.Trees.{entries-snoc}
 

@@ -1,17 +1,12 @@
 -- What the reading calls tell of a tree.
 use Rattle.std.proofs.Common.{◌≡◌, ℕ, refl, sym, ◌∙◌, Option, Some, None, subst}
-use Rattle.loc_pool.specs.declared.Link.{Link}
-use Rattle.loc_pool.specs.declared.Turn.{Turn}
-use Rattle.loc_pool.specs.declared.Turn.TheVariants.{Left, Right}
-use Rattle.loc_pool.specs.declared.Colour.{Colour}
+use Rattle.loc_pool.specs.{declared.Link.Link, declared.Turn.Turn}
+use Rattle.loc_pool.specs.{declared.Turn.TheVariants.Left, declared.Turn.TheVariants.Right, declared.Colour.Colour}
 use Rattle.loc_pool.specs.declared.Colour.TheVariants.{Red, Black}
 use Rattle.loc_rb.specs.Trees.{Row, Tree, leaf, node, top, Fits, node_at, child_of}
-use Rattle.loc_rb.specs.Nodes.{Nodes, live, HasRow}
-use Rattle.loc_rb.specs.Balance.{IsBlackTop}
-use Rattle.loc_rb.specs.Steps.{IsRedTop}
-use Rattle.loc_rb.proofs.Trees.{node-row}
+use Rattle.loc_rb.specs.{Nodes.Nodes, Nodes.live, Nodes.HasRow, Balance.IsBlackTop, Steps.IsRedTop}
+use Rattle.loc_rb.proofs.{Trees.node-row, Descent.sided}
 use Rattle.loc_rb.proofs.OneChange.{live-rows, has-row, top-live, node-child}
-use Rattle.loc_rb.proofs.Descent.{sided}
 
 pub node-has-row : (n : Nodes) (turn : Turn) (at : Link) (t : Tree) (x : ℕ) (c : Colour) (other : Tree) → Fits (live n) (node_at turn at t x c other) → HasRow n at
 node-has-row n turn at t x c other p = has-row n at (node-row (live n) turn at t x c other p)

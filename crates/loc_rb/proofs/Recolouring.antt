@@ -2,10 +2,8 @@
 use Rattle.std.proofs.Common.{◌≡◌, ℕ, List, [], ◌∷◌, ◌++◌, refl, sym, ap, ◌∙◌, subst, Option, Some, ◌+◌, ◌≤◌, cond, arith}
 use Rattle.std.specs.Prelude.{◌≢◌}
 use Rattle.std.specs.List.{AllByRecursion}
-use Rattle.loc_pool.specs.declared.Link.{Link}
-use Rattle.loc_pool.specs.declared.Turn.{Turn}
-use Rattle.loc_pool.specs.declared.Turn.TheVariants.{Left, Right}
-use Rattle.loc_pool.specs.declared.Colour.{Colour}
+use Rattle.loc_pool.specs.{declared.Link.Link, declared.Turn.Turn}
+use Rattle.loc_pool.specs.{declared.Turn.TheVariants.Left, declared.Turn.TheVariants.Right, declared.Colour.Colour}
 use Rattle.loc_pool.specs.Same.{same}
 use Rattle.loc_rb.specs.Trees.{Row, Reading, Tree, Fits, Frame, node_at, plug, count, entries, flip, links_of, next, with_child, child_of, Leads, Carried}
 use Rattle.loc_rb.specs.Nodes.{Nodes, live, IsLive, Colours, Within, IsOld}

@@ -1,9 +1,7 @@
 -- The steps that mend a tree in which a subtree lacks a black node.
 use Rattle.std.proofs.Common.{◌≡◌, ℕ, Option, List, [], ◌∷◌, ◌++◌, refl, sym, ap, ◌∙◌, subst, ◌+◌, arith, Some, None}
-use Rattle.loc_pool.specs.declared.Link.{Link}
-use Rattle.loc_pool.specs.declared.Turn.{Turn}
-use Rattle.loc_pool.specs.declared.Turn.TheVariants.{Left, Right}
-use Rattle.loc_pool.specs.declared.Colour.{Colour}
+use Rattle.loc_pool.specs.{declared.Link.Link, declared.Turn.Turn}
+use Rattle.loc_pool.specs.{declared.Turn.TheVariants.Left, declared.Turn.TheVariants.Right, declared.Colour.Colour}
 use Rattle.loc_pool.specs.declared.Colour.TheVariants.{Red, Black}
 use Rattle.loc_rb.specs.Trees.{Row, Tree, leaf, node, top, items, Fits, Frame, node_at, plug, flip, child_of}
 use Rattle.loc_rb.specs.Nodes.{Nodes, live, IsLive, Colours}
@@ -14,8 +12,7 @@ use Rattle.loc_rb.proofs.Trees.{inner, fits-end, node-row, plug-snoc}
 use Rattle.loc_rb.proofs.OneChange.{pushed, popped, frame_of, SameButLinks-refl, no-frames}
 use Rattle.loc_rb.proofs.ReadCalls.{colour-is, child-is}
 use Rattle.loc_rb.proofs.Rotations.{to_turn, to-rotate, turned_tree, node_at-flip}
-use Rattle.loc_rb.proofs.Recolouring.{recolour-spot, recolour-other}
-use Rattle.loc_rb.proofs.Descent.{sided}
+use Rattle.loc_rb.proofs.{Recolouring.recolour-spot, Recolouring.recolour-other, Descent.sided}
 use Rattle.loc_rb.proofs.Balanced.{balanced-parts, may-be, balanced-join, may-hang, may-be-black, black-hangs, black-top-node_at, RedShape, red-shape, red-parts, red-join, red-blackened, zero-black, awaits-popped, awaits-above, awaits-alike, awaits-root, takes-longer, holds-of}
 use Rattle.loc_rb.proofs.ItemLists.{items-alike, items-under, items-turned, ReplacedUp, replaced-up}
 use Rattle.loc_rb.proofs.InsertionSteps.{popped-list, red-top-live}

@@ -3,16 +3,13 @@ use Rattle.std.proofs.Common.{◌≡◌, ℕ, List, [], ◌∷◌, ◌++◌, ref
 use Rattle.std.specs.Prelude.{◌≢◌}
 use Rattle.std.proofs.lemmas.List.{same_from_push}
 use Rattle.std.specs.List.{AllByRecursion}
-use Rattle.loc_pool.specs.declared.Link.{Link}
-use Rattle.loc_pool.specs.declared.Turn.{Turn}
-use Rattle.loc_pool.specs.declared.Turn.TheVariants.{Left, Right}
-use Rattle.loc_pool.specs.declared.Colour.{Colour}
+use Rattle.loc_pool.specs.{declared.Link.Link, declared.Turn.Turn}
+use Rattle.loc_pool.specs.{declared.Turn.TheVariants.Left, declared.Turn.TheVariants.Right, declared.Colour.Colour}
 use Rattle.loc_pool.specs.Same.{same}
 use Rattle.loc_pool.proofs.Same.{same-refl}
 use Rattle.loc_rb.specs.Trees.{Row, Tree, leaf, node, top, Fits, Frame, node_at, plug, entries, links_of, SameButLinks, count, flip, child_of}
 use Rattle.loc_rb.specs.Nodes.{Nodes, live, IsLive, CanChange, Changes}
-use Rattle.loc_rb.specs.Places.{Spot}
-use Rattle.loc_rb.specs.Steps.{CanTransplant, ToRotate, Replaced}
+use Rattle.loc_rb.specs.{Places.Spot, Steps.CanTransplant, Steps.ToRotate, Steps.Replaced}
 use Rattle.loc_rb.proofs.Trees.{change-tree, stays, fits-end, inner, top-node_at, node-row, occurs, sides, self-once, count-node_at, count-plug, count-at, absent}
 use Rattle.loc_rb.proofs.ReadCalls.{child-is}
 use Rattle.loc_rb.proofs.OneChange.{child-replaced, can-change, SameButLinks-trans, top-live, apart-new, in-row, others-live, sides-SameButLinks, either-one}

@@ -1,21 +1,16 @@
 -- A node of which a child is missing is cut out.
 use Rattle.std.proofs.Common.{◌≡◌, ℕ, List, ◌++◌, refl, sym, ap, ◌∙◌, subst, ◌+◌, ◌≤◌, arith, Some, None, Option, inl, inr, append_assoc, append-nil}
-use Rattle.loc_pool.specs.declared.Link.{Link}
-use Rattle.loc_pool.specs.declared.Turn.{Turn}
-use Rattle.loc_pool.specs.declared.Turn.TheVariants.{Left}
-use Rattle.loc_pool.specs.declared.Colour.{Colour}
-use Rattle.loc_pool.specs.declared.Colour.TheVariants.{Red, Black}
+use Rattle.loc_pool.specs.{declared.Link.Link, declared.Turn.Turn, declared.Turn.TheVariants.Left}
+use Rattle.loc_pool.specs.{declared.Colour.Colour, declared.Colour.TheVariants.Red, declared.Colour.TheVariants.Black}
 use Rattle.loc_rb.specs.Trees.{Row, Tree, leaf, node, top, items, Fits, Frame, plug, SameButLinks, count, before, after}
 use Rattle.loc_rb.specs.Nodes.{Nodes, live, IsLive, Colours}
 use Rattle.loc_rb.specs.Balance.{IsBlackTop, MayHang, black, HasBlackHeight, Awaits}
 use Rattle.loc_rb.specs.Places.{Spot, Holds}
 use Rattle.loc_rb.specs.Steps.{IsRedTop, Replaced, CanTransplant, LacksBlack, ToSpliceOut, MissesChild, remaining}
 use Rattle.loc_rb.proofs.Trees.{fits-end, count-plug, count-node_at, items-plug}
-use Rattle.loc_rb.proofs.ReadCalls.{no-top, colour-is}
-use Rattle.loc_rb.proofs.Recolouring.{recolour-spot}
+use Rattle.loc_rb.proofs.{ReadCalls.no-top, ReadCalls.colour-is, Recolouring.recolour-spot}
 use Rattle.loc_rb.proofs.Balanced.{taken-by, awaits-alike, awaits-cut, black-hangs, holds-of, red-shape, red-blackened, zero-black, may-hang, may-be-black}
-use Rattle.loc_rb.proofs.ItemLists.{before-SameButLinks, after-SameButLinks}
-use Rattle.loc_rb.proofs.OneChange.{some-link}
+use Rattle.loc_rb.proofs.{ItemLists.before-SameButLinks, ItemLists.after-SameButLinks, OneChange.some-link}
 use Rattle.loc_rb.proofs.InsertionSteps.{red-top-live}
 
 pub remaining-none : (a b : Tree) → top a ≡ None → top b ≡ top (remaining a b)

@@ -1,22 +1,17 @@
 -- The next item takes the place of one that is taken out.
 use Rattle.std.proofs.Common.{◌≡◌, ℕ, List, [], ◌∷◌, ◌++◌, refl, sym, ap, ◌∙◌, subst, ◌+◌, ◌^◌, ◌≤◌, ◌<◌, ◌*◌, arith, Some, inl, append_assoc, append-nil, length, length-append, take, Option}
-use Rattle.std.proofs.lemmas.List.{take_at}
-use Rattle.loc_rb.proofs.ReadCalls.{child-is, node-has-row}
-use Rattle.loc_pool.specs.declared.Link.{Link}
-use Rattle.loc_pool.specs.declared.Turn.{Turn}
-use Rattle.loc_pool.specs.declared.Turn.TheVariants.{Left, Right}
-use Rattle.loc_pool.specs.declared.Colour.{Colour}
+use Rattle.std.proofs.{lemmas.List.take_at, Math.Pow.pow_mono}
+use Rattle.loc_rb.proofs.{ReadCalls.child-is, ReadCalls.node-has-row, Trees.fits-end, Trees.plug-snoc, Trees.items-plug}
+use Rattle.loc_pool.specs.{declared.Link.Link, declared.Turn.Turn}
+use Rattle.loc_pool.specs.{declared.Turn.TheVariants.Left, declared.Turn.TheVariants.Right, declared.Colour.Colour}
 use Rattle.loc_pool.specs.declared.Colour.TheVariants.{Red}
 use Rattle.loc_rb.specs.Trees.{Row, Tree, leaf, node, top, items, Fits, Frame, plug, entries, child_of, before, after}
-use Rattle.loc_rb.specs.Nodes.{Nodes, live, HasRow}
-use Rattle.loc_rb.specs.Balance.{IsRedBlack, depth}
+use Rattle.loc_rb.specs.{Nodes.Nodes, Nodes.live, Nodes.HasRow, Balance.IsRedBlack, Balance.depth}
 use Rattle.loc_rb.specs.Places.{Spot, LeadsTo, LeadsToGap}
 use Rattle.loc_rb.specs.Steps.{MissesChild, NodeAt, LeftmostPath, ToSpliceOut, Replaced}
-use Rattle.loc_rb.proofs.Trees.{fits-end, plug-snoc, items-plug}
 use Rattle.loc_rb.proofs.OneChange.{pushed, frame_of, live-rows}
 use Rattle.loc_rb.proofs.Balanced.{taken-by, takes-plug, takes-SameButLinks, may-be, may-hang}
 use Rattle.loc_rb.proofs.ItemLists.{before-SameButLinks, after-SameButLinks}
-use Rattle.std.proofs.Math.Pow.{pow_mono}
 use Rattle.loc_rb.proofs.Descent.{at-most-42, bounded, depth-plug, before-right, after-right}
 
 -- how many items a tree has, by a place in it

@@ -1,14 +1,10 @@
 -- A walk from the newest root down to a node, or to a missing child: what a search for a place may cite.
 use Rattle.std.proofs.Common.{◌≡◌, ℕ, List, [], ◌∷◌, ◌++◌, refl, sym, ap, ◌∙◌, subst, ◌+◌, ◌^◌, ◌≤◌, ◌<◌, arith, Some, None, Option, append_assoc, length}
-use Rattle.loc_pool.specs.declared.Link.{Link}
-use Rattle.loc_pool.specs.declared.Turn.{Turn}
-use Rattle.loc_pool.specs.declared.Turn.TheVariants.{Left}
+use Rattle.loc_pool.specs.{declared.Link.Link, declared.Turn.Turn, declared.Turn.TheVariants.Left}
 use Rattle.loc_rb.specs.Trees.{Row, Tree, leaf, node, top, items, Fits, plug, before, after, child_of}
-use Rattle.loc_rb.specs.Nodes.{Nodes, live, HasRow}
-use Rattle.loc_rb.specs.Balance.{IsRedBlack, depth}
+use Rattle.loc_rb.specs.{Nodes.Nodes, Nodes.live, Nodes.HasRow, Balance.IsRedBlack, Balance.depth}
 use Rattle.loc_rb.specs.Places.{Spot, Holds, Walk, Found}
-use Rattle.loc_rb.proofs.Trees.{inner, plug-snoc, items-plug}
-use Rattle.loc_rb.proofs.OneChange.{pushed, frame_of}
+use Rattle.loc_rb.proofs.{Trees.inner, Trees.plug-snoc, Trees.items-plug, OneChange.pushed, OneChange.frame_of}
 use Rattle.loc_rb.proofs.ReadCalls.{child-is, node-has-row}
 use Rattle.loc_rb.proofs.Descent.{at-most-42, depth-plug, depth-under, no-tree, sided, sided-fits}
 

@@ -1,7 +1,6 @@
 -- Red-black trees and their depth. The words: `IsBlackTop`, `MayHang`, `black`, `HasBlackHeight`, `IsRedBlack`, `depth`, `MayBe`, `Takes`, `Awaits`.
 use Rattle.std.specs.Prelude.{◌≡◌, ℕ, ◌+◌, max, List, [], ◌∷◌}
-use Rattle.loc_pool.specs.declared.Colour.{Colour}
-use Rattle.loc_pool.specs.declared.Colour.TheVariants.{Red, Black}
+use Rattle.loc_pool.specs.{declared.Colour.Colour, declared.Colour.TheVariants.Red, declared.Colour.TheVariants.Black}
 use Rattle.loc_rb.specs.Trees.{Tree, leaf, node, Frame}
 
 -- the tree may hang under a red node: it has no top, or a black one

@@ -1,9 +1,7 @@
 -- How a store may exchange nodes on `change`: in place, or by copies.
 use Rattle.std.specs.Prelude.{◌≡◌, ◌≢◌, true, Option, Some, None}
-use Rattle.loc_pool.specs.declared.Link.{Link}
-use Rattle.loc_pool.specs.declared.Turn.{Turn}
-use Rattle.loc_rb.specs.Trees.{Row, with_child}
-use Rattle.loc_rb.specs.Nodes.{Nodes}
+use Rattle.loc_pool.specs.{declared.Link.Link, declared.Turn.Turn}
+use Rattle.loc_rb.specs.{Trees.Row, Trees.with_child, Nodes.Nodes}
 pub use Rattle.loc_rb.specs.Nodes.{Exchanges}
 
 -- one pointer is written in place

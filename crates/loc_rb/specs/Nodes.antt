@@ -2,9 +2,7 @@
 -- `Colours`, `Roots`, `IsFrom`, `CanChange`, `StandsFor`, `StandFor`, `Exchanges`, `Changes`, `Within`.
 use Rattle.std.specs.Prelude.{◌≡◌, ◌≢◌, ◌⊎◌, ℕ, Bool, true, List, [], ◌∷◌, Option, None, Some, cond, ◌+◌, ◌*◌, ◌≤◌}
 use Rattle.std.specs.List.{AllByRecursion}
-use Rattle.loc_pool.specs.declared.Link.{Link}
-use Rattle.loc_pool.specs.declared.Turn.{Turn}
-use Rattle.loc_pool.specs.declared.Colour.{Colour}
+use Rattle.loc_pool.specs.{declared.Link.Link, declared.Turn.Turn, declared.Colour.Colour}
 use Rattle.loc_rb.specs.Trees.{Row, Reading, with_child, links_of, next, Once, Leads, Carried}
 
 -- the nodes: the newest row of each link, whether it is the newest name of its node, the newest root, the counts of `make` and of `change`, the room, and the sealed lists with their roots

@@ -1,11 +1,8 @@
 -- The list of the nodes, and places in it. The words: `Spot`, `Holds`, `LeadsToGap`, `LeadsTo`, `Walk`, `Found`.
 use Rattle.std.specs.Prelude.{◌≡◌, ℕ, List, ◌∷◌, ◌++◌, Option, None, Some}
-use Rattle.loc_pool.specs.declared.Link.{Link}
-use Rattle.loc_pool.specs.declared.Turn.{Turn}
-use Rattle.loc_pool.specs.declared.Colour.{Colour}
+use Rattle.loc_pool.specs.{declared.Link.Link, declared.Turn.Turn, declared.Colour.Colour}
 use Rattle.loc_rb.specs.Trees.{Tree, leaf, node, top, items, Fits, IsApart, Frame, plug, entries, before, after}
-use Rattle.loc_rb.specs.Nodes.{Nodes, live}
-use Rattle.loc_rb.specs.Balance.{IsRedBlack}
+use Rattle.loc_rb.specs.{Nodes.Nodes, Nodes.live, Balance.IsRedBlack}
 
 -- a path from the newest root, by its frames, and the tree at its end
 pub record Spot (nodes : Nodes) (steps : List (Link × Turn)) (frames : List Frame) (tree : Tree) : Type 0 where

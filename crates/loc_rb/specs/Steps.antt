@@ -1,14 +1,11 @@
 -- What the steps inside an insertion or a removal start from and lead to. The words: `CanTransplant`, `ToRotate`, `NodeAt`, `Replaced`, `IsRedTop`,
 -- `RedViolation`, `RedPair`, `OuterPair`, `LacksBlack`, `Uneven`, `Siblings`, `MissesChild`, `remaining`, `ToSpliceOut`, `LeftmostPath`.
 use Rattle.std.specs.Prelude.{◌≡◌, ◌⊎◌, ℕ, ◌+◌, List, [], ◌∷◌, ◌++◌, Option, Some}
-use Rattle.loc_pool.specs.declared.Link.{Link}
-use Rattle.loc_pool.specs.declared.Turn.{Turn}
-use Rattle.loc_pool.specs.declared.Colour.{Colour}
+use Rattle.loc_pool.specs.{declared.Link.Link, declared.Turn.Turn, declared.Colour.Colour}
 use Rattle.loc_pool.specs.declared.Colour.TheVariants.{Red, Black}
 use Rattle.loc_rb.specs.Trees.{Tree, leaf, node, top, items, Fits, IsApart, Frame, plug, node_at, flip, SameButLinks, before, after}
-use Rattle.loc_rb.specs.Nodes.{Nodes, live}
+use Rattle.loc_rb.specs.{Nodes.Nodes, Nodes.live, Places.Spot, Places.LeadsTo}
 use Rattle.loc_rb.specs.Balance.{HasBlackHeight, IsBlackTop, MayBe, MayHang, Awaits, black}
-use Rattle.loc_rb.specs.Places.{Spot, LeadsTo}
 
 -- the tree `replacement`, of which this is the top, can be hung in the place of `present`
 pub record CanTransplant (nodes : Nodes) (path : List (Link × Turn)) (frames : List Frame) (present replacement : Tree) (link : Option Link) : Type 0 where

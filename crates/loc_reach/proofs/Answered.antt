@@ -1,17 +1,12 @@
 -- The answers to the lines of a spans text, one line after the other, and their steps.
 use Rattle.std.proofs.Common.{◌≡◌, ℕ, ◌+◌, ◌^◌, ◌≤◌, List, [], ◌∷◌, ◌++◌, length, sym, ◌∙◌, ap, subst, arith, append_assoc, Result, Ok, Err}
-use Rattle.std.specs.Prelude.{codes}
-use Rattle.std.specs.List.{flat_map, sum_by}
+use Rattle.std.specs.{Prelude.codes, List.flat_map, List.sum_by}
 use Rattle.std.proofs.lemmas.List.Sums.{sum_by-cons}
-use Rattle.loc_io.specs.declared.sink.WriteFault.{WriteFault}
-use Rattle.loc_io.specs.Streams.{Stream}
+use Rattle.loc_io.specs.{declared.sink.WriteFault.WriteFault, Streams.Stream}
 use Rattle.loc_page.specs.Puts.{PutsText}
 use Rattle.loc_page.proofs.Pages.{Goes, goes_more, stop}
-use Rattle.loc_spec_plane.specs.Points.{Point}
-use Rattle.loc_spec_plane.specs.Tables.{Table}
-use Rattle.loc_spec_text.specs.Bytes.{Text, lines}
-use Rattle.loc_spec_text.specs.Points.{ended}
-use Rattle.loc_spec_text.specs.Spans.{met_text, numbered}
+use Rattle.loc_spec_plane.specs.{Points.Point, Tables.Table}
+use Rattle.loc_spec_text.specs.{Bytes.Text, Bytes.lines, Points.ended, Spans.met_text, Spans.numbered}
 use Rattle.loc_place.proofs.SearchBounds.{greatest_is}
 use Rattle.loc_stab.specs.Runs.{run_at}
 use Rattle.loc_stab.proofs.Ranges.{goes_stop}

@@ -1,17 +1,13 @@
 -- The course of the edges on spans writes at once and makes no file.
-use Rattle.std.proofs.Common.{ℕ, List}
-use Rattle.std.proofs.lemmas.Bool.{cond_both}
+use Rattle.std.proofs.{Common.ℕ, Common.List, lemmas.Bool.cond_both}
 use Rattle.loc_spec_text.specs.Bytes.{Text}
 use Rattle.loc_spec_plane.specs.Tables.{Table}
 use Rattle.loc_rings.specs.Values.{Feature}
 use Rattle.loc_csvform.specs.Layer.{layer_of}
 use Rattle.loc_edges.specs.Conflicts.{has_conflict}
-use Rattle.loc_course.specs.Courses.{refuses}
-use Rattle.loc_course.specs.Outcomes.{exactly}
-use Rattle.loc_course.specs.Sentences.{IsPlain}
+use Rattle.loc_course.specs.{Courses.refuses, Outcomes.exactly, Sentences.IsPlain}
 use Rattle.loc_course.proofs.Plain.{plain_reads, plain_refuses, plain_searches, plain_writes}
-use Rattle.loc_maps.specs.Conflicts.{names_conflict}
-use Rattle.loc_maps.specs.Located.{edges_of, table_in}
+use Rattle.loc_maps.specs.{Conflicts.names_conflict, Located.edges_of, Located.table_in}
 use Rattle.loc_maps.specs.MapCourses.{LayerFile, apart_course}
 use Rattle.loc_maps.proofs.Judged.{layer_all}
 use Rattle.loc_reach.specs.SpanCourses.{met_output, spans_course, stab_course, text_steps}

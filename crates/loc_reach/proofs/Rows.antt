@@ -1,23 +1,16 @@
 -- What the told files of spans come to, as rows: each refusal, and the answers.
 use Rattle.std.proofs.Common.{◌≡◌, ◌<◌, ◌≤◌, true, List, length, Ok, Err, ◌∙◌, ap, codes}
-use Rattle.std.proofs.lemmas.Bool.{cond-true}
-use Rattle.std.proofs.lemmas.Bool.Decides.{Decides-ltb}
+use Rattle.std.proofs.{lemmas.Bool.cond-true, lemmas.Bool.Decides.Decides-ltb}
 use Rattle.loc_io.specs.Meaning.{Told, holds}
 use Rattle.loc_spec_plane.specs.Tables.{piece_count}
-use Rattle.loc_spec_text.specs.Bytes.{Text}
-use Rattle.loc_spec_text.specs.Points.{ended}
+use Rattle.loc_spec_text.specs.{Bytes.Text, Points.ended, Limits.most_pieces, Limits.most_text}
 use Rattle.loc_rings.specs.Values.{Feature}
-use Rattle.loc_csvform.specs.Layer.{LayerRead, layer_of}
-use Rattle.loc_csvform.specs.declared.faults.LayerFault.{LayerFault}
-use Rattle.loc_edges.specs.Conflicts.{has_conflict}
-use Rattle.loc_edges.specs.Layers.{layer_rings}
-use Rattle.loc_spec_text.specs.Limits.{most_pieces, most_text}
-use Rattle.loc_course.specs.Courses.{Source, Course, refuses}
+use Rattle.loc_csvform.specs.{Layer.LayerRead, Layer.layer_of, declared.faults.LayerFault.LayerFault}
+use Rattle.loc_edges.specs.{Conflicts.has_conflict, Layers.layer_rings}
+use Rattle.loc_course.specs.{Courses.Source, Courses.Course, Courses.refuses, Stops.source}
 use Rattle.loc_course.specs.Outcomes.{Outcome, refusal, output, by_text, exactly, outcome}
-use Rattle.loc_course.specs.Stops.{source}
 use Rattle.loc_course.proofs.Texts.{long, short}
-use Rattle.loc_maps.specs.Conflicts.{names_conflict}
-use Rattle.loc_maps.specs.LineTexts.{layer_fault_text, pieces_text}
+use Rattle.loc_maps.specs.{Conflicts.names_conflict, LineTexts.layer_fault_text, LineTexts.pieces_text}
 use Rattle.loc_maps.specs.Located.{edges_of, table_in}
 use Rattle.loc_maps.specs.MapCourses.{LayerFile, apart_course, layer_in}
 use Rattle.loc_maps.specs.Maps.{HasFewPieces, has_many_pieces}

@@ -1,29 +1,20 @@
 -- What `stab` answers, by what the told files come to.
 use Rattle.std.proofs.Common.{◌≡◌, ℕ, ◌+◌, ◌≤◌, Bool, true, false, List, length, Option, None, Ok, Err, refl, sym, subst, inl, inr, arith}
-use Rattle.std.specs.Prelude.{IsTrue, codes, not}
-use Rattle.std.specs.Io.KnownBytes.{Appends}
+use Rattle.std.specs.{Prelude.IsTrue, Prelude.codes, Prelude.not, Io.KnownBytes.Appends}
 use Rattle.std.proofs.lemmas.Bool.{cases_lt, cond_both}
-use Rattle.loc_io.specs.Streams.{Stream}
-use Rattle.loc_io.specs.Meaning.{Told, holds}
+use Rattle.loc_io.specs.{Streams.Stream, Meaning.Told, Meaning.holds}
 use Rattle.loc_spec_plane.specs.Tables.{piece_count}
-use Rattle.loc_spec_text.specs.Bytes.{Text}
-use Rattle.loc_spec_text.specs.Points.{ended}
+use Rattle.loc_spec_text.specs.{Bytes.Text, Points.ended, Limits.most_pieces, Limits.most_text}
 use Rattle.loc_rings.specs.Values.{Feature}
 use Rattle.loc_csvform.specs.Layer.{LayerRead, layer_of}
-use Rattle.loc_edges.specs.Conflicts.{has_conflict}
-use Rattle.loc_edges.specs.Layers.{layer_rings}
-use Rattle.loc_spec_text.specs.Limits.{most_pieces, most_text}
-use Rattle.loc_maps.specs.Maps.{HasFewPieces}
+use Rattle.loc_edges.specs.{Conflicts.has_conflict, Layers.layer_rings}
+use Rattle.loc_maps.specs.{Maps.HasFewPieces, Conflicts.names_conflict}
 use Rattle.loc_maps.proofs.Judged.{pieces_all}
-use Rattle.loc_course.specs.Courses.{Course, refuses}
-use Rattle.loc_course.specs.Moments.{Moment, IsToldText}
+use Rattle.loc_course.specs.{Courses.Course, Courses.refuses, Moments.Moment, Moments.IsToldText}
 use Rattle.loc_course.specs.Outcomes.{Outcome, refusal, output, exactly, outcome}
 use Rattle.loc_course.specs.Sentences.{EndsSo, IsDoing, NoneFailed, OutSo, Sentences, Steady, WithinSteps}
-use Rattle.loc_course.proofs.Streamed.{long_or_short}
-use Rattle.loc_course.proofs.Told.{it_exactly}
-use Rattle.loc_maps.specs.Conflicts.{names_conflict}
-use Rattle.loc_maps.specs.LineTexts.{layer_fault_text, pieces_text}
-use Rattle.loc_maps.specs.Located.{edges_of, table_in}
+use Rattle.loc_course.proofs.{Streamed.long_or_short, Told.it_exactly}
+use Rattle.loc_maps.specs.{LineTexts.layer_fault_text, LineTexts.pieces_text, Located.edges_of, Located.table_in}
 use Rattle.loc_maps.specs.MapCourses.{LayerFile, apart_course, layer_in}
 use Rattle.loc_reach.specs.SpanCourses.{met_output, spans_course, stab_course, text_steps}
 use Rattle.loc_reach.specs.Stabs.{IsApart, IsRefused, OrMemory, Stabs}

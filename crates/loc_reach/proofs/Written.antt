@@ -1,7 +1,6 @@
 -- The answers to a spans text as the end of a command.
 use Rattle.std.proofs.Common.{◌≡◌, ℕ, ◌+◌, ◌≤◌, Option, Some, None, Result, Ok, Err, subst}
-use Rattle.loc_io.specs.Meaning.{Meaning}
-use Rattle.loc_io.specs.Streams.{Stream, TakesAll}
+use Rattle.loc_io.specs.{Meaning.Meaning, Streams.Stream, Streams.TakesAll}
 use Rattle.loc_spec_plane.specs.Tables.{Table}
 use Rattle.loc_spec_text.specs.Bytes.{Text}
 use Rattle.loc_course.specs.Courses.{Stopped, unwritten}

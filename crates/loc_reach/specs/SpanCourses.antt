@@ -3,22 +3,16 @@
 --   line_answer, met_output                         the answer to a line, and the answers to the lines of a text
 --   answered_course, spans_course, stab_course      a text's lines are answered, a file of spans is read, and both behind a layer
 use Rattle.std.specs.Prelude.{ℕ, ◌+◌, ◌*◌, codes, length}
-use Rattle.std.specs.List.{sum_by}
-use Rattle.std.specs.Option.{option_map_or}
-use Rattle.loc_spec_plane.specs.Points.{Point}
-use Rattle.loc_spec_plane.specs.Spans.{met_at}
-use Rattle.loc_spec_plane.specs.Tables.{Table}
-use Rattle.loc_spec_text.specs.Bytes.{Text, lines}
-use Rattle.loc_spec_text.specs.Points.{ended}
-use Rattle.loc_spec_text.specs.Spans.{span_answer, span_of, span_output}
+use Rattle.std.specs.{List.sum_by, Option.option_map_or}
+use Rattle.loc_spec_plane.specs.{Points.Point, Spans.met_at, Tables.Table}
+use Rattle.loc_spec_text.specs.{Bytes.Text, Bytes.lines, Points.ended}
+use Rattle.loc_spec_text.specs.{Spans.span_answer, Spans.span_of, Spans.span_output, Limits.most_text}
 use Rattle.loc_place.specs.Steps.{alive_count, greatest_power, search_bound}
 use Rattle.loc_stab.specs.Runs.{run_at}
 use Rattle.loc_course.specs.Courses.{Course, reads, searches, writes}
-use Rattle.loc_course.specs.Outcomes.{exactly}
-use Rattle.loc_course.specs.Stops.{source}
+use Rattle.loc_course.specs.{Outcomes.exactly, Stops.source}
 use Rattle.loc_maps.specs.Located.{edges_of, table_in}
 use Rattle.loc_maps.specs.MapCourses.{LayerFile, apart_course, layer_course}
-use Rattle.loc_spec_text.specs.Limits.{most_text}
 
 -- two to the number of steps of the searches for a span is at most this: two among the corners, and one down the version of its low point
 abbrev pub seek_bound : Table → Point → ℕ

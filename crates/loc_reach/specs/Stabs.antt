@@ -1,24 +1,16 @@
 -- What `stab` answers whose files are told, in the words of its user. The words: `IsApart`, `OrMemory`, `Stabs`.
 use Rattle.std.specs.Prelude.{◌≡◌, ◌⊎◌, ℕ, ◌+◌, ◌<◌, ◌≤◌, List, length, Ok, Err, IsTrue, codes}
 use Rattle.std.specs.Io.KnownBytes.{Appends}
-use Rattle.loc_io.specs.Streams.{Stream}
-use Rattle.loc_io.specs.Meaning.{holds}
+use Rattle.loc_io.specs.{Streams.Stream, Meaning.holds}
 use Rattle.loc_spec_plane.specs.Tables.{piece_count}
-use Rattle.loc_spec_text.specs.Bytes.{Text}
-use Rattle.loc_spec_text.specs.Points.{ended}
+use Rattle.loc_spec_text.specs.{Bytes.Text, Points.ended, Limits.most_pieces, Limits.most_text}
 use Rattle.loc_rings.specs.Values.{Feature}
-use Rattle.loc_csvform.specs.Layer.{layer_of}
-use Rattle.loc_csvform.specs.declared.faults.LayerFault.{LayerFault}
-use Rattle.loc_edges.specs.Conflicts.{has_conflict}
-use Rattle.loc_edges.specs.Layers.{layer_rings}
-use Rattle.loc_spec_text.specs.Limits.{most_pieces, most_text}
-use Rattle.loc_course.specs.Moments.{Moment}
-use Rattle.loc_course.specs.Sentences.{Steady, Wrote}
+use Rattle.loc_csvform.specs.{Layer.layer_of, declared.faults.LayerFault.LayerFault}
+use Rattle.loc_edges.specs.{Conflicts.has_conflict, Layers.layer_rings}
+use Rattle.loc_course.specs.{Moments.Moment, Sentences.Steady, Sentences.Wrote}
 use Rattle.loc_maps.specs.Conflicts.{Accepts, names_conflict}
-use Rattle.loc_maps.specs.LineTexts.{layer_fault_text, pieces_text}
-use Rattle.loc_maps.specs.Located.{edges_of, table_in}
-use Rattle.loc_maps.specs.MapCourses.{LayerFile}
-use Rattle.loc_maps.specs.Maps.{HasFewPieces}
+use Rattle.loc_maps.specs.{LineTexts.layer_fault_text, LineTexts.pieces_text, Located.edges_of, Located.table_in}
+use Rattle.loc_maps.specs.{MapCourses.LayerFile, Maps.HasFewPieces}
 use Rattle.loc_reach.specs.SpanCourses.{met_output, text_steps}
 
 -- the text is within the limit and reads as a layer of these features, its pieces are few, and no two of its edges conflict

@@ -1,11 +1,9 @@
 //! The edges on the spans of a file, from the bytes in to the bytes out.
 
-ghost use Rattle.loc_io.specs.Meaning.{Meaning};
 ghost use Rattle.loc_treeidx.specs.Standing.{AreVersionsOf};
-ghost use Rattle.loc_course.specs.Following.{Follows, moment};
-ghost use Rattle.loc_course.specs.Stops.{end_of};
 ghost use Rattle.loc_maps.specs.MapCourses.{layer_file};
 ghost use Rattle.loc_reach.specs.SpanCourses.{answered_course, spans_course, stab_course};
+ghost use Rattle.loc_course.specs.Runs.{Runs, RunsOnOutAndSteps};
 
 use crate::answering::write_answers;
 use loc_course::{Stop, read_source};
@@ -27,9 +25,7 @@ fn write_spans<O: Sink, L: Ledger>(
     steps: &mut Steps<L>,
 ) -> Result<(), Stop>
     requires stands { AreVersionsOf plane.now.table plane.now.status }
-    ensures { (shelf : Meaning) → Follows (answered_course scale plane.now.table text.now)
-        (moment shelf (O.meaning out.old) steps.old)
-        (moment shelf (O.meaning out.new) steps.new) (end_of result) }
+    ensures { RunsOnOutAndSteps (answered_course scale plane.now.table text.now) O.meaning out steps result }
 {
     let views = plane.table.views();
     match write_answers(&plane.status, &views, text, scale, out, steps) {
@@ -49,9 +45,8 @@ fn answer_spans<F: Shelf, O: Sink, L: Ledger>(
     steps: &mut Steps<L>,
 ) -> Result<(), Stop>
     requires stands { AreVersionsOf plane.now.table plane.now.status }
-    ensures follows { Follows (spans_course scale plane.now.table spans_name.now)
-        (moment (F.meaning shelf.old) (O.meaning out.old) steps.old)
-        (moment (F.meaning shelf.new) (O.meaning out.new) steps.new) (end_of result) }
+    ensures follows { Runs (spans_course scale plane.now.table spans_name.now)
+        F.meaning shelf O.meaning out steps result }
 {
     let text = read_source(alloc, shelf, spans_name, MOST_TEXT, b"spans: too long")?;
     write_spans(plane, &text, scale, out, steps)
@@ -61,22 +56,20 @@ fn answer_spans<F: Shelf, O: Sink, L: Ledger>(
 /// before the first byte on `out`.
 pub fn stab<F: Shelf, O: Sink, L: Ledger>(
     alloc: Global,
-    layer_name: &str,
-    spans_name: &str,
+    name: &str,
+    spans: &str,
     form: Form,
     scale: Scale,
     shelf: &mut F,
     out: &mut O,
     steps: &mut Steps<L>,
 ) -> Result<(), Stop>
-    ensures { Follows (stab_course (layer_file layer_name.now form scale) spans_name.now)
-        (moment (F.meaning shelf.old) (O.meaning out.old) steps.old)
-        (moment (F.meaning shelf.new) (O.meaning out.new) steps.new) (end_of result) }
+    ensures { Runs (stab_course (layer_file name.now form scale) spans.now) F.meaning shelf O.meaning out steps result }
 {
-    let layer = read_layer_file(alloc, shelf, layer_name, form, scale)?;
+    let layer = read_layer_file(alloc, shelf, name, form, scale)?;
     let plane: SweptTable<TreeIndex> = sweep_layer(alloc, &layer, scale)?;
     swept_stands(&plane.table, &plane.status);
-    let outcome = answer_spans(alloc, &plane, spans_name, scale, shelf, out, steps);
+    let outcome = answer_spans(alloc, &plane, spans, scale, shelf, out, steps);
     drop(plane);
     drop(layer);
     outcome

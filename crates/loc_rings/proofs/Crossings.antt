@@ -1,14 +1,11 @@
 -- The ray against one segment, by the side of the point.
 use Rattle.std.proofs.Common.{◌≡◌, Bool, true, false, ◌&&◌, ◌||◌, [], ◌∷◌, Some, refl, sym, ◌∙◌, ap, ap₂, subst, arith, pos, int_lt, int_le, inl, inr}
-use Rattle.std.proofs.Math.Bool.{and-true, or-false}
-use Rattle.std.proofs.lemmas.Int.{ints}
+use Rattle.std.proofs.{Math.Bool.and-true, Math.Bool.or-false, lemmas.Int.ints}
 use Rattle.std.proofs.lemmas.Bool.{and_right, cases_Bool, cond-false, false_from_ne_true, both_ways, or_from, not_from_false}
 use Rattle.loc_spec_plane.specs.Points.{Point, Edge, turn, same_point, is_above, is_on, is_below, lies_on}
-use Rattle.loc_spec_plane.specs.Rays.{crosses_right}
-use Rattle.loc_spec_plane.specs.Rings.{ring_segments, segment_between}
+use Rattle.loc_spec_plane.specs.{Rays.crosses_right, Rings.ring_segments, Rings.segment_between}
 use Rattle.loc_laws_order.proofs.Sides.{above-not_below, on-not_above, on-not_below}
-use Rattle.loc_laws_rays.proofs.Parity.{exactly_one-false}
-use Rattle.loc_laws_rays.proofs.RayLaw.{turn_back}
+use Rattle.loc_laws_rays.proofs.{Parity.exactly_one-false, RayLaw.turn_back}
 use Rattle.loc_rings.specs.Parity.{IsParity}
 
 -- a way down has the point to its left exactly where the point is below the segment

@@ -1,8 +1,7 @@
 -- Rings that are cut into polygons at the numbers of their first rings.
 use Rattle.std.proofs.Common.{◌≡◌, ℕ, zero, suc, ◌+◌, ◌-◌, ◌^◌, ◌<◌, ◌≤◌, List, [], ◌∷◌, ◌++◌, length, take, drop, get_or, All, refl, sym, ◌∙◌, ap, ap₂, subst, arith, append-nil, length-append}
 use Rattle.std.proofs.lemmas.List.{drop-append-le, drop-drop, drop_all, length-drop, length-take-le, nil_from_length, take-append-drop, take-append-le, take_all}
-use Rattle.std.proofs.lemmas.List.Concat.{length-flat_map}
-use Rattle.std.proofs.lemmas.List.Elements.{All-push}
+use Rattle.std.proofs.{lemmas.List.Concat.length-flat_map, lemmas.List.Elements.All-push}
 use Rattle.std.proofs.lemmas.List.Sums.{sum_by-take-le}
 use Rattle.loc_spec_plane.specs.Rings.{Ring, Rings}
 use Rattle.loc_spec_text.specs.Reading.{Polygons, all_rings}

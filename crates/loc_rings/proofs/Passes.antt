@@ -1,12 +1,10 @@
 -- A pass over segments: what is known when some of them have been looked at.
 use Rattle.std.proofs.Common.{◌≡◌, ℕ, zero, suc, ◌+◌, ◌-◌, ◌<◌, ◌≤◌, Bool, true, false, not, ◌||◌, List, [], ◌∷◌, ◌++◌, Option, Some, None, cond, length, get_or, drop, slice_get, refl, sym, ◌∙◌, ap, subst, add-one, length-drop, arith}
 use Rattle.std.specs.List.{list_any}
-use Rattle.std.proofs.lemmas.List.{drop_more}
-use Rattle.std.proofs.lemmas.List.Folds.{list_any-append}
+use Rattle.std.proofs.{lemmas.List.drop_more, lemmas.List.Folds.list_any-append}
 use Rattle.std.proofs.lemmas.Bool.{or_left, not-true}
-use Rattle.loc_spec_plane.specs.Lists.{exactly_one, odd_many}
+use Rattle.loc_spec_plane.specs.{Lists.exactly_one, Lists.odd_many, Rays.crosses_right}
 use Rattle.loc_spec_plane.specs.Points.{Point, Edge, lies_on, same_point}
-use Rattle.loc_spec_plane.specs.Rays.{crosses_right}
 use Rattle.loc_spec_plane.specs.Rings.{Ring, Rings, ring_segments, segment_between, segments}
 use Rattle.loc_rings.specs.Parity.{IsParity}
 use Rattle.loc_laws_rays.proofs.Parity.{exactly_one_assoc, exactly_one-false, odd_many-append}

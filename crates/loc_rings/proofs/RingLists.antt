@@ -1,7 +1,6 @@
 -- What a list of rings keeps.
 use Rattle.std.proofs.Common.{◌≡◌, ℕ, ◌<◌, List, length, map, get_or, slice_get, Some, All, sym, ◌∙◌, ap, subst, arith}
-use Rattle.std.proofs.lemmas.List.{get_or-map, length-map}
-use Rattle.std.proofs.lemmas.Option.{slice_get-get_or}
+use Rattle.std.proofs.{lemmas.List.get_or-map, lemmas.List.length-map, lemmas.Option.slice_get-get_or}
 use Rattle.loc_spec_plane.specs.Rings.{Ring, Rings}
 use Rattle.loc_rings.specs.Values.{IsRing}
 

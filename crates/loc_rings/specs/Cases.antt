@@ -1,8 +1,7 @@
 -- Polygons by the ways in which they are kept. The words: `polygons_of`, `IsKept`.
 use Rattle.std.specs.Prelude.{[], ◌∷◌}
 use Rattle.loc_spec_text.specs.Reading.{Polygons}
-use Rattle.loc_rings.specs.Values.{IsRing}
-use Rattle.loc_rings.specs.declared.rings.Kept.{Kept}
+use Rattle.loc_rings.specs.{Values.IsRing, declared.rings.Kept.Kept}
 use Rattle.loc_rings.specs.declared.rings.Kept.TheVariants.{Empty, Begun, One, Many}
 
 -- no polygons, one without rings, one of a single ring, or those that are cut

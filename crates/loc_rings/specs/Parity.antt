@@ -1,9 +1,7 @@
 -- What one pass over segments answers. The word: `IsParity`.
 use Rattle.std.specs.Prelude.{◌≡◌, Bool, not, List, Option, Some, None, IsTrue}
 use Rattle.std.specs.List.{list_any}
-use Rattle.loc_spec_plane.specs.Points.{Point, Edge, lies_on}
-use Rattle.loc_spec_plane.specs.Lists.{odd_many}
-use Rattle.loc_spec_plane.specs.Rays.{crosses_right}
+use Rattle.loc_spec_plane.specs.{Points.Point, Points.Edge, Points.lies_on, Lists.odd_many, Rays.crosses_right}
 
 -- None where p lies on a segment, else whether the ray from p to the right crosses an odd number of them
 abbrev pub IsParity : List Edge → Point → Option Bool → Type 0

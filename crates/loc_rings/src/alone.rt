@@ -1,16 +1,26 @@
 // The rings of a feature as layers: each ring as a feature, and one polygon as the only feature.
 
-ghost use Rattle.std.specs.Prelude.{◌≡◌, ◌^◌, ◌+◌, ◌-◌, ◌<◌, ◌≤◌, [], ◌∷◌, length, map, slice_index_or, slice_range, IfOk};
+ghost use Rattle.std.specs.Prelude.{◌≡◌, ◌^◌, ◌+◌, ◌-◌, ◌<◌, ◌≤◌, [], ◌∷◌, length, map, slice_index_or, slice_range, IfOk, OnOk};
 ghost use Rattle.loc_spec_text.specs.Limits.{most_points};
 ghost use Rattle.loc_spec_text.specs.Reading.{all_rings};
 ghost use Rattle.loc_rings.specs.Layers.{point_count};
-ghost use Rattle.loc_rings.specs.Values.{IsRing, rings_of, unnamed};
+ghost use Rattle.loc_rings.specs.Values.{IsRing, rings_of, unnamed, with_ring};
 
 use crate::features::Feature;
 use crate::layers::Layer;
 use crate::rings::Rings;
 use loc_geom::Point;
 use std::alloc::{AllocError, Global};
+
+// Appends a copy of a ring to the last polygon.
+fn add_copy(made: &mut Rings, alloc: Global, ring: &[Point]) -> Result<(), AllocError>
+    requires closed { IsRing ring.now }
+    requires room { length (all_rings made.old) < 2 ^ 28 }
+    requires started { 0 < length made.old }
+    ensures { OnOk result (made.new ≡ with_ring made.old ring.now) }
+{
+    made.add(Vec::from_slice(alloc, ring)?)
+}
 
 // Copies of the rings from the first on and before the last, as one polygon of a feature without an id.
 fn copied(alloc: Global, rings: &Rings, first: usize, past: usize) -> Result<Feature, AllocError>
@@ -22,7 +32,7 @@ fn copied(alloc: Global, rings: &Rings, first: usize, past: usize) -> Result<Fea
     let mut made = Rings::new(alloc);
     made.start_polygon()?;
     for n in first..past {
-        made.add(Vec::from_slice(alloc, rings.ring(n))?)?;
+        add_copy(&mut made, alloc, rings.ring(n))?;
     }
     Ok(Feature::new(Vec::new(alloc), made))
 }
@@ -34,7 +44,7 @@ fn lone(alloc: Global, ring: &[Point]) -> Result<Feature, AllocError>
 {
     let mut made = Rings::new(alloc);
     made.start_polygon()?;
-    made.add(Vec::from_slice(alloc, ring)?)?;
+    add_copy(&mut made, alloc, ring)?;
     Ok(Feature::new(Vec::new(alloc), made))
 }
 

@@ -80,25 +80,18 @@ impl Rings {
         ensures ok { OnOk result (self.new ≡ self.old ++ [] ∷ []) }
         ensures err { OnErr result (self.new ≡ self.old) }
     {
-        match &mut self.kept {
+        let mut cut = match &mut self.kept {
             Kept::Empty => {
                 self.kept = Kept::Begun;
-                Ok(())
+                return Ok(());
             }
-            Kept::Begun => {
-                let mut cut = begun(self.alloc)?;
-                cut.start_polygon()?;
-                self.kept = Kept::Many(cut);
-                Ok(())
-            }
-            Kept::One(ring) => {
-                let mut cut = moved(self.alloc, ring)?;
-                let started = cut.start_polygon();
-                self.kept = Kept::Many(cut);
-                started
-            }
-            Kept::Many(cut) => cut.start_polygon(),
-        }
+            Kept::Begun => begun(self.alloc)?,
+            Kept::One(ring) => moved(self.alloc, ring)?,
+            Kept::Many(cut) => return cut.start_polygon(),
+        };
+        let started = cut.start_polygon();
+        self.kept = Kept::Many(cut);
+        started
     }
 
     /// Appends a ring to the last polygon. A refusal drops it, and leaves the rings as they were.

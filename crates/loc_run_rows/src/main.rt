@@ -9,23 +9,23 @@ mod escapes;
 mod failing;
 mod hostile;
 mod making;
+mod page;
 mod playing;
 mod runs;
 mod shapes;
 mod stage;
-mod stop;
 mod watched;
 
 use crate::failing::{failing, pieces};
 use crate::making::{cut, make};
+use crate::page::Page;
 use crate::playing::{brief, copies, equal, run, same};
 use crate::runs::words_of;
 use crate::stage::Stage;
-use crate::stop::Stop;
 use loc_top::{answer, status_of};
 use std::alloc::Global;
 use std::process::ExitCode;
-use std::{fs, io, mem};
+use std::{fs, io};
 
 // The files of rows, in the order in which they are played.
 const FILES: [&str; 15] = [
@@ -47,9 +47,10 @@ const FILES: [&str; 15] = [
 ];
 
 // Plays a step.
-fn play(page: &mut String, stage: &mut Stage, verb: &str, rest: &str) -> Result<(), Stop> {
+fn play(page: &mut Page, stage: &mut Stage, verb: &str, rest: &str) {
     match verb {
-        "" | "#" | "row" => Ok(()),
+        "" | "#" => {}
+        "row" => *stage = Stage::new(page, stage.alloc),
         "run" => run(page, stage, rest),
         "same" => same(page, stage, rest),
         "brief" => brief(page, stage, rest),
@@ -57,43 +58,36 @@ fn play(page: &mut String, stage: &mut Stage, verb: &str, rest: &str) -> Result<
         "equal" => equal(page, stage, rest),
         "failing" => failing(page, stage, rest),
         "pieces" => pieces(page, stage, rest),
-        _ => make(stage, verb, rest),
+        _ => make(page, stage, verb, rest),
     }
 }
 
-// Plays the steps of a file on a stage, each behind its own line.
-fn play_lines(page: &mut String, stage: &mut Stage, text: &str) -> Result<(), Stop> {
+// The page of a file of rows: its name, each of its steps behind its own line, and why they are played no further, where they are not.
+fn played(alloc: Global, name: &str, text: &str) -> String {
+    let mut page = Page::new(alloc);
+    let mut stage = Stage::new(&mut page, alloc);
+    page.put("# ");
+    page.put(name);
+    page.put("\n");
     for line in text.lines() {
-        writeln!(page, "{line}")?;
+        page.put(line);
+        page.put("\n");
         let (verb, rest) = cut(line);
-        if verb == "row" {
-            let empty = Stage::new(stage.alloc);
-            drop(mem::replace(stage, empty));
+        play(&mut page, &mut stage, verb, rest);
+        if page.has_stopped() {
+            break;
         }
-        play(page, stage, verb, rest)?;
     }
-    Ok(())
-}
-
-// Plays the steps of a file.
-fn play_all(page: &mut String, alloc: Global, text: &str) -> Result<(), Stop> {
-    let mut stage = Stage::new(alloc);
-    let played = play_lines(page, &mut stage, text);
-    drop(stage);
-    played
+    page.end();
+    page.text
 }
 
 // Plays the files of rows, and prints what their steps leave.
 fn play_files(rt: &HostRuntime) -> io::Result<()> {
     for name in &FILES {
         let text = fs::read_to_string(rt, *name)?;
-        println!(rt; "# {name}")?;
-        let mut page = String::new(rt.alloc());
-        let played = play_all(&mut page, rt.alloc(), text.as_str());
+        let page = played(rt.alloc(), *name, text.as_str());
         rt.print(page.as_str())?;
-        if let Err(stop) = played {
-            println!(rt; "{stop:?}")?;
-        }
     }
     Ok(())
 }
@@ -102,14 +96,19 @@ fn play_files(rt: &HostRuntime) -> io::Result<()> {
 const NO_COMMAND: &str = "query layer.wkt";
 
 // Runs words that are no command, and prints their status.
+fn show_refused(rt: &HostRuntime, page: &mut Page) {
+    let words = words_of(page, rt.alloc(), NO_COMMAND);
+    let status = status_of(rt, words.as_slice());
+    let done = writeln!(page.text, "# {NO_COMMAND}: status {status}");
+    page.note(done.is_err());
+    page.end();
+}
+
+// Prints what words leave that are no command.
 fn start_refused(rt: &HostRuntime) -> io::Result<()> {
-    match words_of(rt.alloc(), NO_COMMAND) {
-        Ok(words) => {
-            let status = status_of(rt, words.as_slice());
-            println!(rt; "# {NO_COMMAND}: status {status}")
-        }
-        Err(stop) => println!(rt; "{stop:?}"),
-    }
+    let mut page = Page::new(rt.alloc());
+    show_refused(rt, &mut page);
+    rt.print(page.text.as_str())
 }
 
 // The status of a program that could not print.

@@ -1,126 +1,134 @@
 //! Steps of a row that run words, and print what is left.
 
-use crate::escapes::escaped;
+use crate::escapes::put_escaped;
 use crate::hostile::number_at;
 use crate::making::cut;
+use crate::page::Page;
 use crate::runs::Left;
 use crate::stage::Stage;
-use crate::stop::Stop;
-use std::alloc::{AllocError, Global};
 
 // Prints the lines of a text behind a mark; a last line without an end has a backslash behind it.
-fn show(page: &mut String, alloc: Global, mark: &str, bytes: &[u8]) -> Result<(), AllocError> {
-    for line in bytes.split_inclusive(|byte| *byte == b'\n') {
-        let (line, end) = match line.strip_suffix(b"\n") {
-            Some(line) => (line, ""),
-            None => (line, "\\"),
-        };
-        let text = escaped(alloc, line)?;
-        writeln!(page, "{mark} {text}{end}")?;
+fn show(page: &mut Page, mark: &str, bytes: &[u8]) {
+    let mut begins = true;
+    for byte in bytes {
+        if begins {
+            page.put(mark);
+        }
+        begins = *byte == b'\n';
+        if begins {
+            page.put("\n");
+        } else {
+            put_escaped(page, *byte);
+        }
     }
-    Ok(())
+    if !begins {
+        page.put("\\\n");
+    }
 }
 
-// Prints what the last run left on notes, and its status.
-fn show_end(page: &mut String, alloc: Global, left: &Left) -> Result<(), AllocError> {
-    show(page, alloc, "!", left.notes.bytes())?;
+// Prints what a run left on notes, and its status.
+fn show_end(page: &mut Page, left: &Left) {
+    show(page, "! ", left.notes.sink.bytes());
     let status = left.status;
-    writeln!(page, "status {status}")
+    let done = writeln!(page.text, "status {status}");
+    page.note(done.is_err());
 }
 
-// Prints what the last run left.
-fn show_left(page: &mut String, stage: &Stage) -> Result<(), Stop> {
-    let left = stage.left()?;
-    show(page, stage.alloc, "|", left.out.bytes())?;
-    show_end(page, stage.alloc, left)?;
-    Ok(())
+// Prints what a run left.
+fn show_left(page: &mut Page, left: &Left) {
+    show(page, "| ", left.out.sink.bytes());
+    show_end(page, left);
 }
 
-// Prints the name of a file, and what an index says that it has.
-fn show_index(page: &mut String, name: &str, index: &[u8]) -> Result<(), Stop> {
-    let features = number_at(index, 16)?;
-    let corners = number_at(index, 20)?;
-    let edges = number_at(index, 24)?;
-    let nodes = number_at(index, 36)?;
-    writeln!(
-        page,
-        "made {name}: {features} features, {corners} corners, {edges} edges, {nodes} nodes"
-    )?;
-    Ok(())
+// Prints a number that an index has at a place, between two texts.
+fn show_number(page: &mut Page, index: &[u8], at: usize, name: &str) {
+    let number = number_at(page, index, at);
+    let done = write!(page.text, "{number} {name}");
+    page.note(done.is_err());
 }
 
-// Prints the file that the last run has made, if there is one.
-fn show_made(page: &mut String, stage: &mut Stage) -> Result<(), Stop> {
-    if stage.note_made()? {
-        let name = stage.last_name()?;
-        show_index(page, name, stage.bytes(name)?)?;
+// Prints the file that the last run has made, if there is one: its name, and what it says that it has.
+fn show_made(page: &mut Page, stage: &mut Stage) {
+    if stage.note_made(page) {
+        let index = stage.bytes(page, stage.last_name());
+        page.put("made ");
+        page.put(stage.last_name());
+        page.put(": ");
+        show_number(page, index, 16, "features, ");
+        show_number(page, index, 20, "corners, ");
+        show_number(page, index, 24, "edges, ");
+        show_number(page, index, 36, "nodes\n");
     }
-    Ok(())
 }
 
 /// `run WORDS`: what they leave.
-pub(crate) fn run(page: &mut String, stage: &mut Stage, line: &str) -> Result<(), Stop> {
-    stage.take_words(line)?;
-    stage.play()?;
-    show_left(page, stage)?;
-    show_made(page, stage)
+pub(crate) fn run(page: &mut Page, stage: &mut Stage, line: &str) {
+    stage.take_words(page, line);
+    let _agrees = stage.play(page);
+    show_left(page, &stage.left);
+    show_made(page, stage);
 }
 
 /// `same WORDS`: whether they leave the same as the last `run`, and else what they leave.
-pub(crate) fn same(page: &mut String, stage: &mut Stage, line: &str) -> Result<(), Stop> {
-    stage.take_words(line)?;
-    if stage.agrees()? {
-        writeln!(page, "same")?;
+pub(crate) fn same(page: &mut Page, stage: &mut Stage, line: &str) {
+    stage.take_words(page, line);
+    if stage.play(page) {
+        page.put("same\n");
     } else {
-        show_left(page, stage)?;
+        show_left(page, &stage.left);
     }
-    show_made(page, stage)
+    show_made(page, stage);
 }
 
 /// `equal NAME OTHER`: whether two files have the same bytes, and how many the first has.
-pub(crate) fn equal(page: &mut String, stage: &Stage, line: &str) -> Result<(), Stop> {
+pub(crate) fn equal(page: &mut Page, stage: &Stage, line: &str) {
     let (name, other) = cut(line);
-    let bytes = stage.bytes(name)?;
-    let are_equal = bytes == stage.bytes(other)?;
+    let bytes = stage.bytes(page, name);
+    let are_equal = bytes == stage.bytes(page, other);
     let length = bytes.len();
-    writeln!(page, "{length} bytes: {are_equal}")?;
-    Ok(())
+    let done = writeln!(page.text, "{length} bytes: {are_equal}");
+    page.note(done.is_err());
 }
 
-// How many lines begin with a word.
-fn count_lines(text: &[u8], word: &[u8]) -> usize {
-    text.split(|byte| *byte == b'\n')
-        .filter(|line| line.starts_with(word))
-        .count()
+// Prints how many lines begin with a word.
+fn show_count(page: &mut Page, text: &[u8], word: &str) {
+    let mut count = 0u64;
+    let mut begins = true;
+    for at in 0..text.len() {
+        if begins && text[at..].starts_with(word.as_bytes()) {
+            count = count.saturating_add(1);
+        }
+        begins = text[at] == b'\n';
+    }
+    let done = write!(page.text, "{count} {word}s, ");
+    page.note(done.is_err());
 }
 
 // Prints how many answers of each kind a text has, and how many bytes.
-fn show_counts(page: &mut String, out: &[u8]) -> Result<(), AllocError> {
-    let corners = count_lines(out, b"corner");
-    let borders = count_lines(out, b"border");
-    let faces = count_lines(out, b"face");
+fn show_counts(page: &mut Page, out: &[u8]) {
+    page.put("| ");
+    show_count(page, out, "corner");
+    show_count(page, out, "border");
+    show_count(page, out, "face");
     let length = out.len();
-    writeln!(
-        page,
-        "| {corners} corners, {borders} borders, {faces} faces, {length} bytes"
-    )
+    let done = writeln!(page.text, "{length} bytes");
+    page.note(done.is_err());
 }
 
 /// `brief WORDS`: what they leave, of out no more than how many answers of each kind there are, and how many bytes.
-pub(crate) fn brief(page: &mut String, stage: &mut Stage, line: &str) -> Result<(), Stop> {
-    stage.take_words(line)?;
-    stage.play()?;
-    let left = stage.left()?;
-    show_counts(page, left.out.bytes())?;
-    show_end(page, stage.alloc, left)?;
-    show_made(page, stage)
+pub(crate) fn brief(page: &mut Page, stage: &mut Stage, line: &str) {
+    stage.take_words(page, line);
+    let _agrees = stage.play(page);
+    show_counts(page, stage.left.out.sink.bytes());
+    show_end(page, &stage.left);
+    show_made(page, stage);
 }
 
 /// `copies NAME COUNT`: whether out of the last run is so many times the bytes of a file.
-pub(crate) fn copies(page: &mut String, stage: &Stage, line: &str) -> Result<(), Stop> {
+pub(crate) fn copies(page: &mut Page, stage: &Stage, line: &str) {
     let (name, count) = cut(line);
-    let part = stage.bytes(name)?;
-    let mut rest = stage.left()?.out.bytes();
+    let part = stage.bytes(page, name);
+    let mut rest = stage.out(page);
     let mut found = 0u64;
     for _ in 0..rest.len() {
         match rest.strip_prefix(part) {
@@ -130,6 +138,6 @@ pub(crate) fn copies(page: &mut String, stage: &Stage, line: &str) -> Result<(),
         found = found.saturating_add(1);
     }
     let all_same = rest.is_empty();
-    writeln!(page, "{found} copies of {count}: {all_same}")?;
-    Ok(())
+    let done = writeln!(page.text, "{found} copies of {count}: {all_same}");
+    page.note(done.is_err());
 }

@@ -1,137 +1,129 @@
 //! Where a row is played: its files, and what its last run left.
 
-use crate::runs::{Faults, Left, run_words, words_of};
-use crate::stop::Stop;
-use loc_io::MemShelf;
+use crate::page::Page;
+use crate::runs::{Faults, Left, words_of};
 use std::alloc::{AllocError, Global};
 use std::mem;
 
-/// The files of a row, their names, the words that are run, and what its last run left.
+/// The names of the files of a row, the words that are run, whether some have run, and the files with what the last run left.
 #[derive(Drop)]
 pub(crate) struct Stage {
     pub(crate) alloc: Global,
-    shelf: MemShelf,
     names: Vec<String>,
-    words: Vec<String>,
-    left: Option<Left>,
+    pub(crate) words: Vec<String>,
+    has_run: bool,
+    pub(crate) left: Left,
 }
 
-// A shelf without files, of which one call fails.
-fn empty_shelf(alloc: Global, call: u64) -> Result<MemShelf, AllocError> {
-    Ok(MemShelf::new(alloc, vec![in alloc; call]?))
+// Whether a name is one of these.
+fn has_name(names: &[String], name: &str) -> bool {
+    for known in names {
+        if known.as_str() == name {
+            return true;
+        }
+    }
+    false
+}
+
+// Puts a name behind others, if there was memory for it.
+fn add_name(names: &mut Vec<String>, page: &mut Page, name: Result<String, AllocError>) {
+    let has_failed = match name {
+        Ok(name) => names.push(name).is_err(),
+        Err(_) => true,
+    };
+    page.note(has_failed);
 }
 
 impl Stage {
     /// A stage without files, where nothing has run.
-    pub(crate) fn new(alloc: Global) -> Stage {
+    pub(crate) fn new(page: &mut Page, alloc: Global) -> Stage {
         Stage {
             alloc,
-            shelf: MemShelf::new(alloc, Vec::new(alloc)),
             names: Vec::new(alloc),
             words: Vec::new(alloc),
-            left: None,
+            has_run: false,
+            left: Left::new(page, alloc, Faults::NONE),
         }
     }
 
-    /// Puts a file there, in place of one with this name.
-    pub(crate) fn put(&mut self, name: &str, bytes: &[u8]) -> Result<(), AllocError> {
-        if self.names.iter().all(|known| known.as_str() != name) {
-            self.names.push(String::from_str(self.alloc, name)?)?;
+    /// Puts the file that a step makes there, in place of one with this name.
+    pub(crate) fn put(&mut self, page: &mut Page, name: &str) {
+        if !has_name(&self.names, name) {
+            add_name(&mut self.names, page, String::from_str(self.alloc, name));
         }
-        self.shelf.put(name, bytes)
+        let has_failed = self.left.shelf.files.put(name, &page.made).is_err();
+        page.note(has_failed);
     }
 
     /// The bytes of a file, which has to be there.
-    pub(crate) fn bytes(&self, name: &str) -> Result<&[u8], Stop> {
-        self.shelf.bytes(name).ok_or(Stop::NoStep)
+    pub(crate) fn bytes(&self, page: &mut Page, name: &str) -> &[u8] {
+        match self.left.shelf.files.bytes(name) {
+            Some(bytes) => bytes,
+            None => {
+                page.refuse();
+                &[]
+            }
+        }
     }
 
-    /// What the last run left, which has to be there.
-    pub(crate) fn left(&self) -> Result<&Left, Stop> {
-        self.left.as_ref().ok_or(Stop::NoStep)
-    }
-
-    // What the words leave over the files, which a run may add to.
-    fn outcome(&mut self) -> Result<Left, AllocError> {
-        let empty = empty_shelf(self.alloc, 0)?;
-        let shelf = mem::replace(&mut self.shelf, empty);
-        let (left, shelf) = run_words(self.alloc, &self.words, shelf, Faults::NONE)?;
-        self.shelf = shelf;
-        Ok(left)
-    }
-
-    /// The words that are run.
-    pub(crate) fn words(&self) -> &[String] {
-        &self.words
+    /// What the last run left on out, which has to be there.
+    pub(crate) fn out(&self, page: &mut Page) -> &[u8] {
+        if !self.has_run {
+            page.refuse();
+        }
+        self.left.out.sink.bytes()
     }
 
     /// Takes the words of a line.
-    pub(crate) fn take_words(&mut self, line: &str) -> Result<(), Stop> {
-        self.words = words_of(self.alloc, line)?;
-        Ok(())
+    pub(crate) fn take_words(&mut self, page: &mut Page, line: &str) {
+        self.words = words_of(page, self.alloc, line);
     }
 
-    /// Runs the words, and keeps what they leave.
-    pub(crate) fn play(&mut self) -> Result<(), Stop> {
-        self.left = Some(self.outcome()?);
-        Ok(())
+    /// Runs the words over the files, which a run may add to. Whether they leave the same as the last run, whose place this one takes.
+    pub(crate) fn play(&mut self, page: &mut Page) -> bool {
+        let mut left = Left::new(page, self.alloc, Faults::NONE);
+        mem::swap(&mut left.shelf, &mut self.left.shelf);
+        left.run(self.alloc, &self.words);
+        let agrees = self.has_run && left.is_same(&self.left);
+        self.has_run = true;
+        self.left = left;
+        agrees
     }
 
-    /// Whether the words leave the same as the last run, which else they take the place of.
-    pub(crate) fn agrees(&mut self) -> Result<bool, Stop> {
-        let left = self.outcome()?;
-        let agrees = match &self.left {
-            Some(last) => left.is_same(last),
-            None => false,
-        };
-        if agrees {
-            drop(left);
-        } else {
-            self.left = Some(left);
-        }
-        Ok(agrees)
-    }
-
-    // Puts a copy of each file on a shelf.
-    fn copy_to(&self, shelf: &mut MemShelf) -> Result<(), Stop> {
+    /// What the words leave over a copy of the files, where calls fail.
+    pub(crate) fn trial(&self, page: &mut Page, faults: Faults) -> Left {
+        let mut left = Left::new(page, self.alloc, faults);
         for name in &self.names {
-            shelf.put(name.as_str(), self.bytes(name.as_str())?)?;
+            let bytes = self.bytes(page, name.as_str());
+            let has_failed = left.shelf.files.put(name.as_str(), bytes).is_err();
+            page.note(has_failed);
         }
-        Ok(())
-    }
-
-    /// What the words leave over a copy of the files, where calls fail, and the copy.
-    pub(crate) fn failing(&self, faults: Faults) -> Result<(Left, MemShelf), Stop> {
-        let mut shelf = empty_shelf(self.alloc, faults.shelf)?;
-        if let Err(stop) = self.copy_to(&mut shelf) {
-            drop(shelf);
-            return Err(stop);
-        }
-        Ok(run_words(self.alloc, &self.words, shelf, faults)?)
+        left.run(self.alloc, &self.words);
+        left
     }
 
     // Whether a run has made a file with this name, which is not noted.
     fn is_made(&self, name: &str) -> bool {
-        self.shelf.bytes(name).is_some() && self.names.iter().all(|known| known.as_str() != name)
+        self.left.shelf.files.bytes(name).is_some() && !has_name(&self.names, name)
     }
 
     /// Notes the first of the words that is the name of a file which a run has made. Whether there is one.
-    pub(crate) fn note_made(&mut self) -> Result<bool, AllocError> {
+    pub(crate) fn note_made(&mut self, page: &mut Page) -> bool {
         for word in &self.words {
             if self.is_made(word.as_str()) {
-                let name = String::from_str(self.alloc, word.as_str())?;
-                self.names.push(name)?;
-                return Ok(true);
+                let name = String::from_str(self.alloc, word.as_str());
+                add_name(&mut self.names, page, name);
+                return true;
             }
         }
-        Ok(false)
+        false
     }
 
-    /// The name that was noted last, which has to be there.
-    pub(crate) fn last_name(&self) -> Result<&str, Stop> {
+    /// The name that was noted last.
+    pub(crate) fn last_name(&self) -> &str {
         match self.names.last() {
-            Some(name) => Ok(name.as_str()),
-            None => Err(Stop::NoStep),
+            Some(name) => name.as_str(),
+            None => "",
         }
     }
 }

@@ -6,12 +6,10 @@ use Rattle.loc_spec_plane.specs.Points.{Point, is_above, is_on, is_below, lies_o
 use Rattle.loc_spec_plane.specs.Tables.{Table, IsTable, edge, lo_of, hi_of}
 use Rattle.loc_spec_plane.specs.Places.{alive, alive_at, is_edge}
 use Rattle.loc_laws_order.proofs.Sides.{above-not_below, on-not_above, on-not_below}
-use Rattle.loc_place.specs.Found.{is_under}
-use Rattle.loc_place.proofs.Behind.{alive_is}
-use Rattle.loc_place.proofs.Cornerless.{lies_on_is}
+use Rattle.loc_place.specs.{Found.is_under, Standing.IsBehind}
+use Rattle.loc_place.proofs.{Behind.alive_is, Cornerless.lies_on_is}
 use Rattle.loc_scan.specs.declared.edges.Look.TheVariants.{On, Under, Neither}
 use Rattle.loc_scan.specs.Look.{IsLook}
-use Rattle.loc_place.specs.Standing.{IsBehind}
 
 module _ (t : Table) (ok : IsTable t) (p : Point) (n : ℕ) (behind : IsBehind t p n) (e : ℕ) (fits : e < length t.ends) where
   -- p lies on the edge exactly where it is on its line and the edge is alive

@@ -1,7 +1,6 @@
 -- What a look at an edge shows. The word: `IsLook`.
 use Rattle.std.specs.Prelude.{ℕ, IsTrue, not}
-use Rattle.loc_spec_plane.specs.Points.{Point, lies_on}
-use Rattle.loc_spec_plane.specs.Tables.{Table, edge}
+use Rattle.loc_spec_plane.specs.{Points.Point, Points.lies_on, Tables.Table, Tables.edge}
 use Rattle.loc_place.specs.Found.{is_under}
 use Rattle.loc_scan.specs.declared.edges.Look.{Look}
 use Rattle.loc_scan.specs.declared.edges.Look.TheVariants.{On, Under, Neither}

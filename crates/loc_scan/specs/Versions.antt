@@ -2,8 +2,7 @@
 use Rattle.std.specs.Prelude.{ℕ, List, Some}
 use Rattle.loc_spec_plane.specs.Tables.{Table}
 use Rattle.loc_place.specs.Planar.{IsPlanar}
-use Rattle.loc_status.specs.Meaning.{StatusMeaning}
-use Rattle.loc_status.specs.Versions.{AreVersions}
+use Rattle.loc_status.specs.{Meaning.StatusMeaning, Versions.AreVersions}
 
 -- a status that tells no sealed list, and a copy of each list that was sealed
 pub record KeptLists : Type 0 where

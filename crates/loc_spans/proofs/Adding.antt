@@ -1,14 +1,11 @@
 -- One feature more, and boxes in another order.
 use Rattle.std.proofs.Common.{◌≡◌, ℕ, ◌+◌, ◌<◌, ◌≤◌, true, false, List, [], ◌∷◌, ◌++◌, length, map, filter, get_or, sym, ◌∙◌, ap, ap₂, subst, inl, inr, arith, length-append, append-nil}
-use Rattle.std.specs.Ordering.{is_lt}
-use Rattle.std.specs.List.Sorted.{IsPermutation, IsSorted, IsSortedByKey}
+use Rattle.std.specs.{Ordering.is_lt, List.Sorted.IsPermutation, List.Sorted.IsSorted, List.Sorted.IsSortedByKey}
 use Rattle.std.proofs.lemmas.Bool.{cases_lt, cond-true, cond-false}
 use Rattle.std.proofs.lemmas.List.{get_or_append_left, get_or_push, get_or-map, length-map, map-append}
 use Rattle.std.proofs.lemmas.List.Elements.{All-append, All-cons, All-nil, filter-append}
 use Rattle.std.proofs.lemmas.List.Sorted.{All-permutation, IsPermutation-map}
-use Rattle.loc_spec_plane.specs.Lists.{numbers}
-use Rattle.loc_spec_plane.specs.Points.{Edge}
-use Rattle.loc_spec_plane.specs.Rings.{Rings, segments}
+use Rattle.loc_spec_plane.specs.{Lists.numbers, Points.Edge, Rings.Rings, Rings.segments}
 use Rattle.loc_laws_order.proofs.Kept.{numbers_more}
 use Rattle.loc_laws_noding.proofs.Orders.{edge_cmp}
 use Rattle.loc_laws_any.specs.Moments.{AreClosed}

@@ -1,8 +1,7 @@
 -- Rings that are closed by their first and their last point.
 use Rattle.std.proofs.Common.{◌≡◌, suc, ◌-◌, Some, List, [], ◌∷◌, length, refl, sym, ◌∙◌, ap, arith}
 use Rattle.std.specs.Prelude.{All, slice_get}
-use Rattle.loc_spec_plane.specs.Points.{Point}
-use Rattle.loc_spec_plane.specs.Rings.{Ring, Rings}
+use Rattle.loc_spec_plane.specs.{Points.Point, Rings.Ring, Rings.Rings}
 use Rattle.loc_laws_rays.specs.Laws.{last_point}
 use Rattle.loc_rings.specs.Values.{IsRing}
 use Rattle.loc_laws_any.specs.Moments.{IsClosed, AreClosed}

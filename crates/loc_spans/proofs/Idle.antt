@@ -2,13 +2,11 @@
 use Rattle.std.proofs.Common.{◌≡◌, ℕ, ℤ, ◌+◌, ◌<◌, true, false, ◌&&◌, ◌||◌, List, length, map, sym, ◌∙◌, ap, subst, inl, inr, arith}
 use Rattle.std.specs.Prelude.{int_le, int_lt, slice_index_or}
 use Rattle.std.proofs.lemmas.Bool.{cases_Bool, cases_lt, and_from, or_left, or_right, both_ways, not_from_false}
-use Rattle.std.proofs.lemmas.Int.{ints}
-use Rattle.std.proofs.lemmas.List.{get_or-map, get_or_default, length-map}
+use Rattle.std.proofs.{lemmas.Int.ints, lemmas.List.get_or-map, lemmas.List.get_or_default, lemmas.List.length-map}
 use Rattle.loc_spec_plane.specs.Points.{Point, Edge, before, up_to}
 use Rattle.loc_spec_plane.specs.Rings.{Rings, touches, covers}
 use Rattle.loc_laws_order.proofs.Sides.{le_decides}
-use Rattle.loc_laws_any.specs.Boxes.{is_outside}
-use Rattle.loc_laws_any.specs.Moments.{at_moment}
+use Rattle.loc_laws_any.specs.{Boxes.is_outside, Moments.at_moment}
 use Rattle.loc_laws_any.proofs.Boxes.{box_law}
 use Rattle.loc_spans.specs.Rows.{row_at, NoneBetween}
 use Rattle.loc_spans.specs.Boxes.{Kept, BoxedState, IsBoxOf, IsBoxed, IsIdle, rings_at}

@@ -1,12 +1,10 @@
 -- Segments in their order begin in order.
 use Rattle.std.proofs.Common.{◌≡◌, ℕ, zero, suc, ◌+◌, ◌-◌, ◌<◌, true, ◌&&◌, List, length, ap, subst, arith}
-use Rattle.std.specs.Ordering.{is_lt}
-use Rattle.std.specs.List.Sorted.{IsSorted}
+use Rattle.std.specs.{Ordering.is_lt, List.Sorted.IsSorted}
 use Rattle.std.proofs.lemmas.Bool.{both_ways, or_left, false_from_ne_true, not_from_false}
 use Rattle.loc_spec_plane.specs.Points.{Edge, before, same_point, up_to}
 use Rattle.loc_laws_order.proofs.Tests.{up_to_trans, up_to_refl}
-use Rattle.loc_laws_noding.proofs.Orders.{edge_cmp, edges_by_before}
-use Rattle.loc_laws_noding.proofs.SortedSet.{less}
+use Rattle.loc_laws_noding.proofs.{Orders.edge_cmp, Orders.edges_by_before, SortedSet.less}
 use Rattle.loc_spans.specs.Rows.{row_at, BeginInOrder}
 
 module _ (rows : List Edge) (sorted : IsSorted edge_cmp rows) where

@@ -1,18 +1,12 @@
 -- Boxes that reach further.
 use Rattle.std.proofs.Common.{◌≡◌, ℤ, ℕ, ◌+◌, ◌<◌, true, ◌&&◌, List, [], ◌∷◌, length, take, get_or, refl, ◌∙◌, ap, arith}
-use Rattle.std.specs.Prelude.{int_le}
-use Rattle.std.specs.List.{list_all}
-use Rattle.std.proofs.lemmas.Int.{ints}
-use Rattle.std.proofs.lemmas.Bool.{and_parts, and_from}
-use Rattle.std.proofs.lemmas.List.{take_more}
+use Rattle.std.specs.{Prelude.int_le, List.list_all}
+use Rattle.std.proofs.{lemmas.Int.ints, lemmas.Bool.and_parts, lemmas.Bool.and_from, lemmas.List.take_more}
 use Rattle.loc_spec_plane.specs.Points.{Point, Edge, before, up_to}
-use Rattle.loc_laws_order.proofs.Sets.{all_joined, all_weaker}
-use Rattle.loc_laws_order.proofs.Sides.{le_decides}
-use Rattle.loc_laws_order.proofs.Tests.{up_to_trans}
+use Rattle.loc_laws_order.proofs.{Sets.all_joined, Sets.all_weaker, Sides.le_decides, Tests.up_to_trans}
 use Rattle.loc_laws_any.specs.Boxes.{is_boxed}
 use Rattle.loc_laws_any.proofs.Boxes.{before-up_to, up_to-before}
-use Rattle.loc_spans.specs.declared.extents.Around.{Around}
-use Rattle.loc_spans.specs.Around.{IsWider}
+use Rattle.loc_spans.specs.{declared.extents.Around.Around, Around.IsWider}
 
 -- from a first moment to a last
 pub goes_up : (first lo hi last : Point) → up_to first lo ≡ true → before lo hi ≡ true → up_to hi last ≡ true → before first last ≡ true

@@ -6,16 +6,12 @@
 --   BoxedState, IsBoxed  what is kept of the features of a layer
 --   IsIdle, IsNear  boxes whose features neither touch nor cover a point, and the next box that holds the point
 use Rattle.std.specs.Prelude.{◌≡◌, ℕ, ◌<◌, ◌≤◌, Bool, true, false, List, [], length, map, filter, get_or, slice_index_or, All, Option, Some, None}
-use Rattle.std.specs.List.{list_all}
-use Rattle.std.specs.List.Sorted.{IsPermutation}
+use Rattle.std.specs.{List.list_all, List.Sorted.IsPermutation}
 use Rattle.loc_spec_text.specs.Limits.{most_features}
-use Rattle.loc_spec_plane.specs.Lists.{numbers}
-use Rattle.loc_spec_plane.specs.Points.{Point, Edge}
+use Rattle.loc_spec_plane.specs.{Lists.numbers, Points.Point, Points.Edge}
 use Rattle.loc_spec_plane.specs.Rings.{Rings, segments, touches, covers}
-use Rattle.loc_laws_any.specs.Boxes.{is_boxed}
-use Rattle.loc_laws_any.specs.Moments.{AreClosed}
-use Rattle.loc_spans.specs.Around.{is_some}
-use Rattle.loc_spans.specs.declared.boxes.Extent.{Extent}
+use Rattle.loc_laws_any.specs.{Boxes.is_boxed, Moments.AreClosed}
+use Rattle.loc_spans.specs.{Around.is_some, declared.boxes.Extent.Extent}
 
 -- the edge from the first moment to the last, and a lowest and a highest point and the feature
 abbrev pub Kept : Type 0

@@ -1,16 +1,10 @@
 -- Worked rows: dissolved groups, computed on small layers. The next and the face of each half-edge are listed; that the nexts are those of the group's table is checked too.
 use Rattle.std.proofs.Common.{◌≡◌, ℕ, Bool, true, false, List, [], ◌∷◌, ◌++◌, map, refl, get_or}
-use Rattle.std.specs.Prelude.{codes}
-use Rattle.std.specs.Fmt.{digits}
-use Rattle.loc_spec_text.specs.Bytes.{Text}
-use Rattle.loc_spec_text.specs.Points.{ended}
-use Rattle.loc_spec_plane.specs.Points.{turn}
-use Rattle.loc_spec_plane.specs.Rings.{Rings}
-use Rattle.loc_spec_plane.specs.declared.Mark.{Mark}
-use Rattle.loc_spec_plane.specs.Tables.{Table, table_of, table_by}
-use Rattle.loc_spec_plane.specs.HalfEdges.{IsNextOfAll}
-use Rattle.loc_spec_plane.proofs.Rows.{at, rectangle}
-use Rattle.loc_spec_plane.proofs.RowsFaces.{next_by_check}
+use Rattle.std.specs.{Prelude.codes, Fmt.digits}
+use Rattle.loc_spec_text.specs.{Bytes.Text, Points.ended}
+use Rattle.loc_spec_plane.specs.{Points.turn, Rings.Rings, declared.Mark.Mark}
+use Rattle.loc_spec_plane.specs.{Tables.Table, Tables.table_of, Tables.table_by, HalfEdges.IsNextOfAll}
+use Rattle.loc_spec_plane.proofs.{Rows.at, Rows.rectangle, RowsFaces.next_by_check}
 use Rattle.loc_spec_groups.specs.Groups.{covers_upper, covers_lower, kept_edges, chosen_table, group_table, group_polygons, is_member, group_names, dissolved}
 use Rattle.loc_spec_groups.specs.GroupTexts.{dissolved_text}
 

@@ -5,8 +5,7 @@
 use Rattle.std.specs.Prelude.{ℕ, List, [], ◌∷◌, ◌++◌, codes, map}
 use Rattle.std.specs.List.{flat_map}
 use Rattle.loc_spec_plane.specs.Rings.{Ring, Rings}
-use Rattle.loc_spec_text.specs.Bytes.{Text}
-use Rattle.loc_spec_text.specs.Points.{ended, position_text, quoted_byte}
+use Rattle.loc_spec_text.specs.{Bytes.Text, Points.ended, Points.position_text, Points.quoted_byte}
 use Rattle.loc_spec_groups.specs.Groups.{Group}
 
 -- texts with a comma and a space between them

@@ -8,15 +8,11 @@
 --   group_names, is_member      the distinct ids of a layer by their first features, and the features of one
 --   Group, dissolved_group, dissolved  an id with the polygons of its features, and all of them
 use Rattle.std.specs.Prelude.{ℕ, ◌*◌, Bool, true, not, ◌&&◌, List, [], ◌∷◌, ◌++◌, length, get_or, map, filter, nat_lt, ◌==◌}
-use Rattle.std.specs.List.{list_any, flat_map, range_with_len}
-use Rattle.std.specs.Str.{bytes_eq}
-use Rattle.loc_spec_plane.specs.Points.{Point}
-use Rattle.loc_spec_plane.specs.Rings.{Ring, Rings}
-use Rattle.loc_spec_plane.specs.Lists.{numbers, exactly_one, is_in}
+use Rattle.std.specs.{List.list_any, List.flat_map, List.range_with_len, Str.bytes_eq}
+use Rattle.loc_spec_plane.specs.{Points.Point, Rings.Ring, Rings.Rings, Lists.numbers, Lists.exactly_one, Lists.is_in}
 use Rattle.loc_spec_plane.specs.Tables.{Table, corner, edge, edge_numbers, corner_numbers, has_odd, ends_at, number_of}
-use Rattle.loc_spec_plane.specs.Covers.{cover_above, feature_count}
+use Rattle.loc_spec_plane.specs.{Covers.cover_above, Covers.feature_count, Faces.hangs, Faces.leads_face}
 use Rattle.loc_spec_plane.specs.HalfEdges.{half_edge_count, origin, cycle, leader}
-use Rattle.loc_spec_plane.specs.Faces.{hangs, leads_face}
 use Rattle.loc_spec_text.specs.Bytes.{Text}
 
 -- ---- the edges that pass a test, as a table of their own

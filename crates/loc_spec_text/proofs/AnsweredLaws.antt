@@ -1,8 +1,7 @@
 -- Texts of whose lines none is refused.
 use Rattle.std.proofs.Common.{◌≡◌, List, [], ◌∷◌, ◌++◌, map, None, Ok, refl, ap}
 use Rattle.std.specs.List.{flat_map}
-use Rattle.loc_spec_text.specs.Answered.{Answered, answered, with_answer}
-use Rattle.loc_spec_text.specs.Bytes.{Text}
+use Rattle.loc_spec_text.specs.{Answered.Answered, Answered.answered, Answered.with_answer, Bytes.Text}
 
 -- where no line is refused, each is answered
 abbrev pub all_of : (Text → Text) → List Text → Answered Text Text

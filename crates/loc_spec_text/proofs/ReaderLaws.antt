@@ -5,8 +5,7 @@ use Rattle.std.specs.List.{AllByRecursion}
 use Rattle.std.proofs.lemmas.Option.{option_and_then_some, some_pair_parts, cond_some, none-some}
 use Rattle.std.proofs.lemmas.Slice.Eq.{bytes_eq-Decides}
 use Rattle.loc_spec_text.specs.Reader.{Reader, onto, next, members_at, enclosed_at, list_at, point_at, wide_end, wide_more, wide_point_at, one_of, all_of, tree_after, tree_of, geometry_of, wide_geometry_of}
-use Rattle.loc_spec_text.specs.Bytes.{err_or}
-use Rattle.loc_spec_text.specs.declared.TextFault.{TextFault}
+use Rattle.loc_spec_text.specs.{Bytes.err_or, declared.TextFault.TextFault}
 use Rattle.loc_spec_text.specs.Reading.{Polygons, reading, reading_of, Reads, ReadsTree, word_fault}
 use Rattle.loc_spec_text.specs.Geometry.{Symbol, word, number, open_mark, close_mark, comma, other, separated, enclosed, enclosed_or_empty, PointText, WidePoint, two, three, four, numbers, wide_numbers, point, ring, polygon, Polygon, Ring, Spells, IsTree, symbols}
 

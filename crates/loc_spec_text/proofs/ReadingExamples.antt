@@ -3,8 +3,7 @@ use Rattle.std.proofs.Common.{◌≡◌, [], ◌∷◌, refl, codes}
 use Rattle.std.specs.Prelude.{negsuc, pos, Ok, Err}
 use Rattle.loc_spec_plane.specs.Points.{point_at}
 use Rattle.loc_spec_text.specs.declared.TextFault.TheVariants.{Syntax, Tag, Dimension, OffGrid, Range, RingShort, RingOpen}
-use Rattle.loc_spec_text.specs.Number.{scaled, unit}
-use Rattle.loc_spec_text.specs.Reader.{geometry_of, wide_geometry_of}
+use Rattle.loc_spec_text.specs.{Number.scaled, Number.unit, Reader.geometry_of, Reader.wide_geometry_of}
 use Rattle.loc_spec_text.specs.Reading.{reading, Polygons}
 
 square : Polygons

@@ -1,12 +1,9 @@
 -- Worked rows: spans over the square from 0 0 to 4 4, by hand.
 use Rattle.std.proofs.Common.{◌≡◌, ℕ, List, [], ◌∷◌, codes, refl, map}
 use Rattle.std.specs.Fmt.{digits}
-use Rattle.loc_spec_plane.specs.Points.{turn}
-use Rattle.loc_spec_plane.specs.Tables.{table_of, table_by}
+use Rattle.loc_spec_plane.specs.{Points.turn, Tables.table_of, Tables.table_by, Spans.met_at}
 use Rattle.loc_spec_plane.proofs.Rows.{square}
-use Rattle.loc_spec_text.specs.Number.{scaled, unit}
-use Rattle.loc_spec_plane.specs.Spans.{met_at}
-use Rattle.loc_spec_text.specs.Spans.{span_of, span_answer}
+use Rattle.loc_spec_text.specs.{Number.scaled, Number.unit, Spans.span_of, Spans.span_answer}
 
 -- the answer to a line, at scale 0 over the square
 abbrev answer : List ℕ → List ℕ

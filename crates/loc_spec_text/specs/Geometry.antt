@@ -7,11 +7,9 @@
 --   point, ring, polygon, Spells  how a tree is spelled
 --   IsTree                        the tree of a text
 use Rattle.std.specs.Prelude.{◌≡◌, ◌≢◌, ◌⊎◌, ℕ, Bool, ◌||◌, List, [], ◌∷◌, ◌++◌, map, codes, ◌==◌, if◌then◌else◌, true}
-use Rattle.std.specs.Char.{is_ascii_alphabetic}
-use Rattle.std.specs.List.{list_all, onto_first, AllByRecursion}
+use Rattle.std.specs.{Char.is_ascii_alphabetic, List.list_all, List.onto_first, List.AllByRecursion}
 use Rattle.std.specs.Str.{byte, bytes_eq}
-use Rattle.loc_spec_text.specs.Bytes.{is_white, capitals}
-use Rattle.loc_spec_text.specs.Number.{is_number}
+use Rattle.loc_spec_text.specs.{Bytes.is_white, Bytes.capitals, Number.is_number}
 
 -- what a text is made of: words in capitals, numbers, the three marks, and what is none of these
 pub data Symbol : Type 0 where

@@ -5,15 +5,10 @@
 --   Answer, face_number, answer_text, ended  an answer, and its line
 --   answer_to, output              the answers to the lines of a text
 use Rattle.std.specs.Prelude.{ℕ, zero, suc, ◌+◌, ◌/◌, ◌%◌, ◌^◌, Bool, ◌&&◌, List, [], ◌∷◌, ◌++◌, length, codes, nat_le, ◌==◌, if◌then◌else◌, ℤ, pos, unsigned_abs, int_lt, Option, Some, None, option_map, option_and_then, unwrap_or}
-use Rattle.std.specs.Fmt.{decimal}
-use Rattle.std.specs.List.{flat_map}
-use Rattle.std.specs.Str.{bytes_eq, byte}
-use Rattle.loc_spec_text.specs.Limits.{most_line}
-use Rattle.loc_spec_text.specs.Bytes.{lines}
-use Rattle.loc_spec_text.specs.Number.{is_on_grid, is_in_range}
+use Rattle.std.specs.{Fmt.decimal, List.flat_map, Str.bytes_eq, Str.byte}
+use Rattle.loc_spec_text.specs.{Limits.most_line, Bytes.lines, Number.is_on_grid, Number.is_in_range, Reading.position}
 use Rattle.loc_spec_text.specs.Geometry.{Symbol, word, number, open_mark, close_mark, symbols, PointText}
 use Rattle.loc_spec_plane.specs.Points.{Point}
-use Rattle.loc_spec_text.specs.Reading.{position}
 
 -- Two numbers, or the word POINT and two numbers in parentheses (OGC 06-103r4, 7.2.2, point text).
 abbrev pub point_texts : List Symbol → Option PointText

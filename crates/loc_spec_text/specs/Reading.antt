@@ -7,13 +7,11 @@
 --   reading_without, reading_of, reading  what a text reads as, computed
 --   OutsideGrammar, InWideGrammar, ReadsTree, Reads  the same by the grammar alone
 use Rattle.std.specs.Prelude.{◌≡◌, ◌⊎◌, ℕ, ◌||◌, not, List, [], ◌∷◌, map, length, codes, nat_lt, ◌==◌, if◌then◌else◌, Option, Some, None, Result, Err, MatchOption, slice_index_or}
-use Rattle.std.specs.List.{flat_map}
-use Rattle.std.specs.Str.{bytes_eq}
+use Rattle.std.specs.{List.flat_map, Str.bytes_eq}
 use Rattle.loc_spec_plane.specs.Points.{Point, same_point}
-use Rattle.loc_spec_text.specs.declared.TextFault.{TextFault}
+use Rattle.loc_spec_text.specs.{declared.TextFault.TextFault, Number.is_on_grid, Number.is_in_range, Number.grid_value}
 use Rattle.loc_spec_text.specs.declared.TextFault.TheVariants.{Syntax, Tag, Dimension, OffGrid, Range, RingShort, RingOpen}
 use Rattle.loc_spec_text.specs.Bytes.{first_word, after_word, first_fault, or_else, ok_unless, err_or}
-use Rattle.loc_spec_text.specs.Number.{is_on_grid, is_in_range, grid_value}
 use Rattle.loc_spec_text.specs.Geometry.{PointText, Polygon, Ring, WidePoint, numbers, wide_numbers, IsTree}
 use Rattle.loc_spec_text.specs.Reader.{geometry_of, wide_geometry_of}
 

@@ -1,16 +1,11 @@
 -- Worked rows: the first breach of small features, computed. The next and the face of each half-edge are listed where parts are counted; that the nexts are those of the
 -- polygon's table is checked.
 use Rattle.std.proofs.Common.{◌≡◌, ℕ, ◌<◌, Bool, true, false, List, [], ◌∷◌, refl, subst, get_or, length, arith}
-use Rattle.std.specs.Prelude.{codes, Some, None}
-use Rattle.std.specs.Fmt.{digits}
+use Rattle.std.specs.{Prelude.codes, Prelude.Some, Prelude.None, Fmt.digits}
 use Rattle.std.proofs.lemmas.Bool.{agree_below, agree_below_at, not_from_false}
 use Rattle.loc_spec_text.specs.Points.{ended}
-use Rattle.loc_spec_plane.specs.Points.{turn}
-use Rattle.loc_spec_plane.specs.Rings.{Rings}
-use Rattle.loc_spec_plane.specs.Tables.{Table, table_by}
-use Rattle.loc_spec_plane.specs.HalfEdges.{IsNextOfAll}
-use Rattle.loc_spec_plane.proofs.Rows.{at, rectangle}
-use Rattle.loc_spec_plane.proofs.RowsFaces.{next_by_check}
+use Rattle.loc_spec_plane.specs.{Points.turn, Rings.Rings, Tables.Table, Tables.table_by, HalfEdges.IsNextOfAll}
+use Rattle.loc_spec_plane.proofs.{Rows.at, Rows.rectangle, RowsFaces.next_by_check}
 use Rattle.loc_spec_valid.specs.Breaches.{point_ring, crossing, twice, pinch, outside, nested, parts, overlap, ring_table, polygon_table, is_crossing, HasNoCrossing, IsBreachOf}
 use Rattle.loc_spec_valid.specs.BreachTexts.{breach_line}
 

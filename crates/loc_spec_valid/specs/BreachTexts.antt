@@ -1,11 +1,9 @@
 -- The line of a feature: its id, and what breaks the rules first (this product's own). The words:
 --   edge_text, breach_text, breach_line  an edge, a breach and the line in print
 use Rattle.std.specs.Prelude.{ℕ, ◌++◌, Option, Some, None, codes}
-use Rattle.std.specs.Fmt.{decimal}
-use Rattle.std.specs.List.{flat_map}
+use Rattle.std.specs.{Fmt.decimal, List.flat_map}
 use Rattle.loc_spec_plane.specs.Points.{Edge}
-use Rattle.loc_spec_text.specs.Bytes.{Text}
-use Rattle.loc_spec_text.specs.Points.{ended, position_text, quoted_byte}
+use Rattle.loc_spec_text.specs.{Bytes.Text, Points.ended, Points.position_text, Points.quoted_byte}
 use Rattle.loc_spec_valid.specs.Breaches.{Breach, point_ring, crossing, twice, pinch, outside, nested, parts, overlap}
 
 -- the two ends of an edge

@@ -11,12 +11,9 @@ use Rattle.std.specs.List.{list_any, flat_map, range_with_len}
 use Rattle.loc_spec_text.specs.Bytes.{or_else}
 use Rattle.loc_spec_plane.specs.Lists.{numbers, is_in, odd_many}
 use Rattle.loc_spec_plane.specs.Points.{Point, Edge, same_edge, cross}
-use Rattle.loc_spec_plane.specs.Rings.{Rings, ring_segments, segments}
+use Rattle.loc_spec_plane.specs.{Rings.Rings, Rings.ring_segments, Rings.segments, Places.alive_at, Places.lower_of}
 use Rattle.loc_spec_plane.specs.Tables.{Table, corner, edge, edge_numbers, corner_numbers, has, ends_at, noded_table_of, cut_at}
-use Rattle.loc_spec_plane.specs.Places.{alive_at, lower_of}
-use Rattle.loc_spec_plane.specs.Covers.{cover_above}
-use Rattle.loc_spec_plane.specs.HalfEdges.{half_edge_count}
-use Rattle.loc_spec_plane.specs.Faces.{leads_face}
+use Rattle.loc_spec_plane.specs.{Covers.cover_above, HalfEdges.half_edge_count, Faces.leads_face}
 
 -- rings and polygons count from 1 through the feature
 pub data Breach : Type 0 where

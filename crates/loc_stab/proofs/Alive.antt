@@ -1,25 +1,14 @@
 -- What a walk from the place that was sought gives is what the span meets.
 use Rattle.std.proofs.Common.{◌≡◌, ℕ, List, length, sym, ◌∙◌, ap, arith}
-use Rattle.std.proofs.lemmas.Bool.{or_right}
-use Rattle.std.proofs.lemmas.List.{length-append}
-use Rattle.loc_pool.specs.declared.Link.{Link}
-use Rattle.loc_pool.specs.Maps.{Map}
-use Rattle.loc_pool.specs.Rows.{Row}
-use Rattle.loc_spec_plane.specs.Lists.{is_in}
-use Rattle.loc_spec_plane.specs.Points.{Point}
-use Rattle.loc_spec_plane.specs.Tables.{Table}
-use Rattle.loc_spec_plane.specs.Places.{IsListAt}
+use Rattle.std.proofs.{lemmas.Bool.or_right, lemmas.List.length-append}
+use Rattle.loc_pool.specs.{declared.Link.Link, Maps.Map, Rows.Row}
+use Rattle.loc_spec_plane.specs.{Lists.is_in, Points.Point, Tables.Table, Places.IsListAt, Spans.IsSpan}
 use Rattle.loc_place.specs.Planar.{IsPlanar}
 use Rattle.loc_place.proofs.Listed.{listed_few}
 use Rattle.loc_laws_order.proofs.AliveAt.{alive_parts}
-use Rattle.loc_spec_plane.specs.Spans.{IsSpan}
 use Rattle.loc_laws_stab.specs.Fronts.{passing_front}
-use Rattle.loc_laws_stab.proofs.Parted.{is_in-append}
-use Rattle.loc_laws_stab.proofs.RunOfRest.{reaches_up, run_of_rest}
-use Rattle.loc_laws_stab.proofs.Runs.{run_is_sorted}
-use Rattle.loc_stab.specs.Pending.{IsRest}
-use Rattle.loc_stab.specs.Runs.{run_at}
-use Rattle.loc_stab.specs.Sought.{IsSought}
+use Rattle.loc_laws_stab.proofs.{Parted.is_in-append, RunOfRest.reaches_up, RunOfRest.run_of_rest, Runs.run_is_sorted}
+use Rattle.loc_stab.specs.{Pending.IsRest, Runs.run_at, Sought.IsSought}
 
 module _ (t : Table) (low : Point) (version : ℕ) (rows : Map Row) (list : List ℕ) (nodes : List Link) (is_list : IsListAt t low list) (s : IsSought t low version rows list nodes) where
   -- what is pending are edges of the table

@@ -1,12 +1,9 @@
 -- Edges that are written by a range of numbers, and corner after corner.
 use Rattle.std.proofs.Common.{◌≡◌, ℕ, suc, ◌+◌, ◌-◌, ◌*◌, ◌^◌, ◌<◌, ◌≤◌, List, [], ◌++◌, length, refl, sym, ◌∙◌, ap, subst, arith, Result, Ok, Err, append-nil, append_assoc}
 use Rattle.std.specs.List.{flat_map, range_with_len}
-use Rattle.std.proofs.lemmas.List.{length-append}
-use Rattle.std.proofs.lemmas.List.Concat.{flat_map-append}
-use Rattle.std.proofs.lemmas.List.FromFn.{length-range_with_len}
-use Rattle.std.proofs.lemmas.Nat.{pow-add, mul-le}
-use Rattle.loc_io.specs.declared.sink.WriteFault.{WriteFault}
-use Rattle.loc_io.specs.Streams.{Stream, TakesAll}
+use Rattle.std.proofs.{lemmas.List.length-append, lemmas.List.Concat.flat_map-append}
+use Rattle.std.proofs.{lemmas.List.FromFn.length-range_with_len, lemmas.Nat.pow-add, lemmas.Nat.mul-le}
+use Rattle.loc_io.specs.{declared.sink.WriteFault.WriteFault, Streams.Stream, Streams.TakesAll}
 use Rattle.loc_page.specs.Puts.{IsSteady, Passes, PutsText}
 use Rattle.loc_page.proofs.Pages.{Goes, steady_none, steady_then, nothing_passes, passes-both, both, stop, put_same, whole_page, cut_page}
 use Rattle.loc_spec_plane.specs.Tables.{Table, IsTable}

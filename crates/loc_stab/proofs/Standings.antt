@@ -1,32 +1,23 @@
 -- Where the points of a span stand among the corners, and the three parts of the list of the edges met.
 use Rattle.std.proofs.Common.{◌≡◌, ℕ, ◌+◌, ◌<◌, ◌≤◌, true, List, [], ◌++◌, length, get_or, filter, refl, sym, ◌∙◌, ap, subst, arith, inl, inr}
-use Rattle.std.specs.Prelude.{nat_lt}
-use Rattle.std.specs.List.{flat_map}
+use Rattle.std.specs.{Prelude.nat_lt, List.flat_map}
 use Rattle.std.proofs.lemmas.Bool.{and_parts, ltb-true, lt-ltb, le-ltb, cases_lt, both_ways, true≢false}
-use Rattle.std.proofs.lemmas.List.{length-append}
-use Rattle.std.proofs.lemmas.List.Concat.{flat_map-append}
-use Rattle.loc_spec_plane.specs.Points.{Point, up_to, same_point}
+use Rattle.std.proofs.{lemmas.List.length-append, lemmas.List.Concat.flat_map-append}
+use Rattle.loc_spec_plane.specs.{Points.Point, Points.up_to, Points.same_point, Places.IsListAt, Places.is_corner_of}
 use Rattle.loc_spec_plane.specs.Tables.{Table, IsTable, corner, edge_numbers}
-use Rattle.loc_spec_plane.specs.Places.{IsListAt, is_corner_of}
 use Rattle.loc_place.specs.declared.corners.Standing.{Standing}
 use Rattle.loc_place.specs.declared.corners.Standing.TheVariants.{OnCorner, Behind}
 use Rattle.loc_place.specs.Standing.{IsBehind, IsStanding}
-use Rattle.loc_place.proofs.Behind.{is_passed}
-use Rattle.loc_place.proofs.Versions.{version_there}
-use Rattle.loc_laws_order.proofs.AliveAt.{IsPassed, at_corner}
-use Rattle.loc_laws_order.proofs.Sides.{same_point-true}
-use Rattle.loc_laws_order.proofs.Tests.{up_to_trans}
+use Rattle.loc_place.proofs.{Behind.is_passed, Versions.version_there}
+use Rattle.loc_laws_order.proofs.{AliveAt.IsPassed, AliveAt.at_corner, Sides.same_point-true, Tests.up_to_trans}
 use Rattle.loc_persist.specs.Meaning.{VersionsMeaning}
 use Rattle.loc_treeidx.specs.Standing.{AreVersionsOf}
 use Rattle.loc_spec_plane.specs.Spans.{IsSpan, met_at, ends_at_low, is_later}
 use Rattle.loc_spec_text.specs.Spans.{numbered}
-use Rattle.loc_laws_stab.proofs.Beginning.{begin_list}
-use Rattle.loc_laws_stab.proofs.Columns.{span_up}
-use Rattle.loc_laws_stab.proofs.MetLists.{later_list, ending_list, no_ending}
-use Rattle.loc_laws_stab.proofs.RunOfRest.{run_of_rest}
+use Rattle.loc_laws_stab.proofs.{Beginning.begin_list, Columns.span_up}
+use Rattle.loc_laws_stab.proofs.{MetLists.later_list, MetLists.ending_list, MetLists.no_ending, RunOfRest.run_of_rest}
 use Rattle.loc_laws_stab.proofs.Runs.{run_is_sorted}
-use Rattle.loc_stab.specs.Ended.{ended_at}
-use Rattle.loc_stab.specs.Runs.{run_at}
+use Rattle.loc_stab.specs.{Ended.ended_at, Runs.run_at}
 
 module _ (t : Table) (p : Point) where
   -- a point that is a corner

@@ -3,18 +3,12 @@ use Rattle.std.proofs.Common.{◌≡◌, ℕ, ◌+◌, ◌<◌, ◌≤◌, true,
 use Rattle.std.specs.Prelude.{◌==◌}
 use Rattle.std.specs.List.{flat_map}
 use Rattle.std.proofs.lemmas.Bool.{cond-true, cond-false, not_from_true, not_from_false, or_left, or_right, eq-eqb}
-use Rattle.std.proofs.lemmas.List.{length-append}
-use Rattle.std.proofs.lemmas.List.Concat.{flat_map-append}
-use Rattle.loc_io.specs.declared.sink.WriteFault.{WriteFault}
-use Rattle.loc_io.specs.Streams.{Stream}
+use Rattle.std.proofs.{lemmas.List.length-append, lemmas.List.Concat.flat_map-append}
+use Rattle.loc_io.specs.{declared.sink.WriteFault.WriteFault, Streams.Stream}
 use Rattle.loc_page.specs.Puts.{IsSteady, Passes, PutsText}
 use Rattle.loc_page.proofs.Pages.{steady_none, steady_then, nothing_passes, passes-both, both, stop, put_same}
-use Rattle.loc_pool.specs.declared.Link.{Link}
-use Rattle.loc_pool.specs.Maps.{Map}
-use Rattle.loc_pool.specs.Rows.{Row}
-use Rattle.loc_spec_plane.specs.Lists.{is_in}
-use Rattle.loc_spec_plane.specs.Points.{Point, is_below}
-use Rattle.loc_spec_plane.specs.Tables.{Table, edge}
+use Rattle.loc_pool.specs.{declared.Link.Link, Maps.Map, Rows.Row}
+use Rattle.loc_spec_plane.specs.{Lists.is_in, Points.Point, Points.is_below, Tables.Table, Tables.edge}
 use Rattle.loc_spec_text.specs.Spans.{numbered}
 use Rattle.loc_laws_stab.specs.Fronts.{passing_front}
 use Rattle.loc_laws_stab.proofs.RunOfRest.{reaches_up}

@@ -7,10 +7,9 @@ use Rattle.loc_spec_plane.specs.Points.{Point, Edge, turn, before, up_to, same_p
 use Rattle.loc_spec_plane.specs.Places.{alive, lower, neighbours_rise, is_chain}
 use Rattle.loc_edges.specs.Placing.{deciding_end}
 use Rattle.loc_laws_order.proofs.Forms.{side_of, Touch, Cross, Conflict, LiesInside}
-use Rattle.loc_laws_order.proofs.Pair.{side_lo}
+use Rattle.loc_laws_order.proofs.{Pair.side_lo, ChainLaws.chain_above}
 use Rattle.loc_laws_order.proofs.Sides.{before_decides, before_irrefl, before-differ, above_decides, below_decides, above-not_below, on-not_above, on-not_below, low_is_on, same_point-true, same_point_sym, same-from_neither, turn_swap, lower_common}
 use Rattle.loc_laws_order.proofs.Tests.{all-get, chain-is, conflict-is, is_above_decides, is_below_decides, lower_decides, same_point_decides}
-use Rattle.loc_laws_order.proofs.ChainLaws.{chain_above}
 use Rattle.loc_laws_order.proofs.ChainLaws as ChainLaws
 use Rattle.loc_status.specs.Targets.{begins_above}
 

@@ -6,8 +6,7 @@ use Rattle.std.proofs.lemmas.List.{drop_all}
 use Rattle.std.proofs.lemmas.Option.{slice_get-get_or, slice_get_within, slice_get_past}
 use Rattle.loc_spec_plane.specs.Lists.{is_in}
 use Rattle.loc_laws_order.specs.Laws.{later_or, last_that}
-use Rattle.loc_status.specs.Lists.{IsRemoved, IsNextBelow, IsNextAbove}
-use Rattle.loc_status.specs.Targets.{IsSearchEnd}
+use Rattle.loc_status.specs.{Lists.IsRemoved, Lists.IsNextBelow, Lists.IsNextAbove, Targets.IsSearchEnd}
 
 -- the test passes exactly the edges before the place
 pub record IsParted (passes : ℕ → Bool) (es : List ℕ) (place : ℕ) : Type 0 where

@@ -3,8 +3,7 @@ use Rattle.std.proofs.Common.{◌≡◌, ℕ, ◌-◌, ◌<◌, Bool, true, fals
 use Rattle.std.specs.Prelude.{◌+◌, IfSome}
 use Rattle.std.proofs.lemmas.List.{length-append, get_or_append_left, get_or-append-add}
 use Rattle.std.proofs.lemmas.Option.{slice_get-get_or}
-use Rattle.loc_status.specs.Lists.{IsLast}
-use Rattle.loc_status.specs.Targets.{IsSearchEnd}
+use Rattle.loc_status.specs.{Lists.IsLast, Targets.IsSearchEnd}
 use Rattle.loc_status.proofs.Ends.{at_seam}
 
 -- the last item of a list

@@ -14,9 +14,8 @@ use Rattle.loc_edges.specs.declared.ranks.Placing.{Placing}
 use Rattle.loc_edges.specs.declared.ranks.Placing.TheVariants.{Below, Above}
 use Rattle.loc_edges.specs.Placing.{IsPlacing, deciding_end}
 use Rattle.loc_edges.proofs.Hits.{above-misses, below-misses}
-use Rattle.loc_laws_order.proofs.ListLaws.{get-map}
+use Rattle.loc_laws_order.proofs.{ListLaws.get-map, Tests.alive_up}
 use Rattle.loc_laws_order.proofs.Sides.{before_irrefl, before_decides, above-not_below, above-not_low, lower-asym}
-use Rattle.loc_laws_order.proofs.Tests.{alive_up}
 use Rattle.loc_laws_order.proofs.TableOrder.{corner_before, corner_up_to, same_corner}
 use Rattle.loc_laws_order.proofs.ChainLaws.{chain_above}
 use Rattle.loc_status.specs.declared.targets.Target.TheVariants.{Begin, End, Corner}

@@ -2,8 +2,7 @@
 -- `IsPlaceFor`; and the last of a list: `IsLast`.
 use Rattle.std.specs.Prelude.{◌≡◌, ℕ, ◌-◌, ◌<◌, ◌≤◌, Bool, List, [], ◌∷◌, ◌++◌, length, map, take, drop, Option, None, Some, slice_get}
 use Rattle.std.specs.List.{All}
-use Rattle.loc_spec_plane.specs.Tables.{Table, corner, edge}
-use Rattle.loc_spec_plane.specs.Places.{is_chain}
+use Rattle.loc_spec_plane.specs.{Tables.Table, Tables.corner, Tables.edge, Places.is_chain}
 use Rattle.loc_edges.specs.declared.ranks.Placing.TheVariants.{Below, Above}
 use Rattle.loc_edges.specs.Placing.{IsPlacing}
 use Rattle.loc_status.specs.declared.status.Beside.{Beside}

@@ -1,7 +1,6 @@
 -- What a status means, and what each of its calls does to that: `Inserts`, `Removes` and `Seals`.
 use Rattle.std.specs.Prelude.{◌≡◌, ℕ, ◌+◌, max, Bool, true, false, List, [], ◌∷◌, ◌++◌, Option, IfSome, option_map, IsTrue}
-use Rattle.loc_spec_plane.specs.Lists.{is_in}
-use Rattle.loc_spec_plane.specs.Tables.{Table, edge}
+use Rattle.loc_spec_plane.specs.{Lists.is_in, Tables.Table, Tables.edge}
 use Rattle.loc_edges.specs.Placing.{hits}
 use Rattle.loc_status.specs.declared.status.InsertFault.{InsertFault}
 use Rattle.loc_status.specs.declared.status.InsertFault.TheVariants.{Hits, NoMemory}

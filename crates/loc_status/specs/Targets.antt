@@ -1,8 +1,7 @@
 -- What is looked for in a list of edges, and where a search ends. The words: `IsTarget`, `begins_above`, `is_passed`, `IsSearchEnd`.
 use Rattle.std.specs.Prelude.{◌≡◌, ℕ, ◌-◌, ◌<◌, ◌≤◌, Bool, true, false, List, length, if◌then◌else◌, ◌==◌, slice_index}
-use Rattle.loc_spec_plane.specs.Points.{Edge, is_above}
+use Rattle.loc_spec_plane.specs.{Points.Edge, Points.is_above, Places.lower_of}
 use Rattle.loc_spec_plane.specs.Tables.{Table, corner, edge, hi_of}
-use Rattle.loc_spec_plane.specs.Places.{lower_of}
 use Rattle.loc_edges.specs.Placing.{deciding_end}
 use Rattle.loc_status.specs.declared.targets.Target.{Target}
 use Rattle.loc_status.specs.declared.targets.Target.TheVariants.{Begin, End, Corner}

@@ -7,27 +7,19 @@ use Rattle.std.proofs.lemmas.Bool.{and_parts, both_ways, cond-false, lt-ltb, ltb
 use Rattle.std.proofs.lemmas.List.{length-append, get_or_append_left, get_or-append-add}
 use Rattle.std.proofs.lemmas.List.Elements.{All-cons, All-from_get_or, All-get_or, All-head, All-tail}
 use Rattle.std.proofs.lemmas.Option.{slice_get-get_or}
-use Rattle.loc_spec_plane.specs.Lists.{is_in}
-use Rattle.loc_spec_plane.specs.Points.{is_above, is_below}
+use Rattle.loc_spec_plane.specs.{Lists.is_in, Points.is_above, Points.is_below, Places.is_edge, Places.lower_of}
 use Rattle.loc_spec_plane.specs.Tables.{Table, IsTable, corner, edge, lo_of, hi_of}
-use Rattle.loc_spec_plane.specs.Places.{is_edge, lower_of}
 use Rattle.loc_laws_order.specs.Laws.{later_or, last_that}
-use Rattle.loc_laws_order.proofs.ListLaws.{is_in-get}
-use Rattle.loc_laws_order.proofs.Sides.{on-not_above, low_is_on}
+use Rattle.loc_laws_order.proofs.{ListLaws.is_in-get, Sides.on-not_above, Sides.low_is_on}
 use Rattle.loc_edges.specs.declared.ranks.Placing.TheVariants.{Below, Above}
 use Rattle.loc_edges.specs.Placing.{IsPlacing, deciding_end}
-use Rattle.loc_status.specs.declared.status.Beside.{Beside}
-use Rattle.loc_status.specs.declared.targets.Target.TheVariants.{End}
+use Rattle.loc_status.specs.{declared.status.Beside.Beside, declared.targets.Target.TheVariants.End}
 use Rattle.loc_status.specs.Lists.{is_chain_at, IsBeside, IsInserted, IsRemoved}
-use Rattle.loc_status.specs.Meaning.{StatusMeaning}
-use Rattle.loc_status.specs.Targets.{is_passed}
-use Rattle.loc_status.proofs.Beginning.{below-not_above}
-use Rattle.loc_status.proofs.Ends.{at_seam}
+use Rattle.loc_status.specs.{Meaning.StatusMeaning, Targets.is_passed}
+use Rattle.loc_status.proofs.{Beginning.below-not_above, Ends.at_seam}
 use Rattle.loc_status.proofs.Standing.{lower_end_decides, parted_by_end}
-use Rattle.loc_sweep.specs.Course.{LiesAbove}
-use Rattle.loc_sweep.specs.Line.{goes_past}
-use Rattle.loc_sweep.proofs.EdgesComing.{IsComing}
-use Rattle.loc_sweep.proofs.Chains.{below_is, nowhere, stands_once}
+use Rattle.loc_sweep.specs.{Course.LiesAbove, Line.goes_past}
+use Rattle.loc_sweep.proofs.{EdgesComing.IsComing, Chains.below_is, Chains.nowhere, Chains.stands_once}
 
 -- ---- the last that passes, in a list in two parts
 -- none does

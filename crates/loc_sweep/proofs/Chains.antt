@@ -5,26 +5,21 @@ use Rattle.std.specs.List.{All, list_all, last_or}
 use Rattle.std.proofs.lemmas.Bool.{and_parts, and_from, or_parts, or_left, or_right, both_ways, cases_Bool, cond-true, cond-false, eq-eqb, eqb-true, not-true, not_from_false, false_from_ne_true}
 use Rattle.std.proofs.lemmas.List.{append_assoc, get_or_append_left, get_or-append-add, length-append, map-append}
 use Rattle.std.proofs.lemmas.List.Elements.{All-append, All-cons, All-from_get_or, All-get_or, All-same}
-use Rattle.std.proofs.Math.Seq.{get_or-append_seam}
-use Rattle.std.proofs.lemmas.Option.{slice_get_within, get_or_from_slice_get}
+use Rattle.std.proofs.{Math.Seq.get_or-append_seam, lemmas.Option.slice_get_within, lemmas.Option.get_or_from_slice_get}
 use Rattle.std.proofs.lemmas.List.Folds.{list_all-append, list_any-append}
 use Rattle.loc_spec_plane.specs.Lists.{is_in}
 use Rattle.loc_spec_plane.specs.Points.{Point, Edge, before, up_to, same_point, same_edge, is_below, conflict}
 use Rattle.loc_spec_plane.specs.Tables.{Table, IsTable, corner, edge, lo_of}
 use Rattle.loc_spec_plane.specs.Places.{alive, lower, neighbours_rise, is_chain}
-use Rattle.loc_laws_order.proofs.Sets.{number_swap}
+use Rattle.loc_laws_order.proofs.{Sets.number_swap, Tests.same_edge_decides, TableOrder.edge_up, ListLaws.get-map}
 use Rattle.loc_laws_order.proofs.Sides.{before_either, same_point_sym, before_irrefl, same_point-true, lower_common}
-use Rattle.loc_laws_order.proofs.Tests.{same_edge_decides}
-use Rattle.loc_laws_order.proofs.TableOrder.{edge_up}
-use Rattle.loc_laws_order.proofs.ListLaws.{get-map}
 use Rattle.loc_laws_order.proofs.ChainLaws.{chain_differ, chain_lower}
 use Rattle.loc_status.specs.declared.status.Beside.{Beside}
 use Rattle.loc_status.specs.Lists.{is_chain_at, GoesAbove, GoesBelow, IsBeside, IsInserted, IsRemoved, IsNextBelow, IsNextAbove}
 use Rattle.loc_edges.specs.declared.ranks.Placing.TheVariants.{Below, Above}
 use Rattle.loc_edges.specs.Placing.{IsPlacing}
-use Rattle.loc_status.proofs.Ends.{at_seam, member_place}
+use Rattle.loc_status.proofs.{Ends.at_seam, Ends.member_place, Standing.chain_in_range}
 use Rattle.loc_status.proofs.Beginning.{common_end, other_end, lower_is, below_to_above, chain_alive}
-use Rattle.loc_status.proofs.Standing.{chain_in_range}
 use Rattle.loc_sweep.specs.Line.{AreApart, IsInRange}
 
 -- ---- a list in two parts

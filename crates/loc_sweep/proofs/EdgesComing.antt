@@ -4,24 +4,18 @@ use Rattle.std.specs.Prelude.{nat_lt, ◌==◌}
 use Rattle.std.proofs.lemmas.Bool.{and_from, and_parts, and_left, and_right, or_from, both_ways, cases_lt, cases_order, eq-eqb, ne_eqb, false_from_ne_true, le-ltb, lt-ltb, ltb-true, not_from_false, not-true}
 use Rattle.std.proofs.lemmas.List.Elements.{All-get_or}
 use Rattle.std.proofs.lemmas.Option.{slice_get_within, get_or_from_slice_get}
-use Rattle.loc_spec_plane.specs.Points.{touch}
-use Rattle.loc_spec_plane.specs.Lists.{is_in}
+use Rattle.loc_spec_plane.specs.{Points.touch, Lists.is_in, Places.alive_at, Places.is_edge}
 use Rattle.loc_spec_plane.specs.Tables.{Table, IsTable, corner, edge, lo_of, hi_of}
-use Rattle.loc_spec_plane.specs.Places.{alive_at, is_edge}
-use Rattle.loc_laws_order.proofs.Booleans.{or_none}
-use Rattle.loc_laws_order.proofs.TableOrder.{edge_up, different, lo_rises}
+use Rattle.loc_laws_order.proofs.{Booleans.or_none, TableOrder.edge_up, TableOrder.different, TableOrder.lo_rises}
 use Rattle.loc_edges.specs.Ending.{IsBeginning}
 use Rattle.loc_edges.proofs.Hits.{hits-touch}
-use Rattle.loc_status.specs.Lists.{is_chain_at}
+use Rattle.loc_status.specs.{Lists.is_chain_at, declared.status.InsertFault.InsertFault}
 use Rattle.loc_status.specs.Meaning.{StatusMeaning, KeepsSealed, Inserts, IsCause}
-use Rattle.loc_status.specs.declared.status.InsertFault.{InsertFault}
 use Rattle.loc_status.specs.declared.status.InsertFault.TheVariants.{Hits}
-use Rattle.loc_status.proofs.Ends.{member_place}
-use Rattle.loc_status.proofs.Standing.{chain_in_range}
+use Rattle.loc_status.proofs.{Ends.member_place, Standing.chain_in_range}
 use Rattle.loc_sweep.specs.Course.{Comes}
 use Rattle.loc_sweep.specs.Line.{IsBegun, IsChainOf, IsWith, goes_past, reaches}
-use Rattle.loc_sweep.proofs.Chains.{inserted_length}
-use Rattle.loc_sweep.proofs.Whole.{reaches_next}
+use Rattle.loc_sweep.proofs.{Chains.inserted_length, Whole.reaches_next}
 
 -- ---- one edge
 -- an edge that a new one hits is one of the table, and the two touch

@@ -4,17 +4,11 @@ use Rattle.std.specs.Prelude.{nat_lt, ◌==◌}
 use Rattle.std.specs.List.{list_all, range_with_len}
 use Rattle.std.proofs.lemmas.Option.{slice_get-get_or}
 use Rattle.std.proofs.lemmas.Bool.{and_from, and_parts, or_from, or_left, or_right, both_ways, cases_Bool, cases_lt, cases_order, cond-true, cond-false, eq-eqb, eqb-true, ne_eqb, le-ltb, lt-ltb, ltb-true, not_from_false, not-true}
-use Rattle.loc_spec_plane.specs.Points.{Edge}
-use Rattle.loc_spec_plane.specs.Lists.{is_in}
+use Rattle.loc_spec_plane.specs.{Points.Edge, Lists.is_in, Places.alive, Places.is_edge, Places.neighbours_rise}
 use Rattle.loc_spec_plane.specs.Tables.{Table, IsTable, corner, edge, lo_of, hi_of, edge_numbers}
-use Rattle.loc_spec_plane.specs.Places.{alive, is_edge, neighbours_rise}
-use Rattle.loc_laws_order.proofs.ListLaws.{is_in-get}
-use Rattle.loc_laws_order.proofs.AliveAt.{alive_between}
-use Rattle.loc_laws_order.proofs.Kept.{is_in-filter, is_in-range}
-use Rattle.loc_laws_order.proofs.Sets.{number_swap}
-use Rattle.loc_laws_order.proofs.Booleans.{or_assoc, or_none}
-use Rattle.loc_status.specs.Lists.{is_chain_at}
-use Rattle.loc_status.specs.Meaning.{StatusMeaning, KeepsSealed, Removes}
+use Rattle.loc_laws_order.proofs.{ListLaws.is_in-get, AliveAt.alive_between, Kept.is_in-filter, Kept.is_in-range}
+use Rattle.loc_laws_order.proofs.{Sets.number_swap, Booleans.or_assoc, Booleans.or_none}
+use Rattle.loc_status.specs.{Lists.is_chain_at, Meaning.StatusMeaning, Meaning.KeepsSealed, Meaning.Removes}
 use Rattle.loc_sweep.specs.Course.{Leaves}
 use Rattle.loc_sweep.specs.Line.{IsWithout, reaches, goes_past, ending_at}
 use Rattle.loc_sweep.proofs.Chains.{removed_length}

@@ -3,11 +3,9 @@ use Rattle.std.proofs.Common.{◌≡◌, ℕ, Bool, true, ◌&&◌, List, [], �
 use Rattle.std.specs.Prelude.{Option, Some, None, ◌==◌}
 use Rattle.std.specs.List.{list_all}
 use Rattle.std.proofs.lemmas.Bool.{and_parts, and_from, or_cases, eqb-true, not_from_false, false_from_ne_true}
-use Rattle.loc_spec_plane.specs.Lists.{is_in, is_rising}
-use Rattle.loc_spec_plane.specs.Tables.{Table, edge}
+use Rattle.loc_spec_plane.specs.{Lists.is_in, Lists.is_rising, Tables.Table, Tables.edge}
 use Rattle.loc_spec_plane.specs.Places.{alive_at, lower_of, IsListAt, IsJustBelow}
-use Rattle.loc_laws_order.proofs.Sides.{lower-asym}
-use Rattle.loc_laws_order.proofs.Unique.{all-at}
+use Rattle.loc_laws_order.proofs.{Sides.lower-asym, Unique.all-at}
 use Rattle.loc_status.specs.Lists.{IsNextBelow}
 use Rattle.loc_sweep.proofs.Chains.{in_between}
 

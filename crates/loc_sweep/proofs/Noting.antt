@@ -2,8 +2,7 @@
 use Rattle.std.proofs.Common.{◌≡◌, ℕ, ◌+◌, ◌<◌, ◌≤◌, false, List, [], ◌∷◌, ◌++◌, length, get_or, set, refl, sym, ◌∙◌, ap, ap₂, subst, ◌⊎◌, inl, inr, arith, Option, Some, None, slice_get}
 use Rattle.std.proofs.lemmas.Bool.{cases_eq}
 use Rattle.std.proofs.lemmas.List.{get_or-set_same, get_or-set_other, length-set}
-use Rattle.loc_spec_plane.specs.Lists.{is_in}
-use Rattle.loc_spec_plane.specs.Tables.{Table, lo_of}
+use Rattle.loc_spec_plane.specs.{Lists.is_in, Tables.Table, Tables.lo_of}
 use Rattle.loc_edges.specs.Ending.{IsBeginning}
 use Rattle.loc_status.specs.declared.status.Beside.{Beside}
 use Rattle.loc_status.specs.Lists.{IsBeside, IsInserted, IsNextAbove, IsNextBelow}

@@ -2,10 +2,8 @@
 use Rattle.std.proofs.Common.{◌≡◌, ℕ, ◌<◌, ◌≤◌, true, false, not, length, refl, sym, ◌∙◌, ap, subst, ◌⊎◌, inl, inr, arith}
 use Rattle.std.specs.Prelude.{min, max}
 use Rattle.std.proofs.lemmas.Bool.{both_ways, cases_eq, cases_lt}
-use Rattle.loc_spec_plane.specs.Points.{Edge, touch, conflict}
-use Rattle.loc_spec_plane.specs.Tables.{Table, edge}
-use Rattle.loc_geom.specs.Answers.{IsMeeting}
-use Rattle.loc_geom.specs.declared.kinds.Meeting.{Meeting}
+use Rattle.loc_spec_plane.specs.{Points.Edge, Points.touch, Points.conflict, Tables.Table, Tables.edge}
+use Rattle.loc_geom.specs.{Answers.IsMeeting, declared.kinds.Meeting.Meeting}
 use Rattle.loc_geom.specs.declared.kinds.Meeting.TheVariants.{Apart, Touch, Cross}
 use Rattle.loc_laws_order.proofs.Tests.{conflict_none, conflict_swap, touch-conflict, touch_swap}
 use Rattle.loc_sweep.specs.Swept.{AreInConflict}

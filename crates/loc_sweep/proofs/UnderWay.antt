@@ -1,15 +1,13 @@
 -- A sweep on its way: what holds before each corner.
 use Rattle.std.proofs.Common.{◌≡◌, ℕ, ◌+◌, ◌<◌, List, [], ◌∷◌, ◌++◌, length, refl, sym, ◌∙◌, ap, subst, arith, Option}
 use Rattle.std.specs.Prelude.{IfSome}
-use Rattle.loc_spec_plane.specs.Points.{is_above}
+use Rattle.loc_spec_plane.specs.{Points.is_above, Places.alive_at}
 use Rattle.loc_spec_plane.specs.Tables.{Table, IsTable, NoConflict, corner, edge}
-use Rattle.loc_spec_plane.specs.Places.{alive_at}
 use Rattle.loc_laws_order.specs.Laws.{last_that}
 use Rattle.loc_status.specs.Meaning.{StatusMeaning, IsFresh, Seals}
 use Rattle.loc_sweep.specs.Course.{IsBefore, Leaves, Comes, AreNextBelow, IsNoted, HasSealed}
-use Rattle.loc_sweep.specs.Line.{IsBegun, IsChainOf}
+use Rattle.loc_sweep.specs.{Line.IsBegun, Line.IsChainOf, Swept.IsSwept}
 use Rattle.loc_edges.specs.Floors.{AreFloors}
-use Rattle.loc_sweep.specs.Swept.{IsSwept}
 use Rattle.loc_sweep.proofs.Whole.{are_floors, before_first, before_next, is_swept, no_conflict, noted_more, noted_none, sealed_more}
 
 -- before corner c: the status, the lists at the corners so far, and what was noted of them

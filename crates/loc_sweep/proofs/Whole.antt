@@ -4,21 +4,16 @@ use Rattle.std.specs.Prelude.{Option, Some, None, IfSome, ◌==◌, nat_lt}
 use Rattle.std.proofs.lemmas.Bool.{cases_eq, cases_lt, and_left, and_right, or_left, true≢false, not_from_true, eq-eqb, lt-ltb, le-ltb}
 use Rattle.std.proofs.lemmas.List.{length_push, get_or_push, get_or_append_left}
 use Rattle.std.proofs.lemmas.Option.{IfSome_then}
-use Rattle.loc_spec_plane.specs.Lists.{is_in}
-use Rattle.loc_spec_plane.specs.Points.{before, is_above}
+use Rattle.loc_spec_plane.specs.{Lists.is_in, Points.before, Points.is_above}
 use Rattle.loc_spec_plane.specs.Tables.{Table, IsTable, NoConflict, corner, edge, lo_of, hi_of}
 use Rattle.loc_spec_plane.specs.Places.{alive_at, is_edge, IsFloor}
 use Rattle.loc_laws_order.specs.Laws.{last_that}
-use Rattle.loc_laws_order.proofs.Floors.{floor_of_list}
-use Rattle.loc_laws_order.proofs.ListLaws.{list_from_chain}
-use Rattle.loc_laws_order.proofs.SweepLaw.{sweep_law}
-use Rattle.loc_status.specs.Lists.{IsNextBelow}
-use Rattle.loc_status.specs.Meaning.{StatusMeaning, IsFresh, Seals}
+use Rattle.loc_laws_order.proofs.{Floors.floor_of_list, ListLaws.list_from_chain, SweepLaw.sweep_law}
+use Rattle.loc_status.specs.{Lists.IsNextBelow, Meaning.StatusMeaning, Meaning.IsFresh, Meaning.Seals}
 use Rattle.loc_sweep.specs.Course.{AreNextBelow, IsBefore, IsNoted, HasSealed}
-use Rattle.loc_sweep.specs.Line.{IsChainOf, IsBegun, reaches}
+use Rattle.loc_sweep.specs.{Line.IsChainOf, Line.IsBegun, Line.reaches, Swept.IsSwept}
 use Rattle.loc_edges.specs.Floors.{AreFloors}
 use Rattle.loc_status.specs.Versions.{AreVersions}
-use Rattle.loc_sweep.specs.Swept.{IsSwept}
 use Rattle.loc_status.proofs.AtCorner.{alive_at_corner}
 use Rattle.loc_sweep.proofs.JustBelow.{just_below}
 

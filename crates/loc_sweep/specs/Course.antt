@@ -1,12 +1,10 @@
 -- How far a sweep has come: what its status means between two corners, and what it has noted. The words: `IsBefore`, `Leaves`, `Comes`, `AreNextBelow`,
 -- `LiesAbove`, `IsNoted`, `HasSealed`.
 use Rattle.std.specs.Prelude.{◌≡◌, ◌≢◌, ℕ, ◌+◌, ◌-◌, ◌<◌, ◌≤◌, false, List, [], length, get_or, Option, None, IfSome}
-use Rattle.loc_spec_plane.specs.Points.{is_above}
+use Rattle.loc_spec_plane.specs.{Points.is_above, Places.alive_at}
 use Rattle.loc_spec_plane.specs.Tables.{Table, corner, edge, lo_of}
-use Rattle.loc_spec_plane.specs.Places.{alive_at}
 use Rattle.loc_laws_order.specs.Laws.{last_that}
-use Rattle.loc_status.specs.declared.status.Beside.{Beside}
-use Rattle.loc_status.specs.Lists.{IsNextBelow}
+use Rattle.loc_status.specs.{declared.status.Beside.Beside, Lists.IsNextBelow}
 use Rattle.loc_status.specs.Meaning.{StatusMeaning, KeepsSealed}
 use Rattle.loc_sweep.specs.Line.{IsChainOf, IsBegun, reaches, goes_past}
 

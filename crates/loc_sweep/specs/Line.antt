@@ -1,9 +1,7 @@
 -- The list of edges that the line of a sweep meets at a corner, and on both sides of it: `IsChainOf`.
 use Rattle.std.specs.Prelude.{◌≡◌, ℕ, ◌<◌, ◌≤◌, ◌==◌, ◌↔◌, Bool, not, ◌&&◌, ◌||◌, List, length, filter, Option, Some, None, IsTrue, nat_lt}
-use Rattle.loc_spec_plane.specs.Points.{conflict}
-use Rattle.loc_spec_plane.specs.Lists.{is_in}
+use Rattle.loc_spec_plane.specs.{Points.conflict, Lists.is_in, Places.is_edge}
 use Rattle.loc_spec_plane.specs.Tables.{Table, edge, lo_of, hi_of, edge_numbers}
-use Rattle.loc_spec_plane.specs.Places.{is_edge}
 use Rattle.loc_status.specs.Lists.{is_chain_at}
 
 -- the list is a chain at corner c, of exactly the edges that pass the test

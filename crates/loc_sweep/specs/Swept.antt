@@ -1,11 +1,8 @@
 -- What a sweep over a table leaves, and what it shows where it stops: `IsSwept` and `IsShown`.
 use Rattle.std.specs.Prelude.{◌≡◌, ℕ, ◌<◌, ◌≤◌, false, length, IfSome, IsTrue}
-use Rattle.loc_spec_plane.specs.Points.{conflict}
-use Rattle.loc_spec_plane.specs.Tables.{Table, edge}
-use Rattle.loc_geom.specs.declared.kinds.Meeting.{Meeting}
-use Rattle.loc_geom.specs.Answers.{IsMeeting}
-use Rattle.loc_status.specs.Meaning.{StatusMeaning}
-use Rattle.loc_status.specs.Versions.{AreVersions}
+use Rattle.loc_spec_plane.specs.{Points.conflict, Tables.Table, Tables.edge}
+use Rattle.loc_geom.specs.{declared.kinds.Meeting.Meeting, Answers.IsMeeting}
+use Rattle.loc_status.specs.{Meaning.StatusMeaning, Versions.AreVersions}
 use Rattle.loc_sweep.specs.declared.fault.SweepFault.{SweepFault}
 use Rattle.loc_sweep.specs.declared.fault.SweepFault.TheVariants.{Conflict, NoMemory}
 

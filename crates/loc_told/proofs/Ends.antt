@@ -1,11 +1,9 @@
 -- How a command ends that makes no file, by what its told files come to.
 use Rattle.std.proofs.Common.{◌≡◌, ℕ, Bool, Option, None, sym, subst, inl, inr}
-use Rattle.std.specs.Prelude.{IsTrue}
-use Rattle.std.specs.Io.KnownBytes.{Appends}
+use Rattle.std.specs.{Prelude.IsTrue, Io.KnownBytes.Appends}
 use Rattle.loc_io.specs.Streams.{Stream}
 use Rattle.loc_spec_text.specs.Bytes.{Text}
-use Rattle.loc_course.specs.Courses.{Course}
-use Rattle.loc_course.specs.Moments.{Moment}
+use Rattle.loc_course.specs.{Courses.Course, Moments.Moment}
 use Rattle.loc_course.specs.Outcomes.{Outcome, refusal, output, partly, exactly, outcome}
 use Rattle.loc_course.specs.Sentences.{EndsSo, IsDoing, MakesNone, NoneFailed, OutSo, Sentences, Steady, Wrote}
 use Rattle.loc_course.proofs.Told.{it_exactly}

@@ -6,8 +6,7 @@ use Rattle.std.specs.Prelude.{◌≡◌, ◌⊎◌, ℕ}
 use Rattle.std.specs.Io.KnownBytes.{Appends}
 use Rattle.loc_io.specs.Streams.{Stream}
 use Rattle.loc_spec_text.specs.Bytes.{Text}
-use Rattle.loc_course.specs.Moments.{Moment}
-use Rattle.loc_course.specs.Sentences.{Wrote}
+use Rattle.loc_course.specs.{Moments.Moment, Sentences.Wrote}
 
 -- this, or memory was wanting: the status is 5 then, and nothing is on out
 abbrev pub OrMemory : Moment → Moment → ℕ → Type 0 → Type 0

@@ -2,19 +2,14 @@
 use Rattle.std.proofs.Common.{◌≡◌, ◌≢◌, ◌⊎◌, ℕ, ◌≤◌, ap, Option, Some, None, refl, sym, ◌∙◌, subst, inl, inr, arith}
 use Rattle.std.specs.Prelude.{IfSome, option_and_then, option_map}
 use Rattle.loc_spec_text.specs.Bytes.{Text}
-use Rattle.loc_io.specs.Meaning.{KeepsFiles, Meaning}
-use Rattle.loc_io.specs.Streams.{InTime, Stream}
+use Rattle.loc_io.specs.{Meaning.KeepsFiles, Meaning.Meaning, Streams.InTime, Streams.Stream}
 use Rattle.loc_words.specs.Words.{Asked, query, features, check, build, ask, verify, face, gen, trial, upgrade, edges, stab, valid, dissolve}
-use Rattle.loc_course.specs.Courses.{Course, no_memory}
-use Rattle.loc_course.specs.Following.{lacks}
-use Rattle.loc_course.specs.Moments.{Moment}
+use Rattle.loc_course.specs.{Courses.Course, Courses.no_memory, Following.lacks, Moments.Moment}
 use Rattle.loc_course.specs.Sentences.{Ended, InTimes, IsPlain, MakesNone, MayMake, MayRefuseBehind, NoCountRose, Notes, ReadsFail, Sentences, Wrote, note_of}
-use Rattle.loc_course.proofs.Plain.{none_behind}
-use Rattle.loc_course.proofs.Statuses.{ended_so, in_range, never_two}
+use Rattle.loc_course.proofs.{Plain.none_behind, Statuses.ended_so, Statuses.in_range, Statuses.never_two}
 use Rattle.loc_indexed.specs.Building.{build_course, is_index_text}
 use Rattle.loc_indexed.proofs.Behind.{ask_makes_none, ask_refuses_behind}
-use Rattle.loc_indexed.proofs.MadeCourses.{makes_one, writes_at_once}
-use Rattle.loc_indexed.proofs.VerifyRows.{verify_plain}
+use Rattle.loc_indexed.proofs.{MadeCourses.makes_one, MadeCourses.writes_at_once, VerifyRows.verify_plain}
 use Rattle.loc_maps.proofs.Checked.{check_plain}
 use Rattle.loc_query.proofs.Headlines.{query_makes_none, query_refuses_behind}
 use Rattle.loc_features.proofs.Ended.{features_makes_none, features_refuses_behind}

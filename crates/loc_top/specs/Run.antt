@@ -4,28 +4,22 @@
 --   made_by               the file that a command makes
 --   BesideCourse          what holds of the files of a command beside its course
 --   Untouched, Ran        what a run of words comes to
+--   Leaves                what a run leaves, by its arguments
 --   RefusesWords          words that are no command
 --   OutOf                 what stands on out
 --   AWriteFailed, WritesFail  when a write failed
 --   FilesOf               which files change
 --   OfCourse, RunSentences  what holds of the course of the words, and all that holds of a run by its words
 use Rattle.std.specs.Prelude.{◌≡◌, ◌≢◌, ◌⊎◌, ℕ, ◌-◌, ◌^◌, ◌<◌, ⊤, true, List, Option, Some, None, IfSome, option_and_then, option_map, codes}
-use Rattle.loc_spec_text.specs.Bytes.{Text}
-use Rattle.loc_io.specs.Meaning.{KeepsFiles, Meaning}
-use Rattle.loc_io.specs.Streams.{InTime, Stream}
-use Rattle.loc_spec_text.specs.Points.{ended}
+use Rattle.loc_spec_text.specs.{Bytes.Text, Points.ended}
+use Rattle.loc_io.specs.{Meaning.KeepsFiles, Meaning.Meaning, Streams.InTime, Streams.Stream}
 use Rattle.loc_words.specs.Usage.{usage_text}
 use Rattle.loc_words.specs.Words.{Asked, AskedLayer, query, features, check, build, ask, verify, face, gen, trial, upgrade, edges, stab, valid, dissolve, command_of}
-use Rattle.loc_course.specs.Courses.{Course, no_memory}
-use Rattle.loc_course.specs.Following.{IsToldAtMost}
-use Rattle.loc_course.specs.Moments.{Moment}
-use Rattle.loc_course.specs.Outcomes.{outcome}
+use Rattle.loc_course.specs.{Courses.Course, Courses.no_memory, Following.IsToldAtMost, Moments.Moment}
+use Rattle.loc_course.specs.{Outcomes.outcome, Runs.Argument, Runs.over}
 use Rattle.loc_course.specs.Sentences.{AtOnce, Counts, Done, Ended, InTimes, Misses, Names, NoCountRose, Notes, OutSo, ReadsFail, RefusedOnly, Refuses, RefusesPartly, Succeeds, Wrote, note_of}
 use Rattle.loc_answering.specs.ByLine.{deep_text}
-use Rattle.loc_indexed.specs.Building.{build_course}
-use Rattle.loc_indexed.specs.Builds.{Built}
-use Rattle.loc_indexed.specs.IndexedCourses.{ask_course}
-use Rattle.loc_indexed.specs.Verifies.{Judged}
+use Rattle.loc_indexed.specs.{Building.build_course, Builds.Built, IndexedCourses.ask_course, Verifies.Judged}
 use Rattle.loc_indexed.specs.Verifying.{verify_course}
 use Rattle.loc_maps.specs.MapCourses.{LayerFile, check_course, layer_file}
 use Rattle.loc_query.specs.QueryCourses.{query_course}
@@ -35,8 +29,7 @@ use Rattle.loc_breaches.specs.BreachCourses.{valid_course}
 use Rattle.loc_groups.specs.GroupCourses.{dissolve_course}
 use Rattle.loc_reach.specs.SpanCourses.{stab_course}
 use Rattle.loc_trial.specs.TrialCourses.{gen_course, trial_course}
-use Rattle.loc_upgrade.specs.TellsEdges.{Listed}
-use Rattle.loc_upgrade.specs.UpgradeCourses.{edges_course, upgrade_course}
+use Rattle.loc_upgrade.specs.{TellsEdges.Listed, UpgradeCourses.edges_course, UpgradeCourses.upgrade_course}
 use Rattle.loc_upgrade.specs.Upgrades.{Upgraded}
 
 -- the file of a layer that a command names
@@ -87,6 +80,10 @@ pub record Untouched (old new : Moment) (n n' : Stream) (status : ℕ) : Type 0 
 abbrev pub Ran : Option Course → Moment → Moment → Stream → Stream → ℕ → Type 0
 Ran None old new n n' status = Untouched old new n n' status
 Ran (Some c) old new n n' status = Ended c old new n n' status
+
+-- this holds of the outside, of notes and of the status that a run leaves, by the run's arguments
+abbrev pub Leaves : {F O N : Type 0} → (Moment → Moment → Stream → Stream → ℕ → Type 0) → (F → Meaning) → Argument F → (O → Stream) → Argument O → Argument ℕ → (N → Stream) → Argument N → ℕ → Type 0
+Leaves holds files shelf written out steps noted notes status = over holds files shelf written out steps (noted notes.entry.now) (noted notes.exit.now) status
 
 -- Status 2 comes exactly for words that are no command, want of memory aside, with the usage on notes. For such words nothing is done.
 pub record RefusesWords (course : Option Course) (old new : Moment) (n n' : Stream) (status : ℕ) : Type 0 where

@@ -3,11 +3,10 @@
 ghost use Rattle.std.specs.Prelude.{◌≤◌};
 ghost use Rattle.loc_words.specs.Words.{HasScale, asked_by};
 ghost use Rattle.loc_words.specs.declared.command.Command.TheVariants as by;
-ghost use Rattle.loc_course.specs.Following.{Follows};
-ghost use Rattle.loc_course.specs.Moments.{moment};
 ghost use Rattle.loc_course.specs.Sentences.{status_of};
 ghost use Rattle.loc_course.specs.Stops.{end_of};
 ghost use Rattle.loc_top.specs.Run.{BesideCourse, course_by};
+ghost use Rattle.loc_course.specs.Runs.{Runs};
 
 use loc_breaches::valid;
 use loc_course::Stop;
@@ -36,9 +35,7 @@ fn run_query<F: Shelf, O: Sink, L: Ledger>(
     steps: &mut Steps<L>,
 ) -> Result<(), Stop>
     requires scale { asked.layer.scale ≤ 15 }
-    ensures { Follows (course_by (asked_by (by.Query asked.entry)))
-        (moment (F.meaning shelf.old) (O.meaning out.old) steps.old)
-        (moment (F.meaning shelf.new) (O.meaning out.new) steps.new) (end_of result) }
+    ensures { Runs (course_by (asked_by (by.Query asked.entry))) F.meaning shelf O.meaning out steps result }
 {
     let layer = asked.layer;
     query(
@@ -65,9 +62,7 @@ pub(crate) fn run_command<F: Shelf, O: Sink, L: Ledger>(
     steps: &mut Steps<L>,
 ) -> Result<(), Stop>
     requires scale { HasScale command }
-    ensures follows { Follows (course_by (asked_by command.entry))
-        (moment (F.meaning shelf.old) (O.meaning out.old) steps.old)
-        (moment (F.meaning shelf.new) (O.meaning out.new) steps.new) (end_of result) }
+    ensures follows { Runs (course_by (asked_by command.entry)) F.meaning shelf O.meaning out steps result }
     ensures beside { BesideCourse (asked_by command.entry) (F.meaning shelf.old) (F.meaning shelf.new)
         (status_of (end_of result)) }
 {

@@ -4,7 +4,7 @@ ghost use Rattle.std.specs.Prelude.{◌≡◌, ◌≤◌, Some, IfSome, map, str
 ghost use Rattle.loc_io.specs.Streams.{InTime};
 ghost use Rattle.loc_words.specs.Words.{AskedAsk, AskedBuild, AskedEdges, AskedFeatures, AskedLayer, AskedQuery, AskedStab, AskedUpgrade, AskedVerify, ask, build, command_of, dissolve, edges, features, query, stab, upgrade, valid, verify};
 ghost use Rattle.loc_breaches.specs.Judges.{Judges};
-ghost use Rattle.loc_course.specs.Moments.{moment};
+ghost use Rattle.loc_course.specs.Runs.{over};
 ghost use Rattle.loc_features.specs.FeaturesTold.{FeaturesTold};
 ghost use Rattle.loc_groups.specs.Dissolves.{Dissolves};
 ghost use Rattle.loc_indexed.specs.Asks.{Asks};
@@ -14,7 +14,7 @@ ghost use Rattle.loc_query.specs.Headline.{Headline};
 ghost use Rattle.loc_reach.specs.Stabs.{Stabs};
 ghost use Rattle.loc_upgrade.specs.TellsEdges.{TellsEdges};
 ghost use Rattle.loc_upgrade.specs.Upgrades.{Upgrades};
-ghost use Rattle.loc_top.specs.Run.{BesideCourse, FilesOf, Ran, RefusesWords, RunSentences, course_of, file_of};
+ghost use Rattle.loc_top.specs.Run.{BesideCourse, FilesOf, Leaves, Ran, RefusesWords, RunSentences, course_of, file_of};
 
 use crate::commands::run_command;
 use loc_course::{Stop, report, write_text};
@@ -33,10 +33,8 @@ fn run_course<F: Shelf, O: Sink, N: Sink, L: Ledger>(
     notes: &mut N,
     steps: &mut Steps<L>,
 ) -> u8
-    ensures ran { Ran (course_of (map string_bytes words.now))
-        (moment (F.meaning shelf.old) (O.meaning out.old) steps.old)
-        (moment (F.meaning shelf.new) (O.meaning out.new) steps.new)
-        (N.meaning notes.old) (N.meaning notes.new) result }
+    ensures ran { Leaves (Ran (course_of (map string_bytes words.now)))
+        F.meaning shelf O.meaning out steps N.meaning notes result }
     ensures beside { IfSome (command_of (map string_bytes words.now))
         (λ asked. BesideCourse asked (F.meaning shelf.old) (F.meaning shelf.new) result) }
     ensures notes_in_time { InTime (N.meaning notes.old) (N.meaning notes.new) }
@@ -64,70 +62,43 @@ pub fn run<F: Shelf, O: Sink, N: Sink, L: Ledger>(
     steps: &mut Steps<L>,
 ) -> u8
     ensures headline { (asked : AskedQuery) → command_of (map string_bytes words.now) ≡ Some (query asked)
-        → Headline asked.index asked.order asked.faces (file_of asked.layer) asked.points
-        (moment (F.meaning shelf.old) (O.meaning out.old) steps.old)
-        (moment (F.meaning shelf.new) (O.meaning out.new) steps.new)
-        (N.meaning notes.old) (N.meaning notes.new) result }
+        → Leaves (Headline asked.index asked.order asked.faces (file_of asked.layer) asked.points)
+        F.meaning shelf O.meaning out steps N.meaning notes result }
     ensures features { (asked : AskedFeatures) → command_of (map string_bytes words.now) ≡ Some (features asked)
-        → FeaturesTold (file_of asked.layer) asked.points
-        (moment (F.meaning shelf.old) (O.meaning out.old) steps.old)
-        (moment (F.meaning shelf.new) (O.meaning out.new) steps.new)
-        (N.meaning notes.old) (N.meaning notes.new) result }
+        → Leaves (FeaturesTold (file_of asked.layer) asked.points)
+        F.meaning shelf O.meaning out steps N.meaning notes result }
     ensures asks { (asked : AskedAsk) → command_of (map string_bytes words.now) ≡ Some (ask asked)
-        → Asks asked.index asked.points
-        (moment (F.meaning shelf.old) (O.meaning out.old) steps.old)
-        (moment (F.meaning shelf.new) (O.meaning out.new) steps.new)
-        (N.meaning notes.old) (N.meaning notes.new) result }
+        → Leaves (Asks asked.index asked.points)
+        F.meaning shelf O.meaning out steps N.meaning notes result }
     ensures builds { (asked : AskedBuild) → command_of (map string_bytes words.now) ≡ Some (build asked)
-        → Builds (file_of asked.layer) asked.index
-        (moment (F.meaning shelf.old) (O.meaning out.old) steps.old)
-        (moment (F.meaning shelf.new) (O.meaning out.new) steps.new)
-        (N.meaning notes.old) (N.meaning notes.new) result }
+        → Leaves (Builds (file_of asked.layer) asked.index)
+        F.meaning shelf O.meaning out steps N.meaning notes result }
     ensures verifies { (asked : AskedVerify) → command_of (map string_bytes words.now) ≡ Some (verify asked)
-        → Verifies asked.index
-        (moment (F.meaning shelf.old) (O.meaning out.old) steps.old)
-        (moment (F.meaning shelf.new) (O.meaning out.new) steps.new)
-        (N.meaning notes.old) (N.meaning notes.new) result }
+        → Leaves (Verifies asked.index)
+        F.meaning shelf O.meaning out steps N.meaning notes result }
     ensures upgrades { (asked : AskedUpgrade) → command_of (map string_bytes words.now) ≡ Some (upgrade asked)
-        → Upgrades asked.old asked.new
-        (moment (F.meaning shelf.old) (O.meaning out.old) steps.old)
-        (moment (F.meaning shelf.new) (O.meaning out.new) steps.new)
-        (N.meaning notes.old) (N.meaning notes.new) result }
+        → Leaves (Upgrades asked.old asked.new)
+        F.meaning shelf O.meaning out steps N.meaning notes result }
     ensures edges { (asked : AskedEdges) → command_of (map string_bytes words.now) ≡ Some (edges asked)
-        → TellsEdges asked.index
-        (moment (F.meaning shelf.old) (O.meaning out.old) steps.old)
-        (moment (F.meaning shelf.new) (O.meaning out.new) steps.new)
-        (N.meaning notes.old) (N.meaning notes.new) result }
+        → Leaves (TellsEdges asked.index)
+        F.meaning shelf O.meaning out steps N.meaning notes result }
     ensures stabs { (asked : AskedStab) → command_of (map string_bytes words.now) ≡ Some (stab asked)
-        → Stabs (file_of asked.layer) asked.spans
-        (moment (F.meaning shelf.old) (O.meaning out.old) steps.old)
-        (moment (F.meaning shelf.new) (O.meaning out.new) steps.new)
-        (N.meaning notes.old) (N.meaning notes.new) result }
+        → Leaves (Stabs (file_of asked.layer) asked.spans)
+        F.meaning shelf O.meaning out steps N.meaning notes result }
     ensures judges { (asked : AskedLayer) → command_of (map string_bytes words.now) ≡ Some (valid asked)
-        → Judges (file_of asked)
-        (moment (F.meaning shelf.old) (O.meaning out.old) steps.old)
-        (moment (F.meaning shelf.new) (O.meaning out.new) steps.new)
-        (N.meaning notes.old) (N.meaning notes.new) result }
+        → Leaves (Judges (file_of asked))
+        F.meaning shelf O.meaning out steps N.meaning notes result }
     ensures dissolves { (asked : AskedLayer) → command_of (map string_bytes words.now) ≡ Some (dissolve asked)
-        → Dissolves (file_of asked)
-        (moment (F.meaning shelf.old) (O.meaning out.old) steps.old)
-        (moment (F.meaning shelf.new) (O.meaning out.new) steps.new)
-        (N.meaning notes.old) (N.meaning notes.new) result }
-    ensures ran { Ran (course_of (map string_bytes words.now))
-        (moment (F.meaning shelf.old) (O.meaning out.old) steps.old)
-        (moment (F.meaning shelf.new) (O.meaning out.new) steps.new)
-        (N.meaning notes.old) (N.meaning notes.new) result }
-    ensures sentences { RunSentences (command_of (map string_bytes words.now))
-        (moment (F.meaning shelf.old) (O.meaning out.old) steps.old)
-        (moment (F.meaning shelf.new) (O.meaning out.new) steps.new)
-        (N.meaning notes.old) (N.meaning notes.new) result }
-    ensures refuses_words { RefusesWords (course_of (map string_bytes words.now))
-        (moment (F.meaning shelf.old) (O.meaning out.old) steps.old)
-        (moment (F.meaning shelf.new) (O.meaning out.new) steps.new)
-        (N.meaning notes.old) (N.meaning notes.new) result }
-    ensures files { FilesOf (command_of (map string_bytes words.now))
-        (moment (F.meaning shelf.old) (O.meaning out.old) steps.old)
-        (moment (F.meaning shelf.new) (O.meaning out.new) steps.new) result }
+        → Leaves (Dissolves (file_of asked))
+        F.meaning shelf O.meaning out steps N.meaning notes result }
+    ensures ran { Leaves (Ran (course_of (map string_bytes words.now)))
+        F.meaning shelf O.meaning out steps N.meaning notes result }
+    ensures sentences { Leaves (RunSentences (command_of (map string_bytes words.now)))
+        F.meaning shelf O.meaning out steps N.meaning notes result }
+    ensures refuses_words { Leaves (RefusesWords (course_of (map string_bytes words.now)))
+        F.meaning shelf O.meaning out steps N.meaning notes result }
+    ensures files { over (FilesOf (command_of (map string_bytes words.now)))
+        F.meaning shelf O.meaning out steps result }
     ensures range { result ≤ 5 }
 {
     run_course(alloc, words, shelf, out, notes, steps)

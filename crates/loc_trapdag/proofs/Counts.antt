@@ -2,8 +2,7 @@
 use Rattle.std.proofs.Common.{◌≡◌, ℕ, zero, suc, ◌+◌, cond, List, [], ◌∷◌, ◌++◌, refl, sym, ◌∙◌, ap, subst, inl, inr, arith}
 use Rattle.std.specs.Prelude.{count_by, nat_lt, ◌==◌, if◌then◌else◌, IsPermutation}
 use Rattle.std.proofs.lemmas.Bool.{cases_lt, cases_eq, eq-eqb, ne_eqb, lt-ltb, le-ltb}
-use Rattle.std.proofs.lemmas.List.Sums.{sum_by-append}
-use Rattle.std.proofs.lemmas.List.Sorted.{sum_by-IsPermutation}
+use Rattle.std.proofs.{lemmas.List.Sums.sum_by-append, lemmas.List.Sorted.sum_by-IsPermutation}
 use Rattle.loc_spec_plane.specs.Lists.{numbers}
 use Rattle.loc_laws_order.proofs.Kept.{numbers_more}
 use Rattle.loc_trapdag.specs.Orders.{IsOrder}

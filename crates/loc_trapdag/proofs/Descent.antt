@@ -3,22 +3,14 @@ use Rattle.std.proofs.Common.{◌≡◌, ◌≢◌, ℕ, suc, ◌<◌, ◌≤◌
 use Rattle.std.specs.Prelude.{Option, Some, None, IsSome, ◌==◌}
 use Rattle.std.proofs.lemmas.Bool.{both_ways, or_left, or_right, eq-eqb, lt-ltb}
 use Rattle.std.proofs.lemmas.List.{get_or_read}
-use Rattle.loc_spec_plane.specs.declared.Trap.{Trap}
-use Rattle.loc_spec_plane.specs.declared.Place.TheVariants.{Area}
+use Rattle.loc_spec_plane.specs.{declared.Trap.Trap, declared.Place.TheVariants.Area}
 use Rattle.loc_spec_plane.specs.Points.{Point, before, is_above, is_below}
 use Rattle.loc_spec_plane.specs.Tables.{Table, IsTable, corner, edge, lo_of, hi_of}
-use Rattle.loc_spec_plane.specs.Places.{is_edge, lower_of, IsPlace}
-use Rattle.loc_spec_plane.specs.Traps.{is_trap}
+use Rattle.loc_spec_plane.specs.{Places.is_edge, Places.lower_of, Places.IsPlace, Traps.is_trap}
 use Rattle.loc_laws_traps.specs.Sets.{IsCalmSet, with_edge, behind_left, before_right, part_before, part_behind, is_inside, begins_in, has_real_bounds}
 use Rattle.loc_laws_traps.specs.Laws.{Sends, Seeks}
-use Rattle.loc_laws_traps.proofs.Corners.{same_set}
-use Rattle.loc_laws_traps.proofs.Points.{area_law}
-use Rattle.loc_laws_traps.proofs.Sends.{send_law}
-use Rattle.loc_laws_traps.proofs.Seek.{seek_law}
-use Rattle.loc_laws_traps.proofs.Begins.{other_law}
-use Rattle.loc_traps.specs.declared.map.Split.{Split}
-use Rattle.loc_traps.specs.Meaning.{row_of, among}
-use Rattle.loc_traps.specs.Splits.{IsPart, IsSplitOf}
+use Rattle.loc_laws_traps.proofs.{Corners.same_set, Points.area_law, Sends.send_law, Seek.seek_law, Begins.other_law}
+use Rattle.loc_traps.specs.{declared.map.Split.Split, Meaning.row_of, Meaning.among, Splits.IsPart, Splits.IsSplitOf}
 use Rattle.loc_trapdag.specs.declared.index.Step.{Step}
 use Rattle.loc_trapdag.specs.Graphs.{Graph, step_of, IsPiece, IsStepOf, IsGraphOf, IsIndexOf}
 

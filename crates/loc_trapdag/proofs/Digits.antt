@@ -1,10 +1,8 @@
 -- Digits of a line.
 use Rattle.std.proofs.Common.{◌≡◌, ℕ, suc, ◌+◌, ◌*◌, ◌-◌, ◌<◌, min, Bool, true, cond, List, [], ◌∷◌, take, length, get_or, refl, sym, ◌∙◌, ap, subst, inl, inr, arith}
-use Rattle.std.specs.Char.{is_ascii_digit, digit_value}
-use Rattle.std.specs.List.{list_all, take_while, prefix_len}
-use Rattle.std.proofs.lemmas.Bool.Decides.{nat_tests}
+use Rattle.std.specs.{Char.is_ascii_digit, Char.digit_value, List.list_all, List.take_while, List.prefix_len}
+use Rattle.std.proofs.{lemmas.Bool.Decides.nat_tests, lemmas.List.Folds.list_all_at}
 use Rattle.std.proofs.lemmas.Bool.{cases_Bool, and_from, both_ways, true_from_ne_false}
-use Rattle.std.proofs.lemmas.List.Folds.{list_all_at}
 
 -- what is taken from the front while a test holds passes it
 pub all_taken : (p : ℕ → Bool) (xs : List ℕ) → list_all p (take_while p xs) ≡ true

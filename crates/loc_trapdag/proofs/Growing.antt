@@ -4,8 +4,7 @@ use Rattle.std.specs.Prelude.{Option, Some, None, nat_lt, if◌then◌else◌, �
 use Rattle.std.proofs.lemmas.Bool.{and_from, cases_Bool, cases_lt, cases_eq, lt-ltb, le-ltb, or_left, or_right, eq-eqb}
 use Rattle.std.proofs.lemmas.List.{length_push, length-set, get_or_past}
 use Rattle.std.proofs.lemmas.List.Folds.{list_any-append}
-use Rattle.loc_spec_plane.specs.declared.Trap.{Trap}
-use Rattle.loc_spec_plane.specs.Tables.{Table, lo_of, hi_of}
+use Rattle.loc_spec_plane.specs.{declared.Trap.Trap, Tables.Table, Tables.lo_of, Tables.hi_of}
 use Rattle.loc_laws_traps.specs.Sets.{behind_left, before_right, part_before, part_behind, is_over_piece, is_under_piece, is_cut, has_real_bounds}
 use Rattle.loc_laws_traps.proofs.Sends.{real_law}
 use Rattle.loc_traps.specs.declared.map.Split.{Split}

@@ -6,9 +6,8 @@ use Rattle.loc_spec_plane.specs.declared.Trap.{Trap}
 use Rattle.loc_spec_plane.specs.Tables.{Table, IsTable, AllEnds, NoConflict}
 use Rattle.loc_laws_traps.specs.Sets.{has_real_bounds}
 use Rattle.loc_traps.specs.Meaning.{MapMeaning, IsMapOf, no_bounds, row_of, live_of, among}
-use Rattle.loc_trapdag.specs.declared.index.Step.{Step}
+use Rattle.loc_trapdag.specs.{declared.index.Step.Step, Orders.IsOrder}
 use Rattle.loc_trapdag.specs.Graphs.{Graph, step_of, IsGraphOf, IsIndexOf}
-use Rattle.loc_trapdag.specs.Orders.{IsOrder}
 use Rattle.loc_trapdag.proofs.Members.{order_in, order_real, order_new, order_length}
 
 no_step : (n : ℕ) (step : Step) → step_of (None ∷ []) n ≡ Some step → ⊥

@@ -6,16 +6,12 @@
 --   IsTurn                  where a point goes on
 --   Marks                   splits are noted
 use Rattle.std.specs.Prelude.{◌≡◌, ℕ, suc, ◌<◌, ◌≤◌, ◌⊎◌, true, List, length, get_or, Option, Some, None}
-use Rattle.loc_spec_plane.specs.Points.{Point}
-use Rattle.loc_spec_plane.specs.Tables.{Table, AllEnds}
-use Rattle.loc_spec_plane.specs.Places.{is_edge, IsPlace}
+use Rattle.loc_spec_plane.specs.{Points.Point, Tables.Table, Tables.AllEnds, Places.is_edge, Places.IsPlace}
 use Rattle.loc_laws_traps.specs.Sets.{is_inside, has_real_bounds}
 use Rattle.loc_place.specs.Planar.{IsPlanar}
-use Rattle.loc_traps.specs.declared.map.Split.{Split}
+use Rattle.loc_traps.specs.{declared.map.Split.Split, Splits.split_of, Splits.IsSplitOf}
 use Rattle.loc_traps.specs.Meaning.{MapMeaning, IsMapOf, no_bounds, row_of, live_of, among}
-use Rattle.loc_traps.specs.Splits.{split_of, IsSplitOf}
-use Rattle.loc_trapdag.specs.declared.index.Step.{Step}
-use Rattle.loc_trapdag.specs.declared.turn.Turn.{Turn}
+use Rattle.loc_trapdag.specs.{declared.index.Step.Step, declared.turn.Turn.Turn}
 use Rattle.loc_trapdag.specs.declared.turn.Turn.TheVariants.{At, To}
 
 -- the map, and for each trapezoid that was cut the edge and the split

@@ -9,12 +9,9 @@
 --   IsCapped                       a number that is read up to a cap
 --   shuffled_order                 the order shuffled from a number
 use Rattle.std.specs.Prelude.{◌≡◌, ℕ, ◌^◌, min, Bool, false, not, ◌&&◌, List, [], ◌∷◌, ◌++◌, ◌<◌, ◌≢◌, length, get_or, map, filter, filter_map, find, count_by, nat_lt, nat_le, ◌==◌, if◌then◌else◌, Option, Some, None, option_map, Result, Err}
-use Rattle.std.specs.Char.{is_ascii_digit}
-use Rattle.std.specs.Str.Parse.{digits_value}
-use Rattle.std.specs.List.{enumerate_from, take_while}
+use Rattle.std.specs.{Char.is_ascii_digit, Str.Parse.digits_value, List.enumerate_from, List.take_while}
 use Rattle.rand.specs.Shuffle.{shuffled}
-use Rattle.rand_core.specs.Steps.{stream_of, steps_u32}
-use Rattle.rand_core.specs.Pcg32Seed.{pcg32_seed}
+use Rattle.rand_core.specs.{Steps.stream_of, Steps.steps_u32, Pcg32Seed.pcg32_seed}
 use Rattle.rand_pcg.specs.Pcg.{pcg32, pcg32_of_seed}
 use Rattle.loc_spec_plane.specs.Lists.{numbers, is_in}
 use Rattle.loc_spec_text.specs.Bytes.{is_blank, lines, drop_while, without_front, or_else, ok_unless}

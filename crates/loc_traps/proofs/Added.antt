@@ -4,23 +4,16 @@ use Rattle.std.specs.Prelude.{Option, None, if◌then◌else◌, ◌==◌}
 use Rattle.std.proofs.lemmas.Bool.{cases_Bool, both_ways, eq-eqb}
 use Rattle.std.proofs.lemmas.List.{length_push, take_all}
 use Rattle.std.proofs.lemmas.List.Folds.{list_any-append, list_any_at}
-use Rattle.loc_spec_plane.specs.declared.Trap.{Trap}
-use Rattle.loc_spec_plane.specs.Tables.{Table, lo_of, hi_of}
-use Rattle.loc_spec_plane.specs.Traps.{is_trap}
-use Rattle.loc_laws_order.proofs.Booleans.{or_none}
-use Rattle.loc_laws_order.proofs.Sets.{number_swap}
+use Rattle.loc_spec_plane.specs.{declared.Trap.Trap, Tables.Table, Tables.lo_of, Tables.hi_of, Traps.is_trap}
+use Rattle.loc_laws_order.proofs.{Booleans.or_none, Sets.number_swap}
 use Rattle.loc_laws_traps.specs.Sets.{IsCalmSet, with_edge, behind_left, before_right, is_cut, is_lowest_at, is_highest_at}
 use Rattle.loc_laws_traps.specs.Maps.{IsMap, AreFresh, Names, Renames}
-use Rattle.loc_laws_traps.proofs.Corners.{is_first_by, same_set}
-use Rattle.loc_laws_traps.proofs.Maps.{map_law, names_by}
-use Rattle.loc_traps.specs.declared.map.Split.{Split}
-use Rattle.loc_traps.specs.declared.walk.Start.{Start}
-use Rattle.loc_traps.specs.declared.walk.Cut.{Cut}
+use Rattle.loc_laws_traps.proofs.{Corners.is_first_by, Corners.same_set, Maps.map_law, Maps.names_by}
+use Rattle.loc_traps.specs.{declared.map.Split.Split, declared.walk.Start.Start, declared.walk.Cut.Cut}
 use Rattle.loc_traps.specs.Meaning.{MapMeaning, IsMapOf, row_of, live_of, named_of, among, live_count}
 use Rattle.loc_traps.specs.Splits.{split_of, is_cut_by, IsAdded}
 use Rattle.loc_traps.specs.Walks.{fresh_rows, IsWalk, IsNumbered}
-use Rattle.loc_traps.proofs.Burying.{not_before}
-use Rattle.loc_traps.proofs.Rows.{all_rows, fresh_count, all_count}
+use Rattle.loc_traps.proofs.{Burying.not_before, Rows.all_rows, Rows.fresh_count, Rows.all_count}
 use Rattle.loc_traps.proofs.Joining.{are_fresh, old_stays, split_cuts, splits_complete}
 
 -- some split cuts the row, or none does

@@ -3,15 +3,12 @@ use Rattle.std.proofs.Common.{◌≡◌, ◌≢◌, ℕ, zero, suc, ◌+◌, ◌
 use Rattle.std.specs.Prelude.{Option, None, if◌then◌else◌, ◌==◌}
 use Rattle.std.proofs.lemmas.Bool.{cases_lt, cases_eq, eq-eqb, ne_eqb}
 use Rattle.std.proofs.lemmas.List.{take_more, take_all, get_or_past}
-use Rattle.std.proofs.lemmas.List.Sums.{sum_by-set}
-use Rattle.std.proofs.Math.ListN.{get_or-append}
-use Rattle.std.proofs.Math.Seq.{get_or-append_right, take-append_seam}
-use Rattle.std.proofs.lemmas.List.Folds.{list_any-append}
+use Rattle.std.proofs.{lemmas.List.Sums.sum_by-set, Math.ListN.get_or-append}
+use Rattle.std.proofs.{Math.Seq.get_or-append_right, Math.Seq.take-append_seam, lemmas.List.Folds.list_any-append}
 use Rattle.loc_spec_plane.specs.declared.Trap.{Trap}
 use Rattle.loc_laws_order.proofs.Booleans.{and_none, and_true, or_none}
 use Rattle.loc_laws_traps.specs.Maps.{Renames}
-use Rattle.loc_traps.specs.declared.map.Split.{Split}
-use Rattle.loc_traps.specs.Meaning.{live_of, live_count}
+use Rattle.loc_traps.specs.{declared.map.Split.Split, Meaning.live_of, Meaning.live_count}
 use Rattle.loc_traps.specs.Splits.{split_of, is_cut_by}
 
 -- a row counts as one where it is live

@@ -2,20 +2,15 @@
 use Rattle.std.proofs.Common.{◌≡◌, ℕ, ◌+◌, ◌-◌, ◌<◌, ◌≤◌, Bool, true, false, not, ◌&&◌, List, [], ◌∷◌, ◌++◌, length, sym, ◌∙◌, ap, subst, arith}
 use Rattle.std.proofs.lemmas.Bool.{not-true}
 use Rattle.std.specs.Prelude.{IsTrue}
-use Rattle.loc_spec_plane.specs.declared.Trap.{Trap}
-use Rattle.loc_spec_plane.specs.Points.{conflict}
+use Rattle.loc_spec_plane.specs.{declared.Trap.Trap, Points.conflict}
 use Rattle.loc_spec_plane.specs.Tables.{Table, edge, lo_of, hi_of}
 use Rattle.loc_laws_traps.specs.Sets.{IsCalmSet, with_edge, behind_left, is_lowest_at, is_highest_at}
 use Rattle.loc_laws_traps.specs.Maps.{Renames}
-use Rattle.loc_laws_traps.proofs.Corners.{is_first_by}
-use Rattle.loc_laws_traps.proofs.Joined.{joined_calm}
-use Rattle.loc_traps.specs.declared.map.Split.{Split}
-use Rattle.loc_traps.specs.declared.walk.Start.{Start}
-use Rattle.loc_traps.specs.declared.walk.Cut.{Cut}
+use Rattle.loc_laws_traps.proofs.{Corners.is_first_by, Joined.joined_calm}
+use Rattle.loc_traps.specs.{declared.map.Split.Split, declared.walk.Start.Start, declared.walk.Cut.Cut}
 use Rattle.loc_traps.specs.Meaning.{MapMeaning, IsMapOf, row_of, live_of, named_of, among, live_count}
-use Rattle.loc_traps.specs.Names.{IsNamable, IsOneOfAKind}
+use Rattle.loc_traps.specs.{Names.IsNamable, Names.IsOneOfAKind, Walks.fresh_rows, Walks.IsWalk, Walks.IsNumbered}
 use Rattle.loc_traps.specs.Splits.{split_of, is_cut_by, AreSplits, AllSendOn, IsAdded}
-use Rattle.loc_traps.specs.Walks.{fresh_rows, IsWalk, IsNumbered}
 use Rattle.loc_traps.proofs.Joining.{are_splits, all_send_on, split_real, split_live, splits_single, are_namable, one_by}
 use Rattle.loc_traps.proofs.Added.{is_added, is_map_of}
 

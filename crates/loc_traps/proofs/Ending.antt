@@ -1,26 +1,16 @@
 -- The end of the walk: what it has collected, with the edge's upper end as the last start on both sides.
 use Rattle.std.proofs.Common.{◌≡◌, ℕ, suc, ◌+◌, ◌-◌, ◌<◌, Bool, true, false, List, [], ◌∷◌, ◌++◌, length, refl, sym, ◌∙◌, ap, subst, inl, arith}
 use Rattle.std.specs.Prelude.{Some, None}
-use Rattle.std.proofs.lemmas.Bool.{lt-ltb}
-use Rattle.std.proofs.lemmas.List.{length_push}
-use Rattle.loc_spec_plane.specs.declared.Trap.{Trap}
-use Rattle.loc_spec_plane.specs.Tables.{Table, hi_of}
-use Rattle.loc_spec_plane.specs.Traps.{is_trap}
+use Rattle.std.proofs.{lemmas.Bool.lt-ltb, lemmas.List.length_push}
+use Rattle.loc_spec_plane.specs.{declared.Trap.Trap, Tables.Table, Tables.hi_of, Traps.is_trap}
 use Rattle.loc_laws_traps.specs.Sets.{IsCalmSet, with_edge, before_right, is_cut, begins_in}
 use Rattle.loc_laws_traps.specs.Maps.{IsMap}
-use Rattle.loc_laws_traps.proofs.Runs.{before_is, before_less, run_of}
-use Rattle.loc_laws_traps.proofs.Shapes.{is_piece_by}
-use Rattle.loc_laws_traps.proofs.Adding.{old, is_new, e_up}
-use Rattle.loc_laws_traps.proofs.Parts.{from_last}
-use Rattle.loc_laws_traps.proofs.Walk.{UpTo}
-use Rattle.loc_laws_traps.proofs.Add.{cuts_from, Common, common}
-use Rattle.loc_laws_traps.proofs.Seek.{begin_law}
-use Rattle.loc_laws_traps.proofs.Step.{came_last}
-use Rattle.loc_laws_traps.proofs.Visits.{same_cut, at_last}
+use Rattle.loc_laws_traps.proofs.{Runs.before_is, Runs.before_less, Runs.run_of, Shapes.is_piece_by}
+use Rattle.loc_laws_traps.proofs.{Adding.old, Adding.is_new, Adding.e_up, Parts.from_last, Walk.UpTo}
+use Rattle.loc_laws_traps.proofs.{Add.cuts_from, Add.Common, Add.common, Seek.begin_law, Step.came_last}
+use Rattle.loc_laws_traps.proofs.{Visits.same_cut, Visits.at_last, Fresh.rises_differ}
 use Rattle.loc_laws_traps.proofs.Strips.{piece_at, Strip, strip_sound, strip_rises, strip_stands, strip_covers}
-use Rattle.loc_laws_traps.proofs.Fresh.{rises_differ}
-use Rattle.loc_traps.specs.declared.walk.Start.{Start}
-use Rattle.loc_traps.specs.declared.walk.Cut.{Cut}
+use Rattle.loc_traps.specs.{declared.walk.Start.Start, declared.walk.Cut.Cut}
 use Rattle.loc_traps.specs.Meaning.{row_of, live_of, among}
 use Rattle.loc_traps.specs.Walks.{start_of, cut_of, IsStrip, IsWalk}
 use Rattle.loc_traps.proofs.Starts.{Reads, reads_less, reads_last}

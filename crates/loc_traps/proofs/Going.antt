@@ -2,23 +2,14 @@
 use Rattle.std.proofs.Common.{◌≡◌, ℕ, ◌-◌, ◌<◌, ◌≤◌, Bool, true, false, not, List, [], ◌∷◌, ◌++◌, length, refl, sym, ◌∙◌, ap, subst, inl, inr, arith}
 use Rattle.std.specs.Prelude.{Option, Some, None, IsSome}
 use Rattle.std.proofs.lemmas.Bool.{both_ways}
-use Rattle.loc_spec_plane.specs.declared.Trap.{Trap}
-use Rattle.loc_spec_plane.specs.Points.{is_above}
+use Rattle.loc_spec_plane.specs.{declared.Trap.Trap, Points.is_above, Traps.is_set_end}
 use Rattle.loc_spec_plane.specs.Tables.{Table, corner, edge, lo_of, hi_of}
-use Rattle.loc_spec_plane.specs.Traps.{is_set_end}
-use Rattle.loc_laws_traps.specs.Sets.{IsCalmSet, with_edge, begins_in}
-use Rattle.loc_laws_traps.specs.Maps.{Names}
-use Rattle.loc_laws_traps.proofs.Turns.{above_by, far}
-use Rattle.loc_laws_traps.proofs.Cells.{OfBound, Wall, end_real}
-use Rattle.loc_laws_traps.proofs.Runs.{run_of}
-use Rattle.loc_laws_traps.proofs.Adding.{old}
-use Rattle.loc_laws_traps.proofs.Walk.{UpTo}
-use Rattle.loc_laws_traps.proofs.Step.{come_to}
+use Rattle.loc_laws_traps.specs.{Sets.IsCalmSet, Sets.with_edge, Sets.begins_in, Maps.Names}
+use Rattle.loc_laws_traps.proofs.{Turns.above_by, Turns.far, Cells.OfBound, Cells.Wall, Cells.end_real, Runs.run_of}
+use Rattle.loc_laws_traps.proofs.{Adding.old, Walk.UpTo, Step.come_to}
 use Rattle.loc_laws_traps.proofs.Corners.{is_first_by, first_parts, sides_of, next_by}
-use Rattle.loc_traps.specs.declared.walk.Start.{Start}
-use Rattle.loc_traps.specs.declared.walk.Cut.{Cut}
+use Rattle.loc_traps.specs.{declared.walk.Start.Start, declared.walk.Cut.Cut, Walks.IsPassed, Walks.IsWalk}
 use Rattle.loc_traps.specs.Meaning.{MapMeaning, IsMapOf, row_of, live_of, named_of, among}
-use Rattle.loc_traps.specs.Walks.{IsPassed, IsWalk}
 use Rattle.loc_traps.proofs.Ending.{walking_ends}
 use Rattle.loc_traps.proofs.Walking.{Walking, sides, longer, walking_starts, walking_goes_on, walking_falls, left_number}
 

@@ -3,26 +3,15 @@ use Rattle.std.proofs.Common.{◌≡◌, ℕ, ◌+◌, ◌-◌, ◌<◌, ◌≤�
 use Rattle.std.specs.Prelude.{Option, Some, None, IfSome, IsSomeAnd}
 use Rattle.std.specs.Bool.{then_some}
 use Rattle.std.proofs.lemmas.Bool.{and_parts, lt-ltb, both_ways}
-use Rattle.loc_spec_plane.specs.declared.Trap.{Trap}
-use Rattle.loc_spec_plane.specs.Points.{Point, before}
-use Rattle.loc_spec_plane.specs.Tables.{Table, lo_of, hi_of}
-use Rattle.loc_spec_plane.specs.Traps.{is_trap}
+use Rattle.loc_spec_plane.specs.{declared.Trap.Trap, Points.Point, Points.before}
+use Rattle.loc_spec_plane.specs.{Tables.Table, Tables.lo_of, Tables.hi_of, Traps.is_trap}
 use Rattle.loc_laws_traps.specs.Sets.{IsCalmSet, with_edge, behind_left, before_right, up_to_bound, from_bound, is_cut, part_before, part_behind, spans, is_over_piece, is_under_piece, is_inside}
-use Rattle.loc_laws_traps.specs.Laws.{IsPieceOf}
-use Rattle.loc_laws_traps.specs.Maps.{AreFresh}
-use Rattle.loc_laws_traps.proofs.Facts.{Live}
-use Rattle.loc_laws_traps.proofs.Cells.{OfBound, end_real}
-use Rattle.loc_laws_traps.proofs.Runs.{behind_is, Run, run_of}
-use Rattle.loc_laws_traps.proofs.Shapes.{piece_parts, left_spanned}
-use Rattle.loc_laws_traps.proofs.Adding.{is_new, e_up}
-use Rattle.loc_laws_traps.proofs.Add.{cuts_from, cut_law}
-use Rattle.loc_laws_traps.proofs.Corners.{is_first_by, one_first}
-use Rattle.loc_laws_traps.proofs.Sends.{send_law, real_law}
-use Rattle.loc_laws_traps.proofs.Maps.{no_old_bound}
-use Rattle.loc_laws_traps.proofs.Fresh.{has_cut, not_both}
-use Rattle.loc_traps.specs.declared.map.Split.{Split}
-use Rattle.loc_traps.specs.declared.walk.Start.{Start}
-use Rattle.loc_traps.specs.declared.walk.Cut.{Cut}
+use Rattle.loc_laws_traps.specs.{Laws.IsPieceOf, Maps.AreFresh}
+use Rattle.loc_laws_traps.proofs.{Facts.Live, Cells.OfBound, Cells.end_real, Runs.behind_is, Runs.Run, Runs.run_of}
+use Rattle.loc_laws_traps.proofs.{Shapes.piece_parts, Shapes.left_spanned, Adding.is_new, Adding.e_up}
+use Rattle.loc_laws_traps.proofs.{Add.cuts_from, Add.cut_law, Corners.is_first_by, Corners.one_first}
+use Rattle.loc_laws_traps.proofs.{Sends.send_law, Sends.real_law, Maps.no_old_bound, Fresh.has_cut, Fresh.not_both}
+use Rattle.loc_traps.specs.{declared.map.Split.Split, declared.walk.Start.Start, declared.walk.Cut.Cut}
 use Rattle.loc_traps.specs.Meaning.{MapMeaning, IsMapOf, row_of, live_of, among}
 use Rattle.loc_traps.specs.Names.{IsNamable, IsOneOfAKind}
 use Rattle.loc_traps.specs.Splits.{split_of, IsPart, IsSplitOf, AreSplits, AllSendOn}

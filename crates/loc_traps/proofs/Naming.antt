@@ -2,9 +2,7 @@
 use Rattle.std.proofs.Common.{◌≡◌, ◌≢◌, ℕ, ◌+◌, ◌<◌, ◌≤◌, true, false, ◌&&◌, List, length, set, get_or, get_or-set_other, get_or-set_same, refl, sym, ◌∙◌, ap, subst, inl, inr, arith}
 use Rattle.std.specs.Prelude.{Option, Some, None}
 use Rattle.std.proofs.lemmas.Bool.{and_parts, and_from, both_ways, cases_lt, false_from_ne_true}
-use Rattle.loc_spec_plane.specs.declared.Trap.{Trap}
-use Rattle.loc_spec_plane.specs.Tables.{Table}
-use Rattle.loc_spec_plane.specs.Traps.{same_bound}
+use Rattle.loc_spec_plane.specs.{declared.Trap.Trap, Tables.Table, Traps.same_bound}
 use Rattle.loc_laws_traps.specs.Maps.{Renames}
 use Rattle.loc_laws_traps.proofs.Cells.{same_bound-true, same_bound-same}
 use Rattle.loc_traps.specs.declared.names.Kind.{Kind}

@@ -2,14 +2,10 @@
 use Rattle.std.proofs.Common.{◌≡◌, ℕ, ◌+◌, Bool, List, [], ◌∷◌, ◌++◌, length, refl, sym, ◌∙◌, ap, subst, inl, inr, arith}
 use Rattle.std.specs.Prelude.{Option, None, if◌then◌else◌}
 use Rattle.std.specs.Bool.{then_some}
-use Rattle.std.proofs.Math.ListN.{get_or-append}
-use Rattle.std.proofs.lemmas.List.{length_push}
+use Rattle.std.proofs.{Math.ListN.get_or-append, lemmas.List.length_push}
 use Rattle.loc_spec_plane.specs.declared.Trap.{Trap}
 use Rattle.loc_laws_traps.specs.Sets.{behind_left, before_right}
-use Rattle.loc_traps.specs.declared.map.Split.{Split}
-use Rattle.loc_traps.specs.declared.walk.Cut.{Cut}
-use Rattle.loc_traps.specs.Meaning.{row_of}
-use Rattle.loc_traps.specs.Splits.{split_of}
+use Rattle.loc_traps.specs.{declared.map.Split.Split, declared.walk.Cut.Cut, Meaning.row_of, Splits.split_of}
 use Rattle.loc_traps.specs.Walks.{cut_of, IsNumberedAt, IsNumbered}
 use Rattle.loc_traps.proofs.Starts.{at_end, push_cases}
 

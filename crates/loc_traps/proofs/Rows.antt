@@ -1,14 +1,12 @@
 -- Where the new rows stand behind the old ones, and what each of them is.
 use Rattle.std.proofs.Common.{◌≡◌, ℕ, zero, suc, ◌+◌, ◌-◌, ◌<◌, ◌≤◌, Bool, true, false, List, [], ◌∷◌, ◌++◌, length, refl, ◌∙◌, ap, ◌⊎◌, inl, inr, arith}
 use Rattle.std.specs.Prelude.{if◌then◌else◌}
-use Rattle.std.proofs.lemmas.Bool.{cases_lt}
-use Rattle.std.proofs.lemmas.List.{length-append, get_or-append-add}
+use Rattle.std.proofs.{lemmas.Bool.cases_lt, lemmas.List.length-append, lemmas.List.get_or-append-add}
 use Rattle.std.proofs.Math.ListN.{get_or-append}
 use Rattle.std.proofs.lemmas.List.FromFn.{length-map-range_with_len, get_or-map-range_with_len}
 use Rattle.loc_spec_plane.specs.declared.Trap.{Trap}
 use Rattle.loc_laws_traps.specs.Sets.{behind_left, before_right, part_before, part_behind}
-use Rattle.loc_traps.specs.declared.walk.Start.{Start}
-use Rattle.loc_traps.specs.Meaning.{no_bounds, row_of}
+use Rattle.loc_traps.specs.{declared.walk.Start.Start, Meaning.no_bounds, Meaning.row_of}
 use Rattle.loc_traps.specs.Walks.{over_row, under_row, over_rows, under_rows, before_rows, behind_rows, fresh_rows}
 
 -- a member of two lists put together is one of the first, or one of the second

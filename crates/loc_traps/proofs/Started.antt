@@ -2,12 +2,9 @@
 use Rattle.std.proofs.Common.{◌≡◌, ℕ, Bool, true, List, [], ◌∷◌, refl, sym, subst, arith}
 use Rattle.std.specs.Prelude.{Option}
 use Rattle.std.proofs.lemmas.Bool.{true≢false}
-use Rattle.loc_spec_plane.specs.declared.Trap.{Trap}
-use Rattle.loc_spec_plane.specs.Tables.{Table, IsTable}
+use Rattle.loc_spec_plane.specs.{declared.Trap.Trap, Tables.Table, Tables.IsTable}
 use Rattle.loc_laws_traps.specs.Sets.{no_edge}
-use Rattle.loc_laws_traps.proofs.Corners.{empty_set}
-use Rattle.loc_laws_traps.proofs.Cells.{end_of}
-use Rattle.loc_laws_traps.proofs.Maps.{start_map_law}
+use Rattle.loc_laws_traps.proofs.{Corners.empty_set, Cells.end_of, Maps.start_map_law}
 use Rattle.loc_traps.specs.Meaning.{MapMeaning, IsMapOf, no_bounds, row_of, live_of}
 
 abbrev first_map : MapMeaning

@@ -1,26 +1,17 @@
 -- The walk along a new edge: what it has collected so far, how it starts, goes on and ends.
 use Rattle.std.proofs.Common.{◌≡◌, ℕ, suc, ◌+◌, ◌-◌, ◌<◌, ◌≤◌, Bool, true, false, not, List, [], ◌∷◌, ◌++◌, length, refl, sym, ◌∙◌, ap, subst, ◌⊎◌, inl, inr, arith}
 use Rattle.std.specs.Prelude.{Option, Some, None}
-use Rattle.std.proofs.lemmas.Bool.{cases_lt}
-use Rattle.std.proofs.Math.ListN.{get_or-append}
-use Rattle.std.proofs.lemmas.List.{length_push}
-use Rattle.loc_spec_plane.specs.declared.Trap.{Trap}
-use Rattle.loc_spec_plane.specs.Tables.{Table, lo_of, hi_of}
-use Rattle.loc_spec_plane.specs.Traps.{is_trap}
+use Rattle.std.proofs.{lemmas.Bool.cases_lt, Math.ListN.get_or-append, lemmas.List.length_push}
+use Rattle.loc_spec_plane.specs.{declared.Trap.Trap, Tables.Table, Tables.lo_of, Tables.hi_of, Traps.is_trap}
 use Rattle.loc_laws_traps.specs.Sets.{IsCalmSet, with_edge, behind_left, is_cut, begins_in}
-use Rattle.loc_laws_traps.proofs.Turns.{above_by, near, far}
+use Rattle.loc_laws_traps.proofs.{Turns.above_by, Turns.near, Turns.far, Adding.e_up, Add.cuts_from, Add.Common}
 use Rattle.loc_laws_traps.proofs.Runs.{From, behind_is, before_is, from_is, behind_from, from_more}
-use Rattle.loc_laws_traps.proofs.Adding.{e_up}
-use Rattle.loc_laws_traps.proofs.Add.{cuts_from, Common}
-use Rattle.loc_laws_traps.proofs.Seek.{begun, not_ended}
-use Rattle.loc_laws_traps.proofs.Corners.{is_first_by, first_parts}
+use Rattle.loc_laws_traps.proofs.{Seek.begun, Seek.not_ended, Corners.is_first_by, Corners.first_parts}
 use Rattle.loc_laws_traps.proofs.Step.{Walked, restart, walk_starts, walk_goes_on}
 use Rattle.loc_laws_traps.proofs.Visits.{same_cut, at_last, visited}
 use Rattle.loc_laws_traps.proofs.Strips.{Stands, Strip, strip_starts, strip_closes, strip_goes_on}
-use Rattle.loc_traps.specs.declared.walk.Start.{Start}
-use Rattle.loc_traps.specs.declared.walk.Cut.{Cut}
-use Rattle.loc_traps.specs.Meaning.{row_of, live_of, among}
-use Rattle.loc_traps.specs.Walks.{start_of, cut_of}
+use Rattle.loc_traps.specs.{declared.walk.Start.Start, declared.walk.Cut.Cut}
+use Rattle.loc_traps.specs.{Meaning.row_of, Meaning.live_of, Meaning.among, Walks.start_of, Walks.cut_of}
 use Rattle.loc_traps.proofs.Starts.{at_end, push_cases, Reads, reads_less, reads_last}
 
 -- the number of a left, or 0 where it is missing

@@ -4,11 +4,8 @@
 --   among                         the set of the edges added
 --   IsMapOf                       the live rows are the trapezoids of the edges added, and each end has its two names
 use Rattle.std.specs.Prelude.{◌≡◌, ℕ, ◌+◌, ◌*◌, ◌≤◌, Bool, false, List, length, get_or, Option, None, count_by}
-use Rattle.loc_spec_plane.specs.declared.Trap.{Trap}
-use Rattle.loc_spec_plane.specs.Lists.{is_in}
-use Rattle.loc_spec_plane.specs.Tables.{Table}
-use Rattle.loc_laws_traps.specs.Sets.{IsCalmSet, is_lowest_at, is_highest_at}
-use Rattle.loc_laws_traps.specs.Maps.{IsMap, Names}
+use Rattle.loc_spec_plane.specs.{declared.Trap.Trap, Lists.is_in, Tables.Table}
+use Rattle.loc_laws_traps.specs.{Sets.IsCalmSet, Sets.is_lowest_at, Sets.is_highest_at, Maps.IsMap, Maps.Names}
 
 -- trapezoids by number, cut ones among them; which are live; the edges added; and for each corner the number of the lowest and of the highest trapezoid that begins there
 pub record MapMeaning : Type 0 where

@@ -4,9 +4,7 @@
 --   IsNamable              a trapezoid can be named: its left has a name, its bounds are edges
 --   IsOneOfAKind           of the rows from n on at most one is of a kind at each corner
 use Rattle.std.specs.Prelude.{◌≡◌, ℕ, ◌<◌, ◌≤◌, Bool, true, not, length, Option, ◌==◌, IfSome}
-use Rattle.loc_spec_plane.specs.declared.Trap.{Trap}
-use Rattle.loc_spec_plane.specs.Tables.{Table, lo_of}
-use Rattle.loc_spec_plane.specs.Traps.{or_missing}
+use Rattle.loc_spec_plane.specs.{declared.Trap.Trap, Tables.Table, Tables.lo_of, Traps.or_missing}
 use Rattle.loc_laws_traps.specs.Sets.{is_lowest_at, is_highest_at}
 use Rattle.loc_traps.specs.declared.names.Kind.{Kind}
 use Rattle.loc_traps.specs.declared.names.Kind.TheVariants.{Lowest, Highest}

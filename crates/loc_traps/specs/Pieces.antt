@@ -1,14 +1,10 @@
 -- What an edge makes of the trapezoids that it cuts. The word:
 --   ArePieces              the new rows and the splits of a walk
 use Rattle.std.specs.Prelude.{◌≡◌, ℕ, ◌-◌, List, length}
-use Rattle.loc_spec_plane.specs.declared.Trap.{Trap}
-use Rattle.loc_spec_plane.specs.Tables.{Table, lo_of, hi_of}
+use Rattle.loc_spec_plane.specs.{declared.Trap.Trap, Tables.Table, Tables.lo_of, Tables.hi_of}
 use Rattle.loc_laws_traps.specs.Sets.{behind_left}
-use Rattle.loc_traps.specs.declared.walk.Start.{Start}
-use Rattle.loc_traps.specs.declared.walk.Cut.{Cut}
-use Rattle.loc_traps.specs.declared.map.Split.{Split}
-use Rattle.loc_traps.specs.Meaning.{MapMeaning, row_of}
-use Rattle.loc_traps.specs.Walks.{fresh_rows, IsWalk, IsNumbered}
+use Rattle.loc_traps.specs.{declared.walk.Start.Start, declared.walk.Cut.Cut, declared.map.Split.Split}
+use Rattle.loc_traps.specs.{Meaning.MapMeaning, Meaning.row_of, Walks.fresh_rows, Walks.IsWalk, Walks.IsNumbered}
 
 -- there is a walk of edge e from a row, of which these are the new rows and the splits
 pub record ArePieces (t : Table) (m : MapMeaning) (e from : ℕ) (fresh : List Trap) (splits : List Split) : Type 0 where

@@ -11,8 +11,7 @@ use Rattle.loc_spec_plane.specs.declared.Trap.{Trap}
 use Rattle.loc_spec_plane.specs.Points.{Point, before, is_above, is_below}
 use Rattle.loc_spec_plane.specs.Tables.{Table, corner, edge, lo_of, hi_of}
 use Rattle.loc_laws_traps.specs.Sets.{behind_left, before_right, is_cut, part_before, part_behind, is_over_piece, is_under_piece, is_inside}
-use Rattle.loc_traps.specs.declared.map.Split.{Split}
-use Rattle.loc_traps.specs.Meaning.{MapMeaning, row_of, live_of}
+use Rattle.loc_traps.specs.{declared.map.Split.Split, Meaning.MapMeaning, Meaning.row_of, Meaning.live_of}
 
 -- split number j
 abbrev pub split_of : List Split → ℕ → Split

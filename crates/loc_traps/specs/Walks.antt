@@ -7,16 +7,11 @@
 --   IsNumberedAt, IsNumbered       the splits of the cut rows
 use Rattle.std.specs.Prelude.{◌≡◌, ℕ, suc, ◌+◌, ◌-◌, ◌<◌, ◌≤◌, Bool, true, List, [], ◌∷◌, ◌++◌, length, get_or, map, Option, Some, None, if◌then◌else◌}
 use Rattle.std.specs.Bool.{then_some}
-use Rattle.loc_spec_plane.specs.declared.Trap.{Trap}
-use Rattle.loc_spec_plane.specs.Lists.{numbers}
-use Rattle.loc_spec_plane.specs.Tables.{Table, lo_of, hi_of}
+use Rattle.loc_spec_plane.specs.{declared.Trap.Trap, Lists.numbers, Tables.Table, Tables.lo_of, Tables.hi_of}
 use Rattle.loc_spec_plane.specs.Traps.{is_trap}
 use Rattle.loc_laws_traps.specs.Sets.{with_edge, behind_left, before_right, is_cut, part_before, part_behind, is_over_piece, is_under_piece}
-use Rattle.loc_traps.specs.declared.walk.Start.{Start}
-use Rattle.loc_traps.specs.declared.walk.Cut.{Cut}
-use Rattle.loc_traps.specs.declared.map.Split.{Split}
-use Rattle.loc_traps.specs.Meaning.{row_of, live_of, among}
-use Rattle.loc_traps.specs.Splits.{split_of}
+use Rattle.loc_traps.specs.{declared.walk.Start.Start, declared.walk.Cut.Cut, declared.map.Split.Split}
+use Rattle.loc_traps.specs.{Meaning.row_of, Meaning.live_of, Meaning.among, Splits.split_of}
 
 -- start number i
 abbrev pub start_of : List Start → ℕ → Start

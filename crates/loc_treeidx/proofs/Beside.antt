@@ -1,22 +1,17 @@
 -- What stands beside the end of a walk: the place of a new edge, and the neighbours of an edge of the list.
 use Rattle.std.proofs.Common.{◌≡◌, ℕ, suc, ◌-◌, ◌<◌, true, List, [], ◌∷◌, ◌++◌, length, take, drop, get_or, refl, sym, ◌∙◌, ap, subst, inl, inr, arith, Option, Some, None, slice_get}
-use Rattle.std.proofs.Math.Seq.{take-append_seam, drop-append_seam}
-use Rattle.std.proofs.lemmas.Bool.{cases_lt}
+use Rattle.std.proofs.{Math.Seq.take-append_seam, Math.Seq.drop-append_seam, lemmas.Bool.cases_lt}
 use Rattle.std.proofs.lemmas.Option.{slice_get-get_or}
-use Rattle.loc_pool.specs.declared.Link.{Link}
-use Rattle.loc_pool.specs.declared.Turn.{Turn}
+use Rattle.loc_pool.specs.{declared.Link.Link, declared.Turn.Turn}
 use Rattle.loc_rb.specs.Nodes.{Nodes}
 use Rattle.loc_spec_plane.specs.Tables.{Table, IsTable, edge, lo_of}
 use Rattle.loc_laws_order.proofs.TableOrder.{edge_up}
-use Rattle.loc_status.specs.declared.status.Beside.{Beside}
-use Rattle.loc_status.specs.declared.targets.Target.TheVariants.{Begin}
+use Rattle.loc_status.specs.{declared.status.Beside.Beside, declared.targets.Target.TheVariants.Begin}
 use Rattle.loc_status.specs.Lists.{is_chain_at, GoesAbove, GoesBelow, IsBeside, IsLast, IsNextBelow, IsNextAbove}
 use Rattle.loc_status.specs.Targets.{is_passed, IsSearchEnd}
-use Rattle.loc_status.proofs.Beginning.{begins_below}
-use Rattle.loc_status.proofs.Ends.{at_seam, next_below, next_above}
-use Rattle.loc_status.proofs.Standing.{is_place_for}
+use Rattle.loc_status.proofs.{Beginning.begins_below, Ends.at_seam, Ends.next_below, Ends.next_above}
+use Rattle.loc_status.proofs.{Standing.is_place_for, Lasts.last_there}
 use Rattle.loc_treeidx.specs.Gaps.{IsEnd}
-use Rattle.loc_status.proofs.Lasts.{last_there}
 use Rattle.loc_treeidx.proofs.Descents.{above_there, below_there}
 
 -- what stands beside an item between two parts of a list

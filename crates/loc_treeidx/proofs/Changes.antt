@@ -1,31 +1,22 @@
 -- What an insertion and a removal do to the list, and that there is room for a new edge.
 use Rattle.std.proofs.Common.{◌≡◌, ℕ, ◌<◌, true, false, List, [], ◌∷◌, length, map, get_or, sym, ap, subst, inl, inr, arith, Some}
-use Rattle.std.proofs.Math.Dec.{eqb}
+use Rattle.std.proofs.{Math.Dec.eqb, lemmas.List.Elements.All-get_or}
 use Rattle.std.specs.Prelude.{◌==◌}
 use Rattle.std.specs.List.{AllByRecursion, list_any, IsDistinct}
 use Rattle.std.proofs.lemmas.Bool.{both_ways, eq-eqb, eqb-true, ne_eqb, or_cases, or_parts}
-use Rattle.std.proofs.lemmas.List.Elements.{All-get_or}
 use Rattle.std.proofs.lemmas.Map.Keys.{IsDistinct-cons, IsDistinct-from_apart}
 use Rattle.std.proofs.lemmas.Map.Steps.{length-le_from_distinct_below}
 use Rattle.std.proofs.lemmas.Option.{slice_get-get_or, slice_get_within, get_or_from_slice_get}
-use Rattle.loc_pool.specs.declared.Link.{Link}
-use Rattle.loc_pool.specs.declared.Turn.{Turn}
+use Rattle.loc_pool.specs.{declared.Link.Link, declared.Turn.Turn}
 use Rattle.loc_persist.specs.Meaning.{VersionsMeaning, Inserts, Removes}
-use Rattle.loc_spec_plane.specs.Lists.{is_in}
-use Rattle.loc_spec_plane.specs.Points.{Point, same_edge}
-use Rattle.loc_spec_plane.specs.Tables.{Table, edge}
+use Rattle.loc_spec_plane.specs.{Lists.is_in, Points.Point, Points.same_edge, Tables.Table, Tables.edge}
 use Rattle.loc_spec_plane.specs.Places.{is_chain}
-use Rattle.loc_laws_order.proofs.ChainLaws.{chain_differ}
-use Rattle.loc_laws_order.proofs.ListLaws.{get-map}
-use Rattle.loc_laws_order.proofs.Tests.{same_edge_decides}
-use Rattle.loc_status.proofs.Ends.{member_place}
-use Rattle.loc_status.proofs.Standing.{chain_in_range}
-use Rattle.loc_status.specs.declared.status.Beside.{Beside}
-use Rattle.loc_status.specs.Lists.{IsBeside}
+use Rattle.loc_laws_order.proofs.{ChainLaws.chain_differ, ListLaws.get-map, Tests.same_edge_decides}
+use Rattle.loc_status.proofs.{Ends.member_place, Standing.chain_in_range}
+use Rattle.loc_status.specs.{declared.status.Beside.Beside, Lists.IsBeside}
 use Rattle.loc_status.specs.Meaning as status
 use Rattle.loc_place.proofs.ListCounts.{is_in_member}
-use Rattle.loc_treeidx.specs.Gaps.{IsPlaceFor, IsNode}
-use Rattle.loc_treeidx.specs.Meaning.{meaning_of}
+use Rattle.loc_treeidx.specs.{Gaps.IsPlaceFor, Gaps.IsNode, Meaning.meaning_of}
 use Rattle.loc_treeidx.proofs.Beside.{beside_seam}
 
 -- what stands beside the place of an edge stands beside it then

@@ -1,31 +1,23 @@
 -- The walk down the present tree to the place of a target, step by step.
 use Rattle.std.proofs.Common.{◌≡◌, ℕ, ◌-◌, ◌<◌, Bool, true, false, List, [], ◌∷◌, ◌++◌, length, refl, sym, ap, ◌∙◌, subst, arith, Option, Some, None, append_assoc, slice_get}
-use Rattle.std.specs.Prelude.{IfSome}
-use Rattle.std.specs.List.{All}
-use Rattle.std.proofs.lemmas.List.{length-append}
-use Rattle.std.proofs.lemmas.List.Elements.{All-get_or}
+use Rattle.std.specs.{Prelude.IfSome, List.All}
+use Rattle.std.proofs.{lemmas.List.length-append, lemmas.List.Elements.All-get_or}
 use Rattle.std.proofs.lemmas.Option.{slice_get_within, get_or_from_slice_get}
-use Rattle.loc_pool.specs.declared.Link.{Link}
-use Rattle.loc_pool.specs.declared.Turn.{Turn}
-use Rattle.loc_pool.specs.declared.Turn.TheVariants.{Left, Right}
-use Rattle.loc_pool.specs.declared.Colour.{Colour}
+use Rattle.loc_pool.specs.{declared.Link.Link, declared.Turn.Turn}
+use Rattle.loc_pool.specs.{declared.Turn.TheVariants.Left, declared.Turn.TheVariants.Right, declared.Colour.Colour}
 use Rattle.loc_pool.specs.Maps.{has}
 use Rattle.loc_pool.specs.Rows as pool
 use Rattle.loc_rb.specs.Trees.{Row, Tree, leaf, node, items, Fits, plug, before, after, child_of}
-use Rattle.loc_rb.specs.Nodes.{Nodes, live}
-use Rattle.loc_rb.specs.Balance.{IsRedBlack}
+use Rattle.loc_rb.specs.{Nodes.Nodes, Nodes.live, Balance.IsRedBlack}
 use Rattle.loc_rb.specs.Places.{Spot, Holds, Walk, LeadsTo}
 use Rattle.loc_rb.proofs.Trees.{fits-end, plug-snoc, items-plug}
-use Rattle.loc_rb.proofs.OneChange.{frame_of, live-rows, pushed}
-use Rattle.loc_rb.proofs.ReadCalls.{child-is}
+use Rattle.loc_rb.proofs.{OneChange.frame_of, OneChange.live-rows, OneChange.pushed, ReadCalls.child-is}
 use Rattle.loc_rb.proofs.Descent.{no-tree, sided, sided-fits, before-left, after-left, before-right, after-right}
 use Rattle.loc_rb.proofs.Walks.{walk-node, walk-row, walk-short}
 use Rattle.loc_persist.specs.Meaning.{VersionsMeaning, IsMeaning, present_nodes}
 use Rattle.loc_persist.proofs.Trees.{present-row, present-child, present-item}
-use Rattle.loc_status.specs.Targets.{IsSearchEnd}
-use Rattle.loc_status.proofs.Ends.{at_seam}
-use Rattle.loc_status.specs.Lists.{IsLast}
-use Rattle.loc_status.proofs.Lasts.{last-snoc, last_there, search_end}
+use Rattle.loc_status.specs.{Targets.IsSearchEnd, Lists.IsLast}
+use Rattle.loc_status.proofs.{Ends.at_seam, Lasts.last-snoc, Lasts.last_there, Lasts.search_end}
 use Rattle.loc_treeidx.specs.Gaps.{IsDescent, IsEnd}
 
 -- the item that is read at a node is that of its tree

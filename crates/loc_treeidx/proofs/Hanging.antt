@@ -1,16 +1,13 @@
 -- What hangs in the present tree between two items, on a walk down that keeps no path.
 use Rattle.std.proofs.Common.{◌≡◌, ℕ, ◌<◌, true, [], ◌∷◌, ◌++◌, length, refl, subst, Option, Some, None}
-use Rattle.loc_pool.specs.declared.Link.{Link}
-use Rattle.loc_pool.specs.declared.Turn.{Turn}
-use Rattle.loc_pool.specs.declared.Turn.TheVariants.{Left, Right}
-use Rattle.loc_pool.specs.Maps.{has}
+use Rattle.loc_pool.specs.{declared.Link.Link, declared.Turn.Turn}
+use Rattle.loc_pool.specs.{declared.Turn.TheVariants.Left, declared.Turn.TheVariants.Right, Maps.has}
 use Rattle.loc_pool.specs.Rows as pool
 use Rattle.loc_persist.specs.Meaning.{VersionsMeaning, IsMeaning, present_nodes}
 use Rattle.loc_status.specs.Lists.{IsNextBelow, IsNextAbove}
 use Rattle.loc_treeidx.specs.Gaps.{IsDescent, IsEnd, HangsBetween}
-use Rattle.loc_treeidx.proofs.Beside.{above_found, below_found}
+use Rattle.loc_treeidx.proofs.{Beside.above_found, Beside.below_found, Heights.height, Heights.here_lower}
 use Rattle.loc_treeidx.proofs.Descents.{descent-end, here_row, here_left, here_right}
-use Rattle.loc_treeidx.proofs.Heights.{height, here_lower}
 
 module _ (m : VersionsMeaning) (next : Option Link) (at : Link) (lower upper : Option ℕ) (h : HangsBetween m next lower upper) (is : next ≡ Some at) where
   -- the node has a row

@@ -1,14 +1,10 @@
 -- How far it is down from a node of the present tree: what falls on a walk that keeps no path.
 use Rattle.std.proofs.Common.{◌≡◌, ℕ, zero, suc, ◌+◌, ◌<◌, ◌≤◌, List, length, refl, ap, ◌∙◌, sym, arith, Option, Some, None, max}
-use Rattle.loc_pool.specs.declared.Link.{Link}
-use Rattle.loc_pool.specs.declared.Turn.{Turn}
+use Rattle.loc_pool.specs.{declared.Link.Link, declared.Turn.Turn}
 use Rattle.loc_pool.specs.Rows as pool
 use Rattle.loc_rb.specs.Trees.{Row, Tree, leaf, node, top, Fits, plug}
-use Rattle.loc_rb.specs.Nodes.{Nodes, live}
-use Rattle.loc_rb.specs.Balance.{depth}
-use Rattle.loc_rb.proofs.Trees.{fits-end}
-use Rattle.loc_rb.proofs.Descent.{at-most-42, depth-plug}
-use Rattle.loc_rb.proofs.Walks.{child-tree}
+use Rattle.loc_rb.specs.{Nodes.Nodes, Nodes.live, Balance.depth}
+use Rattle.loc_rb.proofs.{Trees.fits-end, Descent.at-most-42, Descent.depth-plug, Walks.child-tree}
 use Rattle.loc_persist.specs.Meaning.{VersionsMeaning, IsMeaning, present_nodes}
 use Rattle.loc_persist.proofs.Trees.{present-child}
 use Rattle.loc_treeidx.specs.Gaps.{IsDescent}

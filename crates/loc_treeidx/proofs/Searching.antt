@@ -1,31 +1,23 @@
 -- The walk of a point down the tree of a version.
 use Rattle.std.proofs.Common.{◌≡◌, ℕ, ◌+◌, ◌-◌, ◌*◌, ◌^◌, ◌<◌, ◌≤◌, true, List, [], ◌∷◌, ◌++◌, length, get_or, refl, sym, ap, ◌∙◌, subst, arith, Option, Some, None, append_assoc, append-nil, slice_get}
 use Rattle.std.specs.Prelude.{IfSome}
-use Rattle.std.proofs.Math.Pow.{pow_mono}
-use Rattle.std.proofs.lemmas.Bool.{and_from, lt-ltb}
+use Rattle.std.proofs.{Math.Pow.pow_mono, lemmas.Bool.and_from, lemmas.Bool.lt-ltb}
 use Rattle.std.proofs.lemmas.List.{length-append, get_or-append-add}
 use Rattle.std.proofs.lemmas.Option.{slice_get_within, get_or_from_slice_get}
-use Rattle.loc_pool.specs.declared.Link.{Link}
-use Rattle.loc_pool.specs.declared.Turn.TheVariants.{Left, Right}
-use Rattle.loc_pool.specs.declared.Colour.{Colour}
-use Rattle.loc_pool.specs.Maps.{Map, has}
-use Rattle.loc_pool.specs.Rows.{Row, row, child_at}
+use Rattle.loc_pool.specs.{declared.Link.Link, declared.Turn.TheVariants.Left, declared.Turn.TheVariants.Right}
+use Rattle.loc_pool.specs.{declared.Colour.Colour, Maps.Map, Maps.has, Rows.Row, Rows.row, Rows.child_at}
 use Rattle.loc_rb.specs.Trees.{Tree, leaf, node, top, items}
 use Rattle.loc_rb.specs.Balance.{depth}
-use Rattle.loc_rb.proofs.OneChange.{some-link}
-use Rattle.loc_rb.proofs.Descent.{no-tree}
-use Rattle.loc_persist.specs.Reading.{IsThere}
-use Rattle.loc_persist.specs.Meaning.{VersionsMeaning, Reads}
+use Rattle.loc_rb.proofs.{OneChange.some-link, Descent.no-tree}
+use Rattle.loc_persist.specs.{Reading.IsThere, Meaning.VersionsMeaning, Meaning.Reads}
 use Rattle.loc_spec_plane.specs.declared.Place.TheVariants.{Border, Area}
 use Rattle.loc_spec_plane.specs.Points.{Point, is_above, is_on, is_below, lies_on}
 use Rattle.loc_spec_plane.specs.Tables.{Table, edge}
 use Rattle.loc_spec_plane.specs.Places.{alive, is_edge, IsCornerless, IsListAt, IsPlace}
 use Rattle.loc_place.specs.Planar.{IsPlanar}
-use Rattle.loc_place.proofs.Cornerless.{lies_on_is}
-use Rattle.loc_place.proofs.Listed.{listed_alive, in_area}
-use Rattle.loc_status.proofs.Ends.{at_seam}
+use Rattle.loc_place.proofs.{Cornerless.lies_on_is, Listed.listed_alive, Listed.in_area}
+use Rattle.loc_status.proofs.{Ends.at_seam, Lasts.last-snoc, Lasts.last-passes, Lasts.last_there}
 use Rattle.loc_status.specs.Lists.{IsLast}
-use Rattle.loc_status.proofs.Lasts.{last-snoc, last-passes, last_there}
 
 -- a node of a tree that stands in a version, with the trees of its children
 pub record NodeThere (version : ℕ) (rows : Map Row) (tree : Tree) (at : Link) : Type 0 where

@@ -3,9 +3,7 @@ use Rattle.std.proofs.Common.{◌≡◌, ℕ, suc, ◌-◌, ◌<◌, [], ◌∷�
 use Rattle.loc_persist.specs.Meaning.{VersionsMeaning}
 use Rattle.loc_place.specs.Standing.{IsBehind}
 use Rattle.loc_place.proofs.Versions.{version_there}
-use Rattle.loc_spec_plane.specs.Points.{Point}
-use Rattle.loc_spec_plane.specs.Tables.{Table}
-use Rattle.loc_spec_plane.specs.Places.{IsListAt}
+use Rattle.loc_spec_plane.specs.{Points.Point, Tables.Table, Places.IsListAt}
 use Rattle.loc_treeidx.specs.Standing.{AreVersionsOf}
 
 -- the version of the last corner before a point is the list there

@@ -1,21 +1,17 @@
 -- The end of a walk down the present tree: at a missing child, or at the node of the edge where it stops.
 use Rattle.std.proofs.Common.{◌≡◌, ℕ, ◌-◌, ◌<◌, Bool, true, List, length, refl, ◌∙◌, subst, Option, Some, None}
 use Rattle.std.specs.Prelude.{IfSome}
-use Rattle.loc_pool.specs.declared.Link.{Link}
-use Rattle.loc_pool.specs.declared.Turn.{Turn}
+use Rattle.loc_pool.specs.{declared.Link.Link, declared.Turn.Turn}
 use Rattle.loc_pool.specs.Rows as pool
 use Rattle.loc_persist.specs.Meaning.{VersionsMeaning, present_nodes}
 use Rattle.loc_spec_plane.specs.Lists.{is_in}
 use Rattle.loc_spec_plane.specs.Tables.{Table, IsTable, edge, lo_of, hi_of}
 use Rattle.loc_status.specs.declared.targets.Target.TheVariants.{Begin, End}
-use Rattle.loc_status.specs.Lists.{is_chain_at}
-use Rattle.loc_status.specs.Targets.{is_passed, IsSearchEnd}
-use Rattle.loc_status.proofs.Beginning.{begins_below}
-use Rattle.loc_status.proofs.Standing.{found_by_end}
+use Rattle.loc_status.specs.{Lists.is_chain_at, Targets.is_passed, Targets.IsSearchEnd}
+use Rattle.loc_status.proofs.{Beginning.begins_below, Standing.found_by_end}
 use Rattle.loc_treeidx.specs.declared.walk.Way.{Way}
 use Rattle.loc_treeidx.specs.Gaps.{IsDescent, IsEnd, IsPlaceFor, IsWay}
-use Rattle.loc_treeidx.proofs.Beside.{place_at}
-use Rattle.loc_treeidx.proofs.Descents.{above_there, descent-end, search_there}
+use Rattle.loc_treeidx.proofs.{Beside.place_at, Descents.above_there, Descents.descent-end, Descents.search_there}
 
 -- a walk with no edge to stop at ends at a missing child
 pub never_stops : (m : VersionsMeaning) (next : Option Link) → IfSome next (λ at. None ≡ Some (pool.row m.rows at).item) → next ≡ None

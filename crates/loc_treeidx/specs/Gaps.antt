@@ -1,14 +1,10 @@
 -- Where a walk down the present tree has come, and where it ends: `IsDescent`, `HangsBetween`, `IsWay`, `IsEnd`, `IsPlaceFor` and `IsNode`.
 use Rattle.std.specs.Prelude.{◌≡◌, ◌≢◌, ℕ, Bool, true, false, List, ◌∷◌, ◌++◌, Option, Some, IfSome, slice_get}
-use Rattle.loc_pool.specs.declared.Link.{Link}
-use Rattle.loc_pool.specs.declared.Turn.{Turn}
-use Rattle.loc_rb.specs.Trees.{before, after}
-use Rattle.loc_rb.specs.Nodes.{Nodes}
-use Rattle.loc_rb.specs.Places.{LeadsToGap, LeadsTo, Walk}
+use Rattle.loc_pool.specs.{declared.Link.Link, declared.Turn.Turn}
+use Rattle.loc_rb.specs.{Trees.before, Trees.after, Nodes.Nodes, Places.LeadsToGap, Places.LeadsTo, Places.Walk}
 use Rattle.loc_persist.specs.Meaning.{VersionsMeaning, present_nodes}
 use Rattle.loc_spec_plane.specs.Tables.{Table}
-use Rattle.loc_status.specs.declared.status.Beside.{Beside}
-use Rattle.loc_status.specs.Lists.{GoesAbove, GoesBelow, IsLast}
+use Rattle.loc_status.specs.{declared.status.Beside.Beside, Lists.GoesAbove, Lists.GoesBelow, Lists.IsLast}
 use Rattle.loc_treeidx.specs.declared.walk.Way.{Way}
 
 -- a walk down the tree that has these items, with the items just below and just above what hangs at its end

@@ -1,10 +1,7 @@
 -- The texts of rectangles and of points, as they are read.
 use Rattle.std.proofs.Common.{◌≡◌, ℕ, ◌+◌, ◌*◌, ◌%◌, ◌^◌, ◌<◌, ◌≤◌, ◌&&◌, true, List, [], ◌∷◌, ◌++◌, length, append_assoc, append-nil, length-append, Some, Ok, refl, sym, ◌∙◌, ap, ap₂, arith}
-use Rattle.std.specs.Prelude.{codes, pos, option_and_then}
-use Rattle.std.specs.Fmt.{decimal}
-use Rattle.std.proofs.lemmas.Bool.{le-leb}
-use Rattle.std.proofs.lemmas.Fmt.{length-decimal-le}
-use Rattle.std.proofs.lemmas.Nat.{mod_below}
+use Rattle.std.specs.{Prelude.codes, Prelude.pos, Prelude.option_and_then, Fmt.decimal}
+use Rattle.std.proofs.{lemmas.Bool.le-leb, lemmas.Fmt.length-decimal-le, lemmas.Nat.mod_below}
 use Rattle.loc_spec_plane.specs.Points.{point_at}
 use Rattle.loc_spec_text.specs.Geometry.{Symbol, number, comma, open_mark, close_mark, word, symbols}
 use Rattle.loc_spec_text.specs.Points.{is_grid_number, point_of, point_on_grid, point_texts}

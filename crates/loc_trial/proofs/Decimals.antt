@@ -1,18 +1,14 @@
 -- A number in decimal, as it is read: digits, which are one symbol of a text, and the number itself.
 use Rattle.std.proofs.Common.{◌≡◌, ℕ, ◌*◌, ◌^◌, ◌<◌, ◌≤◌, ◌||◌, ◌&&◌, true, false, not, List, [], ◌∷◌, ◌++◌, length, append-nil, refl, ◌∙◌, ap, ap₂, arith, nat_le}
 use Rattle.std.specs.Prelude.{◌==◌, codes, pos, if◌then◌else◌}
-use Rattle.std.specs.Char.{is_ascii_digit, is_ascii_alphabetic}
-use Rattle.std.specs.Fmt.{decimal}
+use Rattle.std.specs.{Char.is_ascii_digit, Char.is_ascii_alphabetic, Fmt.decimal, Str.Parse.digits_value}
 use Rattle.std.specs.List.{list_all, list_any, before_first, after_first}
-use Rattle.std.specs.Str.Parse.{digits_value}
 use Rattle.std.proofs.lemmas.Bool.{and_parts, ne_eqb, le-leb, lt-leb}
 use Rattle.std.proofs.lemmas.Fmt.{decimal_is_IsNumeral}
 use Rattle.loc_spec_text.specs.Geometry.{number, symbols, symbol_of, ends_symbol}
 use Rattle.loc_spec_text.specs.Number.{are_digits, exponent, fraction_digits, grid_value, has_exponent, is_exponent_mark, is_in_range as is_within, is_negative, is_number, is_on_grid, is_point, lowered, magnitude, raised, significand, unsigned, whole_digits}
-use Rattle.loc_spec_text.proofs.NumberLaws.{on_grid}
-use Rattle.loc_spec_text.proofs.SymbolLaws.{run_first}
+use Rattle.loc_spec_text.proofs.{NumberLaws.on_grid, SymbolLaws.run_first, CutLaws.none_of, CutLaws.uncut}
 use Rattle.loc_spec_text.proofs.DigitLaws.{digit_range, decimal_digits, no_mark, no_point, no_sign, not_byte, plain_digits}
-use Rattle.loc_spec_text.proofs.CutLaws.{none_of, uncut}
 use Rattle.loc_wkt.proofs.SymbolLemmas.{not_that}
 
 pub decimal_some : (n : ℕ) → n < 2 ^ 64 → 0 < length (decimal n)

@@ -1,16 +1,12 @@
 -- What comes of feeding all points to a fresh batch at once, where no line is given up and no write fails.
 use Rattle.std.proofs.Common.{◌≡◌, ℕ, ◌-◌, ◌≤◌, List, [], ◌∷◌, ◌++◌, length, take, take_all, Option, None, Result, Ok, Err, refl, sym, ◌∙◌, ap, ap₂, subst, arith}
 use Rattle.loc_io.specs.Streams.{Stream}
-use Rattle.loc_spec_plane.specs.Points.{Point}
-use Rattle.loc_spec_plane.specs.declared.Place.{Place}
-use Rattle.loc_spec_text.specs.Answered.{answered, with_answer}
-use Rattle.loc_spec_text.specs.Bytes.{ended_lines}
+use Rattle.loc_spec_plane.specs.{Points.Point, declared.Place.Place}
+use Rattle.loc_spec_text.specs.{Answered.answered, Answered.with_answer, Bytes.ended_lines}
 use Rattle.loc_place.specs.declared.locator.Deep.{Deep}
 use Rattle.loc_cover.specs.Legends.{LegendRows}
-use Rattle.loc_batch.specs.Answering.{answer_by}
-use Rattle.loc_batch.specs.Faces.{unnumbered}
+use Rattle.loc_batch.specs.{Answering.answer_by, Faces.unnumbered, Streams.tally_of}
 use Rattle.loc_batch.specs.Batches.{Answering, BatchState, FaultFirst, Feeds, FeedsBy, IsFresh, lines_ended, no_tally, refusal_of}
-use Rattle.loc_batch.specs.Streams.{tally_of}
 use Rattle.loc_batch.specs.Told.{Telling, told_by, told_place, told_result, told_tally}
 use Rattle.loc_batch.proofs.Telling.{told_answers, told_places, told_tallies}
 use Rattle.loc_batch.specs.declared.faults.FeedFault.{FeedFault}

@@ -3,12 +3,9 @@ use Rattle.std.proofs.Common.{◌≡◌, ℕ, ◌≤◌, List, [], ◌++◌, Opt
 use Rattle.std.specs.Io.KnownBytes.{Appends}
 use Rattle.loc_spec_text.specs.declared.Form.TheVariants.{Lines}
 use Rattle.loc_rings.specs.Values.{Feature}
-use Rattle.loc_csvform.specs.Layer.{layer_of}
-use Rattle.loc_csvform.specs.Faults.{IsFaultOf}
-use Rattle.loc_csvform.specs.declared.faults.LayerFault.{LayerFault}
+use Rattle.loc_csvform.specs.{Layer.layer_of, Faults.IsFaultOf, declared.faults.LayerFault.LayerFault}
 use Rattle.loc_csvform.specs.declared.faults.LayerFault.TheVariants as f
-use Rattle.loc_gen.specs.declared.kinds.Kind.{Kind}
-use Rattle.loc_gen.specs.Layers.{layer_text, limit_of}
+use Rattle.loc_gen.specs.{declared.kinds.Kind.Kind, Layers.layer_text, Layers.limit_of}
 use Rattle.loc_trial.specs.Generated.{generated}
 use Rattle.loc_trial.proofs.LayerTexts.{layer_read}
 

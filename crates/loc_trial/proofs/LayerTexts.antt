@@ -1,22 +1,16 @@
 -- The text of a generated layer, line by line.
 use Rattle.std.proofs.Common.{◌≡◌, ℕ, zero, suc, ◌+◌, ◌*◌, ◌^◌, ◌<◌, ◌≤◌, true, false, List, [], ◌∷◌, ◌++◌, length, map, filter, append_assoc, append-nil, length-append, Ok, refl, sym, ◌∙◌, ap, arith}
 use Rattle.std.specs.Prelude.{◌==◌, codes, nat_le, nat_lt}
-use Rattle.std.specs.Char.{is_ascii_digit}
-use Rattle.std.specs.Fmt.{decimal}
+use Rattle.std.specs.{Char.is_ascii_digit, Fmt.decimal}
 use Rattle.std.specs.List.{AllByRecursion, enumerate_from, flat_map, list_all, range_with_len}
 use Rattle.std.proofs.lemmas.Bool.{and_parts, false_from_ne_true, lt-leb, ne_eqb}
-use Rattle.std.proofs.lemmas.Bool.Decides.{Decides-ltb}
-use Rattle.std.proofs.lemmas.List.Sums.{sum_by_push}
+use Rattle.std.proofs.{lemmas.Bool.Decides.Decides-ltb, lemmas.List.Sums.sum_by_push}
 use Rattle.std.proofs.lemmas.Nat.{mod_below, mul-le}
 use Rattle.csv.specs.Reading.{strip_bom}
 use Rattle.loc_spec_plane.specs.Lists.{numbers}
-use Rattle.loc_spec_text.specs.Bytes.{lines, result_and_then}
-use Rattle.loc_spec_text.specs.Reading.{reading}
-use Rattle.loc_spec_text.specs.declared.Form.TheVariants.{Lines}
-use Rattle.loc_spec_text.proofs.LineLaws.{lines-cons}
-use Rattle.loc_spec_text.proofs.DigitLaws.{decimal_digits}
-use Rattle.loc_rings.specs.Values.{Feature}
-use Rattle.loc_rings.specs.Layers.{point_count, layer_points}
+use Rattle.loc_spec_text.specs.{Bytes.lines, Bytes.result_and_then, Reading.reading, declared.Form.TheVariants.Lines}
+use Rattle.loc_spec_text.proofs.{LineLaws.lines-cons, DigitLaws.decimal_digits}
+use Rattle.loc_rings.specs.{Values.Feature, Layers.point_count, Layers.layer_points}
 use Rattle.loc_csvform.specs.Layer.{Row, RowRead, features_from, is_row_line, layer_of, line_row, with_row}
 use Rattle.loc_gen.specs.declared.kinds.Kind.{Kind}
 use Rattle.loc_gen.specs.declared.kinds.Kind.TheVariants.{Grid, Nest, Strips}

@@ -1,25 +1,20 @@
 -- The courses of the commands on generated layers: what they come to, that they write at once and make no file, and their steps.
 use Rattle.std.proofs.Common.{◌≡◌, ℕ, ◌*◌, ◌<◌, ◌≤◌, Bool, ap, arith}
 use Rattle.std.specs.Prelude.{nat_lt}
-use Rattle.std.proofs.lemmas.Bool.{cond-true, cond_both}
-use Rattle.std.proofs.lemmas.Bool.Decides.{Decides-ltb}
-use Rattle.loc_spec_text.specs.Bytes.{Text}
+use Rattle.std.proofs.{lemmas.Bool.cond-true, lemmas.Bool.cond_both, lemmas.Bool.Decides.Decides-ltb}
+use Rattle.loc_spec_text.specs.{Bytes.Text, Points.ended}
 use Rattle.loc_io.specs.Meaning.{Told}
 use Rattle.loc_spec_asked.specs.declared.Index.{Index}
-use Rattle.loc_spec_text.specs.Points.{ended}
-use Rattle.loc_gen.specs.declared.kinds.Kind.{Kind}
-use Rattle.loc_gen.specs.Layers.{layer_text, limit_of}
+use Rattle.loc_gen.specs.{declared.kinds.Kind.Kind, Layers.layer_text, Layers.limit_of}
 use Rattle.loc_course.specs.Courses.{Course, refuses, writes}
 use Rattle.loc_course.specs.Outcomes.{exactly, outcome, output, refusal}
 use Rattle.loc_course.specs.Sentences.{IsPlain, SearchesNothing, WithinSteps}
 use Rattle.loc_course.proofs.Plain.{plain_refuses, plain_searches, plain_writes}
-use Rattle.loc_maps.specs.Located.{table_in}
-use Rattle.loc_maps.specs.MapCourses.{accepted_course, pieces_course}
+use Rattle.loc_maps.specs.{Located.table_in, MapCourses.accepted_course, MapCourses.pieces_course}
 use Rattle.loc_maps.proofs.Judged.{accepted_all, pieces_all}
 use Rattle.loc_query.specs.QueryCourses.{steps_by}
-use Rattle.loc_trial.specs.Generated.{generated}
+use Rattle.loc_trial.specs.{Generated.generated, Trials.is_trial_line}
 use Rattle.loc_trial.specs.TrialCourses.{gen_course, past_text, sized_course, trial_course, tried_course}
-use Rattle.loc_trial.specs.Trials.{is_trial_line}
 use Rattle.loc_trial.proofs.Sized.{on_within}
 
 -- what holds of refusals and behind a size holds of the course that judges it

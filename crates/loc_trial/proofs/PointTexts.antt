@@ -1,19 +1,15 @@
 -- The points of a generated layer as a text of lines.
 use Rattle.std.proofs.Common.{◌≡◌, ℕ, zero, suc, ◌+◌, ◌*◌, ◌%◌, ◌<◌, ◌≤◌, List, [], ◌∷◌, ◌++◌, length, map, append_assoc, append-nil, length-append, refl, ◌∙◌, ap, arith}
-use Rattle.std.specs.Fmt.{decimal}
-use Rattle.std.specs.List.{flat_map, range_with_len}
-use Rattle.std.proofs.lemmas.List.Concat.{flat_map-append}
-use Rattle.std.proofs.lemmas.Nat.{mod_below}
+use Rattle.std.specs.{Fmt.decimal, List.flat_map, List.range_with_len}
+use Rattle.std.proofs.{lemmas.List.Concat.flat_map-append, lemmas.Nat.mod_below}
 use Rattle.loc_spec_plane.specs.Lists.{numbers}
-use Rattle.loc_spec_text.specs.Bytes.{ended_lines}
-use Rattle.loc_spec_text.specs.Points.{ended}
+use Rattle.loc_spec_text.specs.{Bytes.ended_lines, Points.ended}
 use Rattle.loc_laws_order.proofs.Kept.{range_more}
 use Rattle.loc_batch.specs.Kept.{IsUnbroken}
 use Rattle.loc_batch.proofs.Cutting.{split_cons, unbroken_both}
 use Rattle.loc_gen.specs.Layers.{start_of}
 use Rattle.loc_trial.specs.Generated.{point_line, points_text}
-use Rattle.loc_trial.proofs.Corners.{decimal_short}
-use Rattle.loc_trial.proofs.LayerTexts.{decimal_unbroken}
+use Rattle.loc_trial.proofs.{Corners.decimal_short, LayerTexts.decimal_unbroken}
 
 -- the lines of one number more
 pub one_more : (line : ℕ → List ℕ) (t : ℕ) → flat_map line (range_with_len 0 (t + 1)) ≡ flat_map line (range_with_len 0 t) ++ line t

@@ -3,12 +3,9 @@ use Rattle.std.proofs.Common.{◌≡◌, ℕ, ◌<◌, ◌≤◌, Option, Some, 
 use Rattle.std.specs.Prelude.{IfErr, nat_lt}
 use Rattle.std.proofs.lemmas.Bool.{cases_lt, cond-true, cond-false, false_from_ne_true}
 use Rattle.std.proofs.lemmas.Bool.Decides.{Decides-ltb}
-use Rattle.loc_spec_text.specs.Bytes.{Text}
-use Rattle.loc_io.specs.Meaning.{Meaning}
-use Rattle.loc_io.specs.Streams.{Stream}
-use Rattle.loc_spec_text.specs.Points.{ended}
-use Rattle.loc_gen.specs.declared.kinds.Kind.{Kind}
-use Rattle.loc_gen.specs.Layers.{layer_text, limit_of}
+use Rattle.loc_spec_text.specs.{Bytes.Text, Points.ended}
+use Rattle.loc_io.specs.{Meaning.Meaning, Streams.Stream}
+use Rattle.loc_gen.specs.{declared.kinds.Kind.Kind, Layers.layer_text, Layers.limit_of}
 use Rattle.loc_gen.specs.declared.layers.GenFault.{GenFault}
 use Rattle.loc_gen.specs.declared.layers.GenFault.TheVariants.{TooMany, WriteFault}
 use Rattle.loc_course.specs.Courses.{Course, refuses, writes, Stopped, refused}

@@ -1,12 +1,9 @@
 -- The counts of a tally are those of its answers.
 use Rattle.std.proofs.Common.{◌≡◌, ℕ, zero, suc, ◌+◌, ◌-◌, ◌*◌, ◌^◌, ◌≤◌, Bool, true, false, cond, List, [], ◌∷◌, length, map, refl, sym, ◌∙◌, arith}
-use Rattle.std.specs.Prelude.{min}
-use Rattle.std.specs.List.{count_by, range_with_len, sum_by}
+use Rattle.std.specs.{Prelude.min, List.count_by, List.range_with_len, List.sum_by}
 use Rattle.std.proofs.lemmas.List.Sums.{length-filter, sum_by-cons}
 use Rattle.loc_spec_text.specs.Points.{Answer, on_corner, on_border, in_face, no_point}
-use Rattle.loc_batch.specs.Batches.{no_tally}
-use Rattle.loc_batch.specs.Streams.{tally_of, with_one}
-use Rattle.loc_batch.specs.declared.tally.Tally.{Tally}
+use Rattle.loc_batch.specs.{Batches.no_tally, Streams.tally_of, Streams.with_one, declared.tally.Tally.Tally}
 use Rattle.loc_trial.specs.Trials.{counts_text, covering_ids, is_border, is_corner, is_face, tally_text, touching_ids}
 
 -- a count of a tally to which each answer adds its weight, up to the last value

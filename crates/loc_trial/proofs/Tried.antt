@@ -1,50 +1,31 @@
 -- The points of a generated layer, asked of a locator that finds their places.
 use Rattle.std.proofs.Common.{◌≡◌, ℕ, zero, suc, ◌+◌, ◌*◌, ◌<◌, ◌≤◌, Bool, true, false, cond, List, [], ◌∷◌, ◌++◌, length, map, filter, Option, None, Some, Ok, refl, sym, ◌∙◌, ap, ap₂, subst, arith}
-use Rattle.std.specs.Prelude.{IsTrue}
-use Rattle.std.specs.List.{range_with_len}
-use Rattle.std.proofs.Math.Path.{fun_ext}
-use Rattle.std.proofs.lemmas.Nat.{mul-le}
-use Rattle.std.proofs.lemmas.List.FromFn.{length-map-range_with_len}
-use Rattle.loc_spec_text.specs.Bytes.{Text}
+use Rattle.std.specs.{Prelude.IsTrue, List.range_with_len}
+use Rattle.std.proofs.{Math.Path.fun_ext, lemmas.Nat.mul-le, lemmas.List.FromFn.length-map-range_with_len}
+use Rattle.loc_spec_text.specs.{Bytes.Text, Answered.answered}
 use Rattle.loc_spec_asked.specs.declared.Index.{Index}
 use Rattle.loc_spec_plane.specs.declared.Place.{Place}
 use Rattle.loc_spec_plane.specs.declared.Place.TheVariants.{Corner, Border, Area}
-use Rattle.loc_spec_plane.specs.Lists.{numbers}
-use Rattle.loc_spec_plane.specs.Points.{Point}
-use Rattle.loc_spec_plane.specs.Rings.{Rings, covers, touches}
-use Rattle.loc_spec_plane.specs.Tables.{Table}
-use Rattle.loc_spec_text.specs.Answered.{answered}
+use Rattle.loc_spec_plane.specs.{Lists.numbers, Points.Point, Rings.Rings, Rings.covers, Rings.touches, Tables.Table}
 use Rattle.loc_spec_text.specs.Points.{Answer, answer_to, ended, point_of}
 use Rattle.loc_rings.specs.Values.{Feature, rings_of}
-use Rattle.loc_place.specs.Found.{place_at}
-use Rattle.loc_place.specs.declared.locator.Deep.{Deep}
+use Rattle.loc_place.specs.{Found.place_at, declared.locator.Deep.Deep}
 use Rattle.loc_cover.specs.Legends.{IsSound, LegendRows}
-use Rattle.loc_batch.specs.Answering.{answer_by}
-use Rattle.loc_batch.specs.Batches.{no_tally}
-use Rattle.loc_batch.specs.Faces.{unnumbered}
-use Rattle.loc_batch.specs.Streams.{tally_of}
-use Rattle.loc_gen.specs.declared.kinds.Kind.{Kind}
-use Rattle.loc_gen.specs.Layers.{point_number}
-use Rattle.loc_course.specs.Courses.{Stopped, searches, writes}
+use Rattle.loc_batch.specs.{Answering.answer_by, Batches.no_tally, Faces.unnumbered, Streams.tally_of}
+use Rattle.loc_gen.specs.{declared.kinds.Kind.Kind, Layers.point_number}
+use Rattle.loc_course.specs.{Courses.Stopped, Courses.searches, Courses.writes, Outcomes.exactly}
 use Rattle.loc_course.specs.Following.{Follows, Moment, lacks, searches_by, writes_by}
-use Rattle.loc_course.specs.Outcomes.{exactly}
 use Rattle.loc_course.proofs.Told.{exactly_it, it_exactly}
 use Rattle.loc_cover.proofs.Gathered.{any_range}
-use Rattle.loc_maps.specs.Located.{table_in}
-use Rattle.loc_maps.specs.Maps.{IsMapOf}
+use Rattle.loc_maps.specs.{Located.table_in, Maps.IsMapOf}
 use Rattle.loc_faces.specs.Subdivision.{shown_at}
-use Rattle.loc_query.specs.Chosen.{HasFewNodes, index_of, nodes_of}
-use Rattle.loc_query.specs.declared.chosen.Chosen.{Chosen}
+use Rattle.loc_query.specs.{Chosen.HasFewNodes, Chosen.index_of, Chosen.nodes_of, declared.chosen.Chosen.Chosen}
 use Rattle.loc_query.specs.declared.chosen.Chosen.TheVariants.{Scan, Tree, Trap}
-use Rattle.loc_query.specs.Answered.{answer_at, ids_where, located}
-use Rattle.loc_query.specs.QueryCourses.{steps_by}
+use Rattle.loc_query.specs.{Answered.answer_at, Answered.ids_where, Answered.located, QueryCourses.steps_by}
 use Rattle.loc_query.proofs.LegendAnswers.{answer_to_line}
-use Rattle.loc_trial.specs.Asked.{AnswersAll}
-use Rattle.loc_trial.specs.Generated.{point_line}
-use Rattle.loc_trial.specs.TrialCourses.{tried_course}
+use Rattle.loc_trial.specs.{Asked.AnswersAll, Generated.point_line, TrialCourses.tried_course}
 use Rattle.loc_trial.specs.Trials.{answers_of, covering_ids, is_trial_line, nodes_text, sizes_text, tally_text, touching_ids, trial_text}
-use Rattle.loc_trial.proofs.Corners.{point_read}
-use Rattle.loc_trial.proofs.Tallies.{AreFew, range_few, tally_is}
+use Rattle.loc_trial.proofs.{Corners.point_read, Tallies.AreFew, Tallies.range_few, Tallies.tally_is}
 
 -- what is written passes a test that passes all that an earlier one does
 pub passes_more : (k : ℕ) (first more : Text → Bool) (old new : Moment) (end : Option Stopped) → ((text : Text) → IsTrue (first text) → IsTrue (more text))

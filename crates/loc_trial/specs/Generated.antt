@@ -2,15 +2,11 @@
 --   ring_of, feature_of, generated  a rectangle as a ring and as a feature, and the layer
 --   point_line, points_text         a point in print, and the points, a line each
 use Rattle.std.specs.Prelude.{ℕ, ◌+◌, ◌*◌, ◌%◌, List, [], ◌∷◌, map, pos}
-use Rattle.std.specs.Fmt.{decimal}
-use Rattle.std.specs.List.{enumerate_from, flat_map}
-use Rattle.loc_spec_plane.specs.Lists.{numbers}
-use Rattle.loc_spec_plane.specs.Points.{point_at}
-use Rattle.loc_spec_plane.specs.Rings.{Ring}
+use Rattle.std.specs.{Fmt.decimal, List.enumerate_from, List.flat_map}
+use Rattle.loc_spec_plane.specs.{Lists.numbers, Points.point_at, Rings.Ring}
 use Rattle.loc_spec_text.specs.Points.{ended}
 use Rattle.loc_rings.specs.Values.{Feature}
-use Rattle.loc_gen.specs.declared.kinds.Kind.{Kind}
-use Rattle.loc_gen.specs.declared.features.Rectangle.{Rectangle}
+use Rattle.loc_gen.specs.{declared.kinds.Kind.Kind, declared.features.Rectangle.Rectangle}
 use Rattle.loc_gen.specs.Layers.{corner_text, features, start_of}
 
 -- the corners of a rectangle, from the lower left one round to the left and back

@@ -2,21 +2,15 @@
 -- `tried_course`, `trial_course`.
 use Rattle.std.specs.Prelude.{ℕ, ◌*◌, List, ◌++◌, Option, codes, length, map, nat_lt, if◌then◌else◌}
 use Rattle.std.specs.Fmt.{decimal}
-use Rattle.loc_spec_text.specs.Bytes.{Text}
+use Rattle.loc_spec_text.specs.{Bytes.Text, Answered.answered, Points.ended}
 use Rattle.loc_spec_asked.specs.declared.Index.{Index}
-use Rattle.loc_spec_plane.specs.Lists.{numbers}
-use Rattle.loc_spec_plane.specs.Tables.{Table}
-use Rattle.loc_spec_text.specs.Answered.{answered}
-use Rattle.loc_spec_text.specs.Points.{ended}
+use Rattle.loc_spec_plane.specs.{Lists.numbers, Tables.Table}
 use Rattle.loc_rings.specs.Values.{Feature}
-use Rattle.loc_batch.specs.Batches.{Answering, no_tally}
-use Rattle.loc_batch.specs.Streams.{tally_of}
-use Rattle.loc_gen.specs.declared.kinds.Kind.{Kind}
-use Rattle.loc_gen.specs.Layers.{layer_text, limit_of}
+use Rattle.loc_batch.specs.{Batches.Answering, Batches.no_tally, Streams.tally_of}
+use Rattle.loc_gen.specs.{declared.kinds.Kind.Kind, Layers.layer_text, Layers.limit_of}
 use Rattle.loc_course.specs.Courses.{Course, refuses, searches, writes}
 use Rattle.loc_course.specs.Outcomes.{exactly}
-use Rattle.loc_maps.specs.Located.{table_in}
-use Rattle.loc_maps.specs.MapCourses.{accepted_course, pieces_course}
+use Rattle.loc_maps.specs.{Located.table_in, MapCourses.accepted_course, MapCourses.pieces_course}
 use Rattle.loc_query.specs.QueryCourses.{steps_by}
 use Rattle.loc_trial.specs.Generated.{generated, point_line}
 use Rattle.loc_trial.specs.Trials.{is_trial_line, nodes_text, sizes_text, tally_text}

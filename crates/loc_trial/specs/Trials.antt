@@ -6,8 +6,7 @@
 --   kind_text, sizes_text, nodes_text     the parts of the line
 --   trial_text, is_trial_line             the line, and the test of it by the index
 use Rattle.std.specs.Prelude.{ℕ, ◌+◌, ◌*◌, Bool, true, false, List, [], ◌++◌, length, map, filter, codes, Option, Some, None}
-use Rattle.std.specs.Fmt.{decimal}
-use Rattle.std.specs.List.{list_any, range_with_len, sum_by}
+use Rattle.std.specs.{Fmt.decimal, List.list_any, List.range_with_len, List.sum_by}
 use Rattle.loc_spec_text.specs.Bytes.{Text}
 use Rattle.loc_spec_asked.specs.declared.Index.{Index}
 use Rattle.loc_spec_asked.specs.declared.Index.TheVariants.{Scan, Tree, Trap}

@@ -1,11 +1,11 @@
 //! The text of a generated layer, and the layer itself.
 
-ghost use Rattle.std.specs.Prelude.{◌≡◌, ◌≤◌, IfOk, OnOk, ℕ};
-ghost use Rattle.loc_io.specs.Meaning.{Meaning};
+ghost use Rattle.std.specs.Prelude.{◌≡◌, ◌≤◌, IfOk, OnOk};
 ghost use Rattle.loc_gen.specs.Layers.{limit_of};
 ghost use Rattle.loc_course.specs.Courses.{Course};
-ghost use Rattle.loc_course.specs.Following.{Follows, Moment, moment};
-ghost use Rattle.loc_course.specs.Stops.{GoesOn, end_of};
+ghost use Rattle.loc_course.specs.Following.{Moment};
+ghost use Rattle.loc_course.specs.Runs.{RunsOnOut};
+ghost use Rattle.loc_course.specs.Stops.{GoesOn};
 ghost use Rattle.loc_trial.specs.Generated.{generated};
 ghost use Rattle.loc_trial.specs.TrialCourses.{gen_course, sized_course};
 
@@ -20,9 +20,7 @@ use std::alloc::Global;
 
 /// Writes the text of a generated layer, feature by feature. It takes no memory.
 pub fn generate<O: Sink>(kind: Kind, n: u64, shift: u64, out: &mut O) -> Result<(), Stop>
-    ensures { (shelf : Meaning) (k : ℕ) → Follows (gen_course kind n shift)
-        (moment shelf (O.meaning out.old) k)
-        (moment shelf (O.meaning out.new) k) (end_of result) }
+    ensures { RunsOnOut (gen_course kind n shift) O.meaning out result }
 {
     match gen_layer(kind, n, shift, out) {
         Ok(()) => Ok(()),

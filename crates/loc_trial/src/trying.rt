@@ -1,7 +1,6 @@
 //! A trial: the points of a generated layer, asked of an index.
 
 ghost use Rattle.std.specs.Prelude.{◌≡◌, ◌+◌, ◌*◌, ◌≤◌, IfOk, length, map};
-ghost use Rattle.loc_io.specs.Meaning.{Meaning};
 ghost use Rattle.loc_spec_plane.specs.Lists.{numbers};
 ghost use Rattle.loc_spec_text.specs.Answered.{answered};
 ghost use Rattle.loc_batch.specs.Answering.{answer_by};
@@ -9,12 +8,11 @@ ghost use Rattle.loc_batch.specs.Batches.{no_tally};
 ghost use Rattle.loc_batch.specs.Faces.{unnumbered};
 ghost use Rattle.loc_batch.specs.Streams.{tally_of as tally_of_answers};
 ghost use Rattle.loc_cover.specs.Legends.{FitsTable};
-ghost use Rattle.loc_course.specs.Following.{Follows, moment};
-ghost use Rattle.loc_course.specs.Stops.{end_of};
 ghost use Rattle.loc_maps.specs.MapCourses.{accepted_course, pieces_course};
 ghost use Rattle.loc_trial.specs.Asked.{AnswersAll};
 ghost use Rattle.loc_trial.specs.Generated.{generated, point_line};
 ghost use Rattle.loc_trial.specs.TrialCourses.{counted_course, trial_course, tried_course};
+ghost use Rattle.loc_course.specs.Runs.{RunsOnOutAndSteps};
 
 use crate::counts::line_of;
 use crate::layers::read_back;
@@ -90,10 +88,9 @@ fn try_points<I: Locator, O: Sink, L: Ledger>(
     requires fits { I.fits index.now table.now }
     requires legend { FitsTable table.now legend.now }
     requires always { AnswersAll (answer_by 0 (I.finds index.now table.now) unnumbered legend.now) }
-    ensures { (shelf : Meaning) → Follows (counted_course (I.most index.now table.now)
+    ensures { RunsOnOutAndSteps (counted_course (I.most index.now table.now)
         (answer_by 0 (I.finds index.now table.now) unnumbered legend.now) kind n shift table.now nodes)
-        (moment shelf (O.meaning out.old) steps.old)
-        (moment shelf (O.meaning out.new) steps.new) (end_of result) }
+        O.meaning out steps result }
 {
     let tally = tally_of(alloc, index, table, legend, n, shift, steps)?;
     let corners = table.corner_count();
@@ -115,10 +112,8 @@ fn try_layer<O: Sink, L: Ledger>(
 ) -> Result<(), Stop>
     requires size { n ≤ 131072 }
     requires features { length layer ≤ 131072 }
-    ensures { (shelf : Meaning) → Follows (pieces_course layer
-        (accepted_course 0 layer (tried_course index kind n shift layer)))
-        (moment shelf (O.meaning out.old) steps.old)
-        (moment shelf (O.meaning out.new) steps.new) (end_of result) }
+    ensures { RunsOnOutAndSteps (pieces_course layer (accepted_course 0 layer (tried_course index kind n shift layer)))
+        O.meaning out steps result }
 {
     let order = GivenOrder::Shuffled(SHUFFLE);
     let plane = choose(alloc, index, order, layer, None, Scale::new(0))?;
@@ -151,9 +146,7 @@ pub fn trial<O: Sink, L: Ledger>(
     out: &mut O,
     steps: &mut Steps<L>,
 ) -> Result<(), Stop>
-    ensures { (shelf : Meaning) → Follows (trial_course index kind n shift)
-        (moment shelf (O.meaning out.old) steps.old)
-        (moment shelf (O.meaning out.new) steps.new) (end_of result) }
+    ensures { RunsOnOutAndSteps (trial_course index kind n shift) O.meaning out steps result }
 {
     let layer = read_back(alloc, kind, n, shift)?;
     try_layer(alloc, index, layer, kind, n, shift, out, steps)

@@ -2,30 +2,22 @@
 use Rattle.std.proofs.Common.{◌≡◌, ℕ, Bool, not, Option, Some, None, refl, sym, ◌∙◌, ap, subst, inl, inr, arith}
 use Rattle.std.specs.Prelude.{IfSome, IsTrue, [], Ok, codes}
 use Rattle.std.specs.Io.KnownBytes.{Appends}
-use Rattle.loc_spec_text.specs.Answered.{Answered}
-use Rattle.loc_spec_text.specs.Bytes.{Text}
-use Rattle.loc_spec_text.specs.Points.{ended}
+use Rattle.loc_spec_text.specs.{Answered.Answered, Bytes.Text, Points.ended, Limits.most_text}
 use Rattle.loc_io.specs.Meaning.{Told, holds}
 use Rattle.loc_io.proofs.Appending.{appends-none}
-use Rattle.loc_spec_index.specs.Content.{Content}
-use Rattle.loc_spec_index.specs.Flaws.{Flaw}
+use Rattle.loc_spec_index.specs.{Content.Content, Flaws.Flaw}
 use Rattle.loc_laws_judge.specs.FirstFlaw.{first_flaw}
-use Rattle.loc_course.specs.Courses.{Course, Source}
+use Rattle.loc_course.specs.{Courses.Course, Courses.Source, Stops.source, Streams.answered_file, Streams.out_of}
 use Rattle.loc_course.specs.Outcomes.{Outcome, by_lines, by_refusal, exactly, outcome, output, partly, refusal}
 use Rattle.loc_course.specs.Sentences.{IsDoing, OutSo, Sentences, Steady, Wrote}
-use Rattle.loc_course.specs.Stops.{source}
-use Rattle.loc_course.specs.Streams.{answered_file, out_of}
 use Rattle.loc_course.proofs.Told.{it_exactly}
-use Rattle.loc_spec_text.specs.Limits.{most_text}
 use Rattle.loc_indexed.specs.FlawTexts.{flaw_text, index_text, is_clash, says}
 use Rattle.loc_indexed.specs.IndexedCourses.{answer_in, ask_course, asked_course}
 use Rattle.loc_indexed.specs.Verifying.{judged_course, verify_course}
-use Rattle.loc_indexed.proofs.Flawed.{says_exactly}
-use Rattle.loc_indexed.proofs.IndexOutcomes.{grown, index_read}
+use Rattle.loc_indexed.proofs.{Flawed.says_exactly, IndexOutcomes.grown, IndexOutcomes.index_read}
 use Rattle.loc_upgrade.specs.Alike.{GaveSame, NotedSame, RanWell, Run}
 use Rattle.loc_upgrade.specs.Upgrades.{IsUpgradeOf}
-use Rattle.loc_upgrade.proofs.FileSizes.{file_within}
-use Rattle.loc_upgrade.proofs.Upgraded.{judging}
+use Rattle.loc_upgrade.proofs.{FileSizes.file_within, Upgraded.judging}
 
 module _ (c : Course) (r : Run) (a : RanWell c r) where
   -- an output is written, and the status is 0

@@ -2,23 +2,18 @@
 use Rattle.std.proofs.Common.{◌≡◌, ◌≢◌, ℕ, Bool, refl}
 use Rattle.std.specs.Prelude.{Option, Result, Ok, Err}
 use Rattle.loc_spec_text.specs.Bytes.{Text}
-use Rattle.loc_io.specs.Meaning.{Told}
-use Rattle.loc_io.specs.Streams.{Stream}
-use Rattle.loc_spec_index.specs.declared.IndexFault.{IndexFault}
-use Rattle.loc_spec_index.specs.Content.{Content}
-use Rattle.loc_spec_index.specs.IndexFile.{bytes_of}
+use Rattle.loc_io.specs.{Meaning.Told, Streams.Stream}
+use Rattle.loc_spec_index.specs.{declared.IndexFault.IndexFault, Content.Content, IndexFile.bytes_of}
 use Rattle.loc_laws_index.specs.IndexReading.{reading}
 use Rattle.loc_course.specs.Courses.{Source, Course, makes, reads, refuses, writes, Stopped}
-use Rattle.loc_course.specs.Endings.{AtEnd, Did, DidSo}
+use Rattle.loc_course.specs.{Endings.AtEnd, Endings.Did, Endings.DidSo, Outcomes.exactly}
 use Rattle.loc_course.specs.Following.{FileWritesAreCounted, Follows, Moment, lacks, refuses_by, reads_not, reads_by, makes_by}
-use Rattle.loc_course.specs.Outcomes.{exactly}
 use Rattle.loc_course.specs.Sentences.{AtOnce, IsPlain, MayMake, SearchesNothing}
 use Rattle.loc_course.proofs.Endings.{at_both, did_at}
 use Rattle.loc_course.proofs.Plain.{plain_reads, plain_refuses, plain_writes}
 use Rattle.loc_indexed.specs.IndexedCourses.{index_in}
 use Rattle.loc_indexed.proofs.Behind.{index_all}
-use Rattle.loc_upgrade.specs.EdgeTexts.{edges_text}
-use Rattle.loc_upgrade.specs.UpgradeCourses.{edges_course, upgrade_course}
+use Rattle.loc_upgrade.specs.{EdgeTexts.edges_text, UpgradeCourses.edges_course, UpgradeCourses.upgrade_course}
 
 -- ---- the edges of an index
 

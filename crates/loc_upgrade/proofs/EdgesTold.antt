@@ -1,31 +1,21 @@
 -- What the told files of a listing of edges come to, and what it leaves.
 use Rattle.std.proofs.Common.{◌≡◌, ℕ, ◌<◌, ◌≤◌, length, Option, None, Some, Result, Ok, Err, subst, inl, inr}
-use Rattle.std.specs.Prelude.{codes}
-use Rattle.std.specs.Io.KnownBytes.{Appends}
-use Rattle.loc_spec_text.specs.Bytes.{Text}
-use Rattle.loc_spec_text.specs.Points.{ended}
-use Rattle.loc_io.specs.Meaning.{Meaning, Told, holds}
-use Rattle.loc_io.specs.Streams.{Stream, TakesAll}
-use Rattle.loc_spec_index.specs.declared.IndexFault.{IndexFault}
+use Rattle.std.specs.{Prelude.codes, Io.KnownBytes.Appends}
+use Rattle.loc_spec_text.specs.{Bytes.Text, Points.ended}
+use Rattle.loc_io.specs.{Meaning.Meaning, Meaning.Told, Meaning.holds, Streams.Stream, Streams.TakesAll}
+use Rattle.loc_spec_index.specs.{declared.IndexFault.IndexFault, Content.Content, Content.table_in}
 use Rattle.loc_spec_plane.specs.Tables.{Table}
-use Rattle.loc_spec_index.specs.Content.{Content, table_in}
 use Rattle.loc_laws_index.specs.IndexReading.{AreBytes, reading}
-use Rattle.loc_course.specs.Courses.{Course, Stopped, writes}
-use Rattle.loc_course.specs.Following.{Follows}
-use Rattle.loc_course.specs.Moments.{IsToldText, Moment}
-use Rattle.loc_course.specs.Outcomes.{exactly}
+use Rattle.loc_course.specs.{Courses.Course, Courses.Stopped, Courses.writes, Following.Follows}
+use Rattle.loc_course.specs.{Moments.IsToldText, Moments.Moment, Outcomes.exactly}
 use Rattle.loc_course.specs.Sentences.{NoneFailed, Sentences, Steady, Wrote}
-use Rattle.loc_indexed.specs.Asks.{IsDone, OrMemory}
-use Rattle.loc_indexed.specs.IndexBytes.{IsIndexFile}
-use Rattle.loc_indexed.specs.IndexTexts.{index_fault_text}
+use Rattle.loc_indexed.specs.{Asks.IsDone, Asks.OrMemory, IndexBytes.IsIndexFile, IndexTexts.index_fault_text}
 use Rattle.loc_indexed.specs.Verifies.{AreHeld, IsRefused}
 use Rattle.loc_indexed.proofs.IndexOutcomes.{finished, grown, index_long, index_read, refused_by}
 use Rattle.loc_indexed.proofs.ReadBack.{file_reads}
-use Rattle.loc_upgrade.specs.EdgeTexts.{edge_lines, edges_text}
-use Rattle.loc_upgrade.specs.TellsEdges.{Listed, TellsEdges}
+use Rattle.loc_upgrade.specs.{EdgeTexts.edge_lines, EdgeTexts.edges_text, TellsEdges.Listed, TellsEdges.TellsEdges}
 use Rattle.loc_upgrade.specs.UpgradeCourses.{edges_course}
-use Rattle.loc_upgrade.proofs.Along.{edges_plain, listing}
-use Rattle.loc_upgrade.proofs.FileSizes.{file_within}
+use Rattle.loc_upgrade.proofs.{Along.edges_plain, Along.listing, FileSizes.file_within}
 
 -- what was told is these bytes
 pub held_bytes : (told : Told) (bytes text : Text) → told ≡ holds bytes → IsToldText told text → text ≡ bytes

@@ -1,7 +1,6 @@
 -- The ids of an index file are bytes, and so is its second version.
 use Rattle.std.proofs.Common.{◌≡◌, ℕ, zero, suc, ◌<◌, List, [], ◌∷◌, ◌++◌, length, get_or, sym, ◌∙◌, subst, arith}
-use Rattle.std.specs.Prelude.{All}
-use Rattle.std.specs.List.{flat_map}
+use Rattle.std.specs.{Prelude.All, List.flat_map}
 use Rattle.loc_spec_index.specs.Content.{Content}
 use Rattle.loc_spec_index.specs.IndexFile.{Field, IsFileOf, bytes_of, fields, header_fields, id_fields, parts, spelled_all}
 use Rattle.loc_laws_index.specs.IndexReading.{AreBytes}

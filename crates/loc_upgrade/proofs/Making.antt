@@ -2,20 +2,15 @@
 use Rattle.std.proofs.Common.{◌⊎◌, ℕ, Bool, [], Option, None, Some, Result, Ok, Err, refl, ◌∙◌, inl, inr, arith}
 use Rattle.loc_spec_text.specs.Bytes.{Text}
 use Rattle.loc_io.specs.Meaning.{KeepsFiles, Meaning, Told}
-use Rattle.loc_spec_index.specs.Content.{Content}
-use Rattle.loc_spec_index.specs.IndexFile.{bytes_of}
+use Rattle.loc_spec_index.specs.{Content.Content, IndexFile.bytes_of}
 use Rattle.loc_laws_index.specs.IndexReading.{reading}
 use Rattle.loc_course.specs.Courses.{Course, refuses, Stopped, refused}
 use Rattle.loc_course.specs.Following.{Follows, MakesFile, Moment, refuses_by}
-use Rattle.loc_course.specs.Outcomes.{exactly}
-use Rattle.loc_course.specs.Sentences.{MakesNone, MayMake, status_of}
-use Rattle.loc_course.proofs.Along.{files, not_done}
-use Rattle.loc_course.proofs.Told.{exactly_it}
-use Rattle.loc_indexed.specs.IndexedCourses.{index_course}
-use Rattle.loc_indexed.specs.Verifies.{IsToldFile}
+use Rattle.loc_course.specs.{Outcomes.exactly, Sentences.MakesNone, Sentences.MayMake, Sentences.status_of}
+use Rattle.loc_course.proofs.{Along.files, Along.not_done, Told.exactly_it}
+use Rattle.loc_indexed.specs.{IndexedCourses.index_course, Verifies.IsToldFile}
 use Rattle.loc_indexed.proofs.Behind.{index_all}
-use Rattle.loc_upgrade.specs.TellsEdges.{Listed}
-use Rattle.loc_upgrade.specs.Upgrades.{Upgraded}
+use Rattle.loc_upgrade.specs.{TellsEdges.Listed, Upgrades.Upgraded}
 
 -- a course that refuses every index makes no file
 abbrev refusing : Content → Course

@@ -1,11 +1,8 @@
 -- The lines of edges as they are put on a page.
 use Rattle.std.proofs.Common.{◌≡◌, ℕ, ℤ, ◌+◌, ◌<◌, ◌≤◌, List, ◌∷◌, ◌++◌, length, get_or, drop, Result, Ok, ap, append_assoc, arith, codes, of_z, to_z, sym, ◌∙◌, refl}
-use Rattle.std.specs.Int.{w64}
-use Rattle.std.specs.Fmt.{decimal}
-use Rattle.std.specs.List.{flat_map}
+use Rattle.std.specs.{Int.w64, Fmt.decimal, List.flat_map}
 use Rattle.std.proofs.lemmas.List.FromFn.{get_or-range_with_len, length-range_with_len}
-use Rattle.loc_io.specs.Streams.{Stream}
-use Rattle.loc_io.specs.declared.sink.WriteFault.{WriteFault}
+use Rattle.loc_io.specs.{Streams.Stream, declared.sink.WriteFault.WriteFault}
 use Rattle.loc_page.specs.Puts.{PutsText}
 use Rattle.loc_page.proofs.Pages.{Goes, goes_end, goes_next, put_same}
 use Rattle.loc_spec_plane.specs.Points.{OnGrid}

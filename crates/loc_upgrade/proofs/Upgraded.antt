@@ -1,33 +1,22 @@
 -- An upgrade of an index file, and what making it leaves.
 use Rattle.std.proofs.Common.{◌≡◌, ◌⊎◌, ℕ, Bool, ◌<◌, ◌≤◌, length, Option, None, Some, Result, Ok, Err, refl, sym, ◌∙◌, ap, subst, inl, inr, arith}
 use Rattle.std.specs.Prelude.{codes}
-use Rattle.loc_spec_text.specs.Bytes.{Text}
-use Rattle.loc_spec_text.specs.Points.{ended}
-use Rattle.loc_io.specs.Meaning.{Meaning, Told, holds}
-use Rattle.loc_io.specs.Streams.{Stream}
-use Rattle.loc_spec_index.specs.declared.IndexFault.{IndexFault}
-use Rattle.loc_spec_index.specs.Content.{Content}
-use Rattle.loc_spec_index.specs.Flaws.{Flaw}
+use Rattle.loc_spec_text.specs.{Bytes.Text, Points.ended, Limits.most_text}
+use Rattle.loc_io.specs.{Meaning.Meaning, Meaning.Told, Meaning.holds, Streams.Stream}
+use Rattle.loc_spec_index.specs.{declared.IndexFault.IndexFault, Content.Content, Flaws.Flaw}
 use Rattle.loc_spec_index.specs.IndexFile.{IsFileOf, bytes_of}
 use Rattle.loc_spec_index.specs.TrueIndex.{IsTrueIndex, IsTrueIndexFile}
 use Rattle.loc_laws_index.specs.IndexReading.{AreBytes, reading}
-use Rattle.loc_laws_index.proofs.OneReading.{one_file}
-use Rattle.loc_laws_index.proofs.Renewed.{renewed}
+use Rattle.loc_laws_index.proofs.{OneReading.one_file, Renewed.renewed}
 use Rattle.loc_laws_judge.specs.FirstFlaw.{first_flaw}
-use Rattle.loc_course.specs.Courses.{Course, Stopped}
-use Rattle.loc_course.specs.Endings.{AtEnd}
+use Rattle.loc_course.specs.{Courses.Course, Courses.Stopped, Endings.AtEnd}
 use Rattle.loc_course.specs.Following.{FileWritesAreCounted, IsCut, IsMade}
-use Rattle.loc_course.specs.Moments.{IsToldText, Moment}
+use Rattle.loc_course.specs.{Moments.IsToldText, Moments.Moment, Stops.source}
 use Rattle.loc_course.specs.Outcomes.{Outcome, by_lines, exactly, file, outcome}
 use Rattle.loc_course.specs.Sentences.{EndsSo, Ended, Sentences, Steady, Wrote, status_of}
-use Rattle.loc_course.specs.Stops.{source}
-use Rattle.loc_course.proofs.Endings.{at_cut}
-use Rattle.loc_course.proofs.Statuses.{ended_so, rose_not, succeeds_case}
+use Rattle.loc_course.proofs.{Endings.at_cut, Statuses.ended_so, Statuses.rose_not, Statuses.succeeds_case}
 use Rattle.loc_course.proofs.Told.{ends_so}
-use Rattle.loc_spec_text.specs.Limits.{most_text}
-use Rattle.loc_indexed.specs.Asks.{OrMemory}
-use Rattle.loc_indexed.specs.IndexBytes.{IsIndexFile}
-use Rattle.loc_indexed.specs.IndexTexts.{index_fault_text}
+use Rattle.loc_indexed.specs.{Asks.OrMemory, IndexBytes.IsIndexFile, IndexTexts.index_fault_text}
 use Rattle.loc_indexed.specs.IndexedCourses.{answer_in, ask_course, asked_course, index_course}
 use Rattle.loc_indexed.specs.Verifies.{AreHeld, IsRefused, IsToldFile}
 use Rattle.loc_indexed.specs.Verifying.{judged_course, verify_course}
@@ -36,9 +25,7 @@ use Rattle.loc_indexed.proofs.ReadBack.{file_reads}
 use Rattle.loc_upgrade.specs.UpgradeCourses.{edges_course, upgrade_course}
 use Rattle.loc_upgrade.specs.Upgrades.{IsUpgradeOf, Upgraded, Upgrades}
 use Rattle.loc_upgrade.proofs.Along.{listing, remaking, upgrade_counted, upgrade_keeps_out, upgrade_makes_one}
-use Rattle.loc_upgrade.proofs.FileBytes.{upgrade_bytes}
-use Rattle.loc_upgrade.proofs.FileSizes.{file_within}
-use Rattle.loc_upgrade.proofs.EdgesTold.{held_bytes}
+use Rattle.loc_upgrade.proofs.{FileBytes.upgrade_bytes, FileSizes.file_within, EdgesTold.held_bytes}
 
 -- the course of a judgement behind an index
 abbrev pub judging : Content → Course

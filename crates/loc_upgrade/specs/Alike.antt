@@ -7,9 +7,7 @@ use Rattle.std.specs.Prelude.{◌≡◌, ◌≢◌, ℕ}
 use Rattle.std.specs.Io.KnownBytes.{Appends}
 use Rattle.loc_spec_text.specs.Bytes.{Text}
 use Rattle.loc_io.specs.Streams.{Stream}
-use Rattle.loc_course.specs.Courses.{Course}
-use Rattle.loc_course.specs.Moments.{Moment}
-use Rattle.loc_course.specs.Sentences.{NoneFailed, Sentences, Wrote}
+use Rattle.loc_course.specs.{Courses.Course, Moments.Moment, Sentences.NoneFailed, Sentences.Sentences, Sentences.Wrote}
 
 -- a run of a command: the moments at which it began and ended, the notes then, and its status
 pub record Run : Type 0 where

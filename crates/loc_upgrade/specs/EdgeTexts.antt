@@ -5,11 +5,9 @@
 --   edge_lines  the lines of all edges of a table, in order
 --   edges_text  the lines of all edges of a content, at its scale
 use Rattle.std.specs.Prelude.{ℕ, ◌++◌, codes, get_or}
-use Rattle.std.specs.Fmt.{decimal}
-use Rattle.std.specs.List.{flat_map}
+use Rattle.std.specs.{Fmt.decimal, List.flat_map}
 use Rattle.loc_spec_plane.specs.Tables.{Table, corner, edge_numbers, source_of}
-use Rattle.loc_spec_text.specs.Bytes.{Text}
-use Rattle.loc_spec_text.specs.Points.{ended, position_text}
+use Rattle.loc_spec_text.specs.{Bytes.Text, Points.ended, Points.position_text}
 use Rattle.loc_spec_index.specs.Content.{Content, table_in}
 
 -- the numbers of the ends of edge e, the lower first

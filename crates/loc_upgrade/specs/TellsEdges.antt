@@ -3,19 +3,12 @@
 --   TellsEdges  all that a user is told
 use Rattle.std.specs.Prelude.{◌≡◌, ◌≢◌, ℕ, ◌<◌, ◌≤◌, length, Err, codes}
 use Rattle.std.specs.Io.KnownBytes.{Appends}
-use Rattle.loc_spec_text.specs.Bytes.{Text}
-use Rattle.loc_io.specs.Meaning.{Told, holds}
-use Rattle.loc_io.specs.Streams.{Stream}
-use Rattle.loc_spec_text.specs.Points.{ended}
-use Rattle.loc_spec_index.specs.declared.IndexFault.{IndexFault}
-use Rattle.loc_spec_index.specs.Content.{Content}
+use Rattle.loc_spec_text.specs.{Bytes.Text, Points.ended, Limits.most_index}
+use Rattle.loc_io.specs.{Meaning.Told, Meaning.holds, Streams.Stream}
+use Rattle.loc_spec_index.specs.{declared.IndexFault.IndexFault, Content.Content}
 use Rattle.loc_laws_index.specs.IndexReading.{reading}
-use Rattle.loc_course.specs.Moments.{Moment}
-use Rattle.loc_course.specs.Sentences.{Steady, Wrote}
-use Rattle.loc_indexed.specs.Asks.{IsDone, OrMemory}
-use Rattle.loc_indexed.specs.IndexBytes.{IsIndexFile}
-use Rattle.loc_indexed.specs.IndexTexts.{index_fault_text}
-use Rattle.loc_spec_text.specs.Limits.{most_index}
+use Rattle.loc_course.specs.{Moments.Moment, Sentences.Steady, Sentences.Wrote}
+use Rattle.loc_indexed.specs.{Asks.IsDone, Asks.OrMemory, IndexBytes.IsIndexFile, IndexTexts.index_fault_text}
 use Rattle.loc_indexed.specs.Verifies.{AreHeld, IsRefused, IsToldFile}
 use Rattle.loc_upgrade.specs.EdgeTexts.{edges_text}
 

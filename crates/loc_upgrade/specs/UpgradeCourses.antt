@@ -3,8 +3,7 @@
 --   edges_course    an index file is read, and the lines of its edges are written
 use Rattle.loc_spec_text.specs.Bytes.{Text}
 use Rattle.loc_spec_index.specs.IndexFile.{bytes_of}
-use Rattle.loc_course.specs.Courses.{Course, makes, writes}
-use Rattle.loc_course.specs.Outcomes.{exactly}
+use Rattle.loc_course.specs.{Courses.Course, Courses.makes, Courses.writes, Outcomes.exactly}
 use Rattle.loc_indexed.specs.IndexedCourses.{index_course}
 use Rattle.loc_upgrade.specs.EdgeTexts.{edges_text}
 

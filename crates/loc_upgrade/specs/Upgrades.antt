@@ -3,25 +3,16 @@
 --   Upgraded     what is left under the name of the new file
 --   Upgrades     all that a user is told
 use Rattle.std.specs.Prelude.{◌≡◌, ◌≢◌, ◌⊎◌, ◌↔◌, ℕ, ◌<◌, ◌≤◌, length, Ok, Err, codes}
-use Rattle.loc_spec_text.specs.Bytes.{Text}
+use Rattle.loc_spec_text.specs.{Bytes.Text, Points.ended, Limits.most_index}
 use Rattle.loc_io.specs.Meaning.{KeepsFiles, Meaning, Told, holds}
 use Rattle.loc_io.specs.Streams.{Stream}
-use Rattle.loc_spec_text.specs.Points.{ended}
-use Rattle.loc_spec_index.specs.declared.IndexFault.{IndexFault}
-use Rattle.loc_spec_index.specs.Content.{Content}
-use Rattle.loc_spec_index.specs.IndexFile.{IsFileOf, bytes_of}
-use Rattle.loc_spec_index.specs.TrueIndex.{IsTrueIndexFile}
+use Rattle.loc_spec_index.specs.{declared.IndexFault.IndexFault, Content.Content}
+use Rattle.loc_spec_index.specs.{IndexFile.IsFileOf, IndexFile.bytes_of, TrueIndex.IsTrueIndexFile}
 use Rattle.loc_laws_index.specs.IndexReading.{reading}
-use Rattle.loc_course.specs.Following.{IsCut, IsMade, IsToldAtMost}
-use Rattle.loc_course.specs.Moments.{Moment}
-use Rattle.loc_course.specs.Outcomes.{outcome}
-use Rattle.loc_course.specs.Sentences.{Steady, Wrote}
-use Rattle.loc_indexed.specs.Asks.{OrMemory}
-use Rattle.loc_indexed.specs.IndexBytes.{IsIndexFile}
-use Rattle.loc_indexed.specs.IndexTexts.{index_fault_text}
-use Rattle.loc_indexed.specs.IndexedCourses.{ask_course}
-use Rattle.loc_spec_text.specs.Limits.{most_index}
-use Rattle.loc_indexed.specs.Verifies.{AreHeld, IsRefused, IsToldFile}
+use Rattle.loc_course.specs.{Following.IsCut, Following.IsMade, Following.IsToldAtMost, Moments.Moment}
+use Rattle.loc_course.specs.{Outcomes.outcome, Sentences.Steady, Sentences.Wrote}
+use Rattle.loc_indexed.specs.{Asks.OrMemory, IndexBytes.IsIndexFile, IndexTexts.index_fault_text}
+use Rattle.loc_indexed.specs.{IndexedCourses.ask_course, Verifies.AreHeld, Verifies.IsRefused, Verifies.IsToldFile}
 use Rattle.loc_indexed.specs.Verifying.{verify_course}
 use Rattle.loc_upgrade.specs.UpgradeCourses.{edges_course}
 

@@ -1,10 +1,8 @@
 //! The edges of an index file with their sources, from the bytes in to the bytes out.
 
-ghost use Rattle.std.specs.Prelude.{ℕ};
-ghost use Rattle.loc_io.specs.Meaning.{Meaning};
 ghost use Rattle.loc_course.specs.Courses.{writes};
-ghost use Rattle.loc_course.specs.Following.{Follows, moment};
 ghost use Rattle.loc_course.specs.Outcomes.{exactly};
+ghost use Rattle.loc_course.specs.Runs.{RunsOnFilesAndOut, RunsOnOut};
 ghost use Rattle.loc_course.specs.Sentences.{status_of};
 ghost use Rattle.loc_course.specs.Stops.{end_of};
 ghost use Rattle.loc_upgrade.specs.EdgeTexts.{edges_text};
@@ -21,9 +19,7 @@ use std::alloc::Global;
 
 // Writes the lines of the edges of what is held.
 fn write_held_edges<O: Sink>(held: &Held, out: &mut O) -> Result<(), Stop>
-    ensures { (shelf : Meaning) (k : ℕ) → Follows (writes (exactly (edges_text held.now.content)))
-        (moment shelf (O.meaning out.old) k)
-        (moment shelf (O.meaning out.new) k) (end_of result) }
+    ensures { RunsOnOut (writes (exactly (edges_text held.now.content))) O.meaning out result }
 {
     match write_edges(held.table(), Scale::new(held.scale()), out) {
         Ok(()) => Ok(()),
@@ -39,9 +35,7 @@ pub fn edges<F: Shelf, O: Sink>(
     shelf: &mut F,
     out: &mut O,
 ) -> Result<(), Stop>
-    ensures follows { (k : ℕ) → Follows (edges_course index_name.now)
-        (moment (F.meaning shelf.old) (O.meaning out.old) k)
-        (moment (F.meaning shelf.new) (O.meaning out.new) k) (end_of result) }
+    ensures follows { RunsOnFilesAndOut (edges_course index_name.now) F.meaning shelf O.meaning out result }
     ensures listed { Listed ((F.meaning shelf.old).told index_name.now) (status_of (end_of result)) }
 {
     let held = read_index_file(alloc, shelf, index_name)?;

@@ -1,8 +1,7 @@
 //! An index file that is written anew as one of the second version, from the bytes in to the bytes out.
 
-ghost use Rattle.std.specs.Prelude.{ℕ};
-ghost use Rattle.loc_io.specs.Streams.{Stream};
-ghost use Rattle.loc_course.specs.Following.{Follows, MakesFile, moment};
+ghost use Rattle.loc_course.specs.Following.{MakesFile};
+ghost use Rattle.loc_course.specs.Runs.{RunsOnFiles};
 ghost use Rattle.loc_course.specs.Sentences.{status_of};
 ghost use Rattle.loc_course.specs.Stops.{end_of};
 ghost use Rattle.loc_spec_index.specs.IndexFile.{bytes_of};
@@ -34,9 +33,7 @@ pub fn upgrade<F: Shelf>(
     new_name: &str,
     shelf: &mut F,
 ) -> Result<(), Stop>
-    ensures follows { (o : Stream) (k : ℕ) → Follows (upgrade_course old_name.now new_name.now)
-        (moment (F.meaning shelf.old) o k)
-        (moment (F.meaning shelf.new) o k) (end_of result) }
+    ensures follows { RunsOnFiles (upgrade_course old_name.now new_name.now) F.meaning shelf result }
     ensures upgraded { Upgraded old_name.now new_name.now (F.meaning shelf.old) (F.meaning shelf.new)
         (status_of (end_of result)) }
 {

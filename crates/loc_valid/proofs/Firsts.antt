@@ -5,26 +5,20 @@ use Rattle.std.specs.List.{list_any, list_all}
 use Rattle.std.proofs.Math.Bool.{and_comm}
 use Rattle.std.proofs.lemmas.Bool.{and_from, and_parts, both_ways, cases_Bool, cases_eq, eq-eqb, eqb-true, false_from_ne_true, lt-ltb, ltb-true, ne_eqb, not-true, not_from_false, true≢false}
 use Rattle.loc_spec_plane.specs.Lists.{exactly_one, is_in, is_rising, numbers, odd_many}
-use Rattle.loc_spec_plane.specs.Rings.{Rings}
-use Rattle.loc_spec_plane.specs.declared.Mark.{Mark}
-use Rattle.loc_spec_plane.specs.Tables.{Table, edge_numbers, has}
+use Rattle.loc_spec_plane.specs.{Rings.Rings, declared.Mark.Mark, Tables.Table, Tables.edge_numbers, Tables.has}
 use Rattle.loc_spec_plane.specs.Covers.{cover_above, feature_count, is_over}
 use Rattle.loc_spec_valid.specs.Breaches.{belongs, feature_rings, first_pair, is_hole, is_nested, is_outside, is_overlap, lies_inside, polygon_numbers, polygon_of, ring_numbers}
-use Rattle.loc_laws_order.proofs.Booleans.{same-from_both}
-use Rattle.loc_laws_order.proofs.Kept.{all_filter, numbers_rise, rising_kept}
-use Rattle.loc_laws_order.proofs.TableOrder.{numbers_within}
-use Rattle.loc_laws_order.proofs.Unique.{all-at}
+use Rattle.loc_laws_order.proofs.{Booleans.same-from_both, Kept.all_filter, Kept.numbers_rise, Kept.rising_kept}
+use Rattle.loc_laws_order.proofs.{TableOrder.numbers_within, Unique.all-at}
 use Rattle.loc_laws_rays.proofs.Parity.{odd_many-same}
 use Rattle.loc_laws_dissolve.proofs.Prefixes.{by_members}
 use Rattle.loc_laws_valid.specs.Laws.{ByLists, HasOneRing, ring_of}
 use Rattle.loc_laws_valid.proofs.ByLists.{breaches_by_lists}
 use Rattle.loc_rings.specs.Values.{rings_before}
 use Rattle.loc_cover.proofs.Gathered.{any_range, some_in}
-use Rattle.loc_valid.specs.declared.hits.Fault.{Fault}
-use Rattle.loc_valid.specs.declared.least.Least.{Least}
+use Rattle.loc_valid.specs.{declared.hits.Fault.Fault, declared.least.Least.Least}
 use Rattle.loc_valid.specs.Hits.{AreLeast, IsLeast, IsLeastOf, misplaced_in, nested_in, other_than, outside_in, overlap_in}
-use Rattle.loc_valid.proofs.InLists.{hole_fits}
-use Rattle.loc_valid.proofs.Minima.{first_of_least, first_of_pairs}
+use Rattle.loc_valid.proofs.{InLists.hole_fits, Minima.first_of_least, Minima.first_of_pairs}
 use Rattle.loc_valid.proofs.Turns.{other, other_odd}
 use Rattle.loc_valid.proofs.RingHomes.{exterior, fits_all, is_of, no_hole}
 

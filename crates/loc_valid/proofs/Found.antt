@@ -2,16 +2,13 @@
 use Rattle.std.proofs.Common.{◌≡◌, ℕ, ◌<◌, ◌≤◌, true, List, [], ◌∷◌, length, get_or, refl, sym, ◌∙◌, ap, ap₂, subst, arith}
 use Rattle.std.specs.Prelude.{Option, Some, None, find, option_map}
 use Rattle.std.proofs.lemmas.Bool.{both_ways, not-true}
-use Rattle.loc_spec_plane.specs.Points.{Edge, conflict}
-use Rattle.loc_spec_plane.specs.Rings.{Rings}
+use Rattle.loc_spec_plane.specs.{Points.Edge, Points.conflict, Rings.Rings}
 use Rattle.loc_spec_plane.specs.Tables.{Table, AllEven, NoConflict, edge, piece_count}
 use Rattle.loc_spec_plane.specs.Covers.{cover_above, cover_sum, feature_count}
 use Rattle.loc_spec_valid.specs.Breaches.{HasNoCrossing, HasSegments, IsBreachOf, crossing, feature_rings, first_pair, is_crossing, is_nested, is_outside, is_overlap, is_pinch, is_twice, polygon_numbers, polygon_table, ring_numbers, ring_table}
 use Rattle.loc_laws_valid.specs.Laws.{HasOneRing, NonePinched, NoneTwice, ring_of}
-use Rattle.loc_laws_valid.proofs.Calm.{conflicts_cross, polygons_calm}
-use Rattle.loc_laws_valid.proofs.Fewer.{polygon_pieces}
-use Rattle.loc_laws_valid.proofs.Least.{first_none, no_pair, none_passes}
-use Rattle.loc_laws_valid.proofs.OneRing.{one_ring}
+use Rattle.loc_laws_valid.proofs.{Calm.conflicts_cross, Calm.polygons_calm, Fewer.polygon_pieces}
+use Rattle.loc_laws_valid.proofs.{Least.first_none, Least.no_pair, Least.none_passes, OneRing.one_ring}
 use Rattle.loc_geom.specs.declared.kinds.Meeting.{Meeting}
 use Rattle.loc_sweep.specs.Swept.{AreInConflict}
 use Rattle.loc_cover.specs.Legends.{FitsTable, IsTrueLegend, LegendRows}

@@ -2,11 +2,8 @@
 use Rattle.std.proofs.Common.{◌≡◌, ℕ, ◌+◌, ◌<◌, ◌≤◌, Bool, true, false, not, ◌&&◌, List, [], length, get_or, refl, sym, ◌∙◌, ap, ap₂, subst, inl, inr, arith}
 use Rattle.std.specs.Prelude.{◌==◌, ◌⊎◌, nat_lt, Some, None}
 use Rattle.std.proofs.lemmas.Bool.{and_from, and_parts, both_ways, cases_eq, cases_lt, eq-eqb, eqb-true, false_from_ne_true, lt-ltb, ltb-true, ne_eqb, not-true, not_from_false, true≢false}
-use Rattle.std.proofs.lemmas.List.{get_or_past}
-use Rattle.std.proofs.lemmas.List.Folds.{list_any_at}
-use Rattle.loc_spec_plane.specs.Lists.{is_in, is_rising}
-use Rattle.loc_spec_plane.specs.Rings.{Rings}
-use Rattle.loc_spec_plane.specs.Tables.{pair_before}
+use Rattle.std.proofs.{lemmas.List.get_or_past, lemmas.List.Folds.list_any_at}
+use Rattle.loc_spec_plane.specs.{Lists.is_in, Lists.is_rising, Rings.Rings, Tables.pair_before}
 use Rattle.loc_spec_valid.specs.Breaches.{feature_rings, is_hole, polygon_of, ring_places}
 use Rattle.loc_laws_order.proofs.TableOrder.{rises, rises_weakly}
 use Rattle.loc_laws_valid.proofs.Placed.{as_many_places}

@@ -3,8 +3,7 @@ use Rattle.std.proofs.Common.{◌≡◌, ℕ, ◌+◌, ◌<◌, ◌≤◌, Bool,
 use Rattle.std.specs.Prelude.{nat_lt, ◌==◌, find, Option, Some, None, option_map}
 use Rattle.std.specs.List.{list_any}
 use Rattle.std.proofs.lemmas.Bool.{and_from, both_ways, cases_Bool, cases_order, cond-false, cond-true, eq-eqb, eqb-true, and_parts, false_from_ne_true, le-ltb, lt-ltb, ltb-true, ne_eqb, or_cases, or_left, or_right}
-use Rattle.loc_spec_plane.specs.Lists.{numbers}
-use Rattle.loc_spec_plane.specs.Tables.{pair_before}
+use Rattle.loc_spec_plane.specs.{Lists.numbers, Tables.pair_before}
 use Rattle.loc_spec_valid.specs.Breaches.{first_pair}
 use Rattle.loc_laws_valid.proofs.Least.{first_at, first_none, first_pair_at, no_pair}
 use Rattle.loc_valid.specs.Hits.{IsLeast, IsLeastOf, lesser_of}

@@ -1,20 +1,15 @@
 -- The two least polygons of which each distinct list has an odd number of rings, list by list.
 use Rattle.std.proofs.Common.{◌≡◌, ℕ, true, ◌+◌, ◌<◌, ◌≤◌, List, [], ◌∷◌, ◌++◌, length, get_or, sym, ap, subst, inl, inr, arith}
 use Rattle.std.specs.Prelude.{All, ◌==◌, nat_lt}
-use Rattle.std.proofs.Math.Seq.{get_or-append_seam}
-use Rattle.std.proofs.lemmas.Bool.{cases_eq}
-use Rattle.std.proofs.lemmas.List.{get_or_append_left, length-append}
-use Rattle.std.proofs.lemmas.List.Elements.{All-get_or}
-use Rattle.loc_spec_plane.specs.Lists.{is_rising, odd_many}
-use Rattle.loc_spec_plane.specs.Rings.{Rings}
+use Rattle.std.proofs.{Math.Seq.get_or-append_seam, lemmas.Bool.cases_eq}
+use Rattle.std.proofs.{lemmas.List.get_or_append_left, lemmas.List.length-append, lemmas.List.Elements.All-get_or}
+use Rattle.loc_spec_plane.specs.{Lists.is_rising, Lists.odd_many, Rings.Rings}
 use Rattle.loc_laws_order.proofs.TableOrder.{rises_weakly}
 use Rattle.loc_spec_valid.specs.Breaches.{polygon_of}
 use Rattle.loc_laws_rays.proofs.Parity.{odd_many-same}
-use Rattle.loc_valid.specs.declared.least.Least.{Least}
-use Rattle.loc_valid.specs.declared.least.Least.TheVariants.{Zero}
+use Rattle.loc_valid.specs.{declared.least.Least.Least, declared.least.Least.TheVariants.Zero}
 use Rattle.loc_valid.specs.Hits.{AreClimbing, AreHomes, AreLeast, AreOddLists}
-use Rattle.loc_valid.proofs.RingHomes.{as_many_homes, climbs, home_is}
-use Rattle.loc_valid.proofs.Turns.{same_least}
+use Rattle.loc_valid.proofs.{RingHomes.as_many_homes, RingHomes.climbs, RingHomes.home_is, Turns.same_least}
 
 -- the members of a rising list of rings have polygons that do not fall
 pub members_climb : (homes list : List ℕ) → AreClimbing homes → is_rising nat_lt list ≡ true → All (λ r. r < length homes) list → (i j : ℕ) → i ≤ j → j < length list → get_or homes (get_or list i 0) 0 ≤ get_or homes (get_or list j 0) 0

@@ -1,13 +1,10 @@
 -- The layer and the table of one polygon alone: one feature, and cover lists of at most one member.
 use Rattle.std.proofs.Common.{◌≡◌, ℕ, ◌≤◌, Bool, true, List, [], ◌∷◌, length, map, refl, ◌∙◌, ap, inl, inr, arith}
-use Rattle.std.specs.Prelude.{nat_lt, sum_by}
-use Rattle.std.specs.List.{list_all}
+use Rattle.std.specs.{Prelude.nat_lt, Prelude.sum_by, List.list_all}
 use Rattle.std.proofs.lemmas.Bool.{and_parts, and_from, cases_Bool, cond-true, cond-false, lt-ltb, ltb-true}
-use Rattle.std.proofs.lemmas.List.{append-nil, length-map}
-use Rattle.std.proofs.lemmas.List.FromFn.{length-range_with_len}
+use Rattle.std.proofs.{lemmas.List.append-nil, lemmas.List.length-map, lemmas.List.FromFn.length-range_with_len}
 use Rattle.std.proofs.lemmas.List.Sums.{count_by-le-length, length-filter, sum_by-cons}
-use Rattle.loc_spec_plane.specs.Lists.{numbers, sorted_set, with_member}
-use Rattle.loc_spec_plane.specs.Rings.{Rings}
+use Rattle.loc_spec_plane.specs.{Lists.numbers, Lists.sorted_set, Lists.with_member, Rings.Rings}
 use Rattle.loc_spec_plane.specs.Tables.{Table, edge_numbers}
 use Rattle.loc_spec_plane.specs.Covers.{cover_above, cover_lists, cover_sum, feature_count, is_over, list_before}
 use Rattle.loc_laws_noding.proofs.SortedSet.{length-sorted_set}

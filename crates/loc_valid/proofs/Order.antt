@@ -1,8 +1,7 @@
 -- The breaches in their order: where those before do not apply, the first that does is that of the feature.
 use Rattle.std.proofs.Common.{◌≡◌, ℕ, ◌+◌, List, length, refl, ◌∙◌, ap}
 use Rattle.std.specs.Prelude.{Option, Some, None, find, option_map}
-use Rattle.loc_spec_plane.specs.Points.{Edge}
-use Rattle.loc_spec_plane.specs.Rings.{Rings}
+use Rattle.loc_spec_plane.specs.{Points.Edge, Rings.Rings}
 use Rattle.loc_spec_plane.specs.Tables.{Table, corner, corner_numbers, edge, edge_numbers}
 use Rattle.loc_spec_text.specs.Bytes.{or_else}
 use Rattle.loc_spec_valid.specs.Breaches.{Breach, HasNoCrossing, HasSegments, IsBreachOf, feature_rings, first_pair, is_nested, is_outside, is_overlap, is_parted, is_pinch, is_twice, later_breach, nested, outside, overlap, parts, pinch, polygon_numbers, ring_numbers, ring_table, twice}

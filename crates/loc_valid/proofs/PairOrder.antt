@@ -1,8 +1,7 @@
 -- Pairs in order: what a sort by the order of pairs says by their numbers.
 use Rattle.std.proofs.Common.{◌≡◌, ℕ, ◌<◌, Bool, false, ◌||◌, ◌&&◌, Less, Equal, Greater, sym, ◌∙◌, ap, ap₂, inl, inr, arith}
 use Rattle.std.specs.Prelude.{nat_lt, ◌==◌}
-use Rattle.std.specs.Bool.{Decides}
-use Rattle.std.specs.Cmp.{IsStrictWeakOrder, IsTotalOrder}
+use Rattle.std.specs.{Bool.Decides, Cmp.IsStrictWeakOrder, Cmp.IsTotalOrder}
 use Rattle.std.specs.Ordering.{is_lt, nat_cmp, ordering_then}
 use Rattle.std.proofs.lemmas.Bool.{and_parts, and_from, cases_order, cond-true, cond-false, eq-eqb, eqb-true, le-ltb, lt-ltb, ne_eqb, or_left, or_right, both_ways}
 use Rattle.std.proofs.lemmas.Cmp.{nat_cmp_total, on_total, then_total}

@@ -4,8 +4,7 @@ use Rattle.std.specs.Prelude.{nat_lt, count_by, ◌==◌}
 use Rattle.std.specs.List.{list_any, list_all}
 use Rattle.std.proofs.lemmas.Bool.{and_parts, cases_eq, eq-eqb, ne_eqb, ltb-true}
 use Rattle.std.proofs.lemmas.List.Sums.{sum_by-append, sum_by-cons}
-use Rattle.loc_spec_plane.specs.declared.Mark.{Mark}
-use Rattle.loc_spec_plane.specs.Lists.{is_rising}
+use Rattle.loc_spec_plane.specs.{declared.Mark.Mark, Lists.is_rising}
 use Rattle.loc_spec_plane.specs.Tables.{Table, IsTable, edge_numbers, ends_at, has, hi_of, lo_of, mark_before}
 use Rattle.loc_laws_order.proofs.TableOrder.{numbers_within}
 use Rattle.loc_valid.specs.Pinches.{ends_by, ring_ends, ring_ends_of, same_pair}

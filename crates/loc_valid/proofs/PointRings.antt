@@ -1,9 +1,8 @@
 -- Rings that have no segment.
 use Rattle.std.proofs.Common.{◌≡◌, ℕ, ◌-◌, ◌≤◌, Bool, List, [], ◌∷◌, length, drop, map, slice_get, Some, refl, sym, ◌∙◌, ap, arith}
 use Rattle.std.specs.Prelude.{◌==◌}
-use Rattle.std.proofs.lemmas.List.{length-drop}
+use Rattle.std.proofs.{lemmas.List.length-drop, lemmas.Option.get_or_from_slice_get}
 use Rattle.loc_spec_plane.specs.Rings.{Ring, Rings, ring_segments}
-use Rattle.std.proofs.lemmas.Option.{get_or_from_slice_get}
 use Rattle.loc_spec_valid.specs.Breaches.{feature_rings, is_point_ring}
 use Rattle.loc_edges.specs.Layers.{layer_rings}
 use Rattle.loc_rings.specs.Values.{unnamed}

@@ -1,14 +1,10 @@
 -- The least pair that stands more than twice in a list of pairs in order, and the first ring that is pinched.
 use Rattle.std.proofs.Common.{◌≡◌, ℕ, zero, suc, ◌+◌, ◌-◌, ◌<◌, ◌≤◌, Bool, true, false, cond, ◌&&◌, List, length, take, get_or, refl, sym, ◌∙◌, ap, inl, inr, arith}
 use Rattle.std.specs.Prelude.{nat_lt, ◌==◌, count_by, Option, Some, None}
-use Rattle.std.specs.List.{range_with_len}
-use Rattle.std.specs.List.Sorted.{IsPermutation, IsSorted}
+use Rattle.std.specs.{List.range_with_len, List.Sorted.IsPermutation, List.Sorted.IsSorted}
 use Rattle.std.proofs.lemmas.Bool.{cases_Bool, eq-eqb, eqb-true, or_cases, and_parts, le-ltb, lt-ltb, or_left, or_right, and_from}
-use Rattle.std.proofs.lemmas.List.Sums.{sum_by-cons}
-use Rattle.std.proofs.lemmas.List.Sorted.{sum_by-IsPermutation}
-use Rattle.loc_spec_plane.specs.Lists.{numbers}
-use Rattle.loc_spec_plane.specs.Rings.{Rings}
-use Rattle.loc_spec_plane.specs.Covers.{feature_count}
+use Rattle.std.proofs.{lemmas.List.Sums.sum_by-cons, lemmas.List.Sorted.sum_by-IsPermutation}
+use Rattle.loc_spec_plane.specs.{Lists.numbers, Rings.Rings, Covers.feature_count}
 use Rattle.loc_spec_plane.specs.Tables.{Table, IsTable, corner_numbers, edge_numbers, ends_at, has, hi_of, lo_of}
 use Rattle.loc_spec_valid.specs.Breaches.{feature_rings, first_pair, is_pinch, ring_numbers}
 use Rattle.loc_laws_rays.proofs.Members.{feature_below}

@@ -2,8 +2,7 @@
 use Rattle.std.proofs.Common.{◌≡◌, ℕ, zero, suc, ◌+◌, ◌<◌, ◌≤◌, Bool, true, false, ◌&&◌, not, List, [], ◌∷◌, length, take, get_or, refl, sym, ◌∙◌, ap, subst, inl, inr, arith}
 use Rattle.std.specs.Prelude.{◌==◌, Some, None}
 use Rattle.std.proofs.lemmas.Bool.{and_from, and_parts, both_ways, cases_Bool, cases_eq, cond-false, cond-true, eq-eqb, eqb-true, false_from_ne_true, ne_eqb, true≢false}
-use Rattle.loc_spec_plane.specs.Lists.{exactly_one, odd_many}
-use Rattle.loc_spec_plane.specs.Tables.{pair_before}
+use Rattle.loc_spec_plane.specs.{Lists.exactly_one, Lists.odd_many, Tables.pair_before}
 use Rattle.loc_laws_rays.proofs.Parity.{exactly_one_comm, exactly_one_same, odd_many-take_more}
 use Rattle.loc_valid.specs.declared.least.Least.{Least}
 use Rattle.loc_valid.specs.declared.least.Least.TheVariants.{Zero, One, Two}

@@ -9,10 +9,8 @@
 --   IsLaidOut                        a ring table in which no edge is twice, with its legend and the polygon of each ring
 use Rattle.std.specs.Prelude.{◌≡◌, ◌⊎◌, ℕ, ◌<◌, ◌≤◌, Bool, true, false, not, ◌&&◌, List, [], length, get_or, map, nat_lt, if◌then◌else◌, Option, Some, None, ◌==◌}
 use Rattle.std.specs.List.{list_any}
-use Rattle.loc_spec_plane.specs.Lists.{is_in, numbers, odd_many}
-use Rattle.loc_spec_plane.specs.Rings.{Rings}
-use Rattle.loc_spec_plane.specs.Tables.{Table, pair_before}
-use Rattle.loc_spec_plane.specs.Covers.{feature_count}
+use Rattle.loc_spec_plane.specs.{Lists.is_in, Lists.numbers, Lists.odd_many, Rings.Rings}
+use Rattle.loc_spec_plane.specs.{Tables.Table, Tables.pair_before, Covers.feature_count}
 use Rattle.loc_spec_valid.specs.Breaches.{feature_rings, is_hole, polygon_of, ring_places}
 use Rattle.loc_laws_valid.specs.Laws.{HasOneRing, ring_of}
 use Rattle.loc_cover.specs.Legends.{FitsTable, IsTrueLegend, LegendRows}

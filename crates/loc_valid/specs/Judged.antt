@@ -6,17 +6,14 @@
 --   HasFewPieces, HasManyPieces, IsUnpinched, HasManyCovers  the pieces of the rings are few; or they are many, and no ring is a point; none of the first four breaches applies; with that, and few pieces, the cover lists are long
 --   IsRefusedLegend, IsRefusedFeature  why a legend, and why a feature, is refused
 use Rattle.std.specs.Prelude.{ℕ, ◌<◌, ◌≤◌, List, [], ◌∷◌, map, Option, Some, None}
-use Rattle.loc_spec_plane.specs.Rings.{Rings}
-use Rattle.loc_spec_plane.specs.Tables.{Table, piece_count}
-use Rattle.loc_spec_plane.specs.Covers.{cover_sum}
+use Rattle.loc_spec_plane.specs.{Rings.Rings, Tables.Table, Tables.piece_count, Covers.cover_sum}
 use Rattle.loc_spec_valid.specs.Breaches.{HasNoCrossing, HasSegments, feature_rings, part_count, polygon_table, ring_table}
 use Rattle.loc_laws_valid.specs.Laws.{NonePinched, NoneTwice}
 use Rattle.loc_spec_text.specs.Limits.{most_members, most_pieces}
 use Rattle.loc_faces.specs.Subdivision.{face_at, next_at}
 use Rattle.loc_spec_valid.specs.Breaches as rules
-use Rattle.loc_valid.specs.declared.breach.Breach.{Breach}
+use Rattle.loc_valid.specs.{declared.breach.Breach.Breach, declared.fault.ValidFault.ValidFault}
 use Rattle.loc_valid.specs.declared.breach.Breach.TheVariants.{PointRing, Cross, Twice, Pinch, Outside, Nested, Parts, Overlap}
-use Rattle.loc_valid.specs.declared.fault.ValidFault.{ValidFault}
 use Rattle.loc_valid.specs.declared.fault.ValidFault.TheVariants.{ManyPieces, ManyCovers, NoMemory}
 
 -- a breach as the rules name it

@@ -3,11 +3,8 @@
 --   pair_cmp             the order of pairs
 --   same_pair, IsFirstThrice  the least pair that stands in a list more than twice
 use Rattle.std.specs.Prelude.{ℕ, ◌<◌, ◌≤◌, Bool, ◌&&◌, List, [], ◌∷◌, get_or, count_by, Option, Some, None, IsTrue, ◌==◌}
-use Rattle.std.specs.List.{flat_map}
-use Rattle.std.specs.Ordering.{nat_cmp, ordering_then}
-use Rattle.std.specs.declared.cmp.Ordering.{Ordering}
-use Rattle.loc_spec_plane.specs.declared.Mark.{Mark}
-use Rattle.loc_spec_plane.specs.Tables.{Table, edge_numbers, pair_before}
+use Rattle.std.specs.{List.flat_map, Ordering.nat_cmp, Ordering.ordering_then, declared.cmp.Ordering.Ordering}
+use Rattle.loc_spec_plane.specs.{declared.Mark.Mark, Tables.Table, Tables.edge_numbers, Tables.pair_before}
 
 -- each ring that has an edge, with both ends of the edge
 abbrev pub ends_by : ℕ × ℕ → List Mark → List (ℕ × ℕ)

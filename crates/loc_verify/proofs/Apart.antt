@@ -2,14 +2,11 @@
 use Rattle.std.proofs.Common.{◌≡◌, ℕ, ◌-◌, ◌<◌, true, false, not, List, length}
 use Rattle.std.specs.Prelude.{Option, Some, None}
 use Rattle.std.proofs.lemmas.Bool.{both_ways, not-true}
-use Rattle.loc_spec_plane.specs.Points.{conflict}
-use Rattle.loc_spec_plane.specs.Lists.{is_in}
+use Rattle.loc_spec_plane.specs.{Points.conflict, Lists.is_in}
 use Rattle.loc_spec_plane.specs.Tables.{Table, IsTable, NoConflict, edge, hi_of, lo_of}
 use Rattle.loc_laws_order.proofs.Tests.{touch-conflict}
 use Rattle.loc_status.specs.Lists.{is_chain_at, IsBeside, IsInserted, IsRemoved}
-use Rattle.loc_status.specs.declared.status.Beside.{Beside}
-use Rattle.loc_status.specs.Meaning.{IsCause}
-use Rattle.loc_status.specs.declared.status.InsertFault.{InsertFault}
+use Rattle.loc_status.specs.{declared.status.Beside.Beside, Meaning.IsCause, declared.status.InsertFault.InsertFault}
 use Rattle.loc_status.specs.declared.status.InsertFault.TheVariants.{Hits}
 use Rattle.loc_sweep.specs.Line.{AreApart, IsInRange, IsWith, IsWithout}
 use Rattle.loc_sweep.proofs.Chains.{inserted, inserted_neighbours, removed, removed_neighbours}

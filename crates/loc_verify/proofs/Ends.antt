@@ -3,9 +3,8 @@ use Rattle.std.proofs.Common.{◌≡◌, ℕ, suc, ◌<◌, Bool, true, not, Lis
 use Rattle.std.specs.Prelude.{◌==◌}
 use Rattle.std.specs.List.{list_any}
 use Rattle.std.proofs.lemmas.Bool.{and_from, and_parts, eq-eqb, eqb-true, lt-ltb, ltb-true, not_from_false, ne_eqb, or_cases, or_left, or_right, true≢false}
-use Rattle.loc_spec_plane.specs.Lists.{is_in}
+use Rattle.loc_spec_plane.specs.{Lists.is_in, Places.is_edge}
 use Rattle.loc_spec_plane.specs.Tables.{Table, edge_numbers, ends_at, hi_of, lo_of}
-use Rattle.loc_spec_plane.specs.Places.{is_edge}
 use Rattle.loc_laws_order.proofs.Booleans.{same-from_both}
 use Rattle.loc_edges.specs.Ending.{IsBeginning}
 use Rattle.loc_cover.proofs.Gathered.{any_range, some_in}

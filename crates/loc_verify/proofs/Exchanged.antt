@@ -1,7 +1,6 @@
 -- A feature exchanged in place.
 use Rattle.std.proofs.Common.{◌≡◌, ℕ, ◌<◌, ◌≤◌, true, List, [], ◌∷◌, ◌++◌, length, get_or, take, drop, refl, subst, append_assoc, add-one}
-use Rattle.std.specs.Prelude.{nat_lt}
-use Rattle.std.specs.List.{insert, remove}
+use Rattle.std.specs.{Prelude.nat_lt, List.insert, List.remove}
 use Rattle.loc_spec_plane.specs.Lists.{is_rising}
 use Rattle.loc_cover.specs.Exchanges.{IsExchange}
 use Rattle.loc_cover.proofs.Exchanging.{gains, leaves}

@@ -1,15 +1,11 @@
 -- Where each list follows from the one just below it, all lists are those above their edges: by the rank of the edges.
 use Rattle.std.proofs.Common.{◌≡◌, ℕ, zero, suc, ◌+◌, ◌<◌, List, [], length, get_or, Option, None, Some, refl, subst, arith}
 use Rattle.std.specs.Prelude.{nat_lt}
-use Rattle.loc_spec_plane.specs.Lists.{IsRisingListOf, exactly_one, is_in}
-use Rattle.loc_spec_plane.specs.Tables.{Table, IsTable}
-use Rattle.loc_spec_plane.specs.Places.{IsJustBelow}
-use Rattle.loc_spec_plane.specs.Covers.{cover_above, cover_of_floor}
-use Rattle.loc_cover.specs.Exchanges.{is_marked_odd}
-use Rattle.loc_cover.specs.Legends.{LegendRows, list_above, list_over}
+use Rattle.loc_spec_plane.specs.{Lists.IsRisingListOf, Lists.exactly_one, Lists.is_in, Tables.Table, Tables.IsTable}
+use Rattle.loc_spec_plane.specs.{Places.IsJustBelow, Covers.cover_above, Covers.cover_of_floor}
+use Rattle.loc_cover.specs.{Exchanges.is_marked_odd, Legends.LegendRows, Legends.list_above, Legends.list_over}
 use Rattle.loc_cover.specs.Numbered.{AreBelow, IsEven}
-use Rattle.loc_cover.proofs.Numbering.{list_is}
-use Rattle.loc_cover.proofs.Ranked.{below_ranked, below_within, rank}
+use Rattle.loc_cover.proofs.{Numbering.list_is, Ranked.below_ranked, Ranked.below_within, Ranked.rank}
 use Rattle.loc_verify.specs.Following.{IsNext}
 
 module _ (t : Table) (ok : IsTable t) (even : IsEven t) (rows : LegendRows) (below : List (Option ℕ)) (are : AreBelow t below) (next : (e : ℕ) → e < length t.ends → IsNext t rows (get_or below e None) e) where

@@ -3,22 +3,17 @@ use Rattle.std.proofs.Common.{◌≡◌, ◌≢◌, ℕ, ◌<◌, Bool, true, no
 use Rattle.std.specs.Prelude.{IsTrue, Option, Some, None}
 use Rattle.std.specs.List.{list_any}
 use Rattle.std.proofs.lemmas.Bool.{both_ways, false_from_ne_true, not-true, not_from_false}
-use Rattle.loc_spec_plane.specs.Lists.{is_in}
-use Rattle.loc_spec_plane.specs.declared.Mark.{Mark}
+use Rattle.loc_spec_plane.specs.{Lists.is_in, declared.Mark.Mark, Places.IsFloor, Covers.cover_above}
 use Rattle.loc_spec_plane.specs.Tables.{corner, edge, edge_numbers, ends_at, is_on_source}
-use Rattle.loc_spec_plane.specs.Places.{IsFloor}
-use Rattle.loc_spec_plane.specs.Covers.{cover_above}
 use Rattle.loc_laws_order.proofs.Unique.{floor-unique}
 use Rattle.loc_edges.specs.Floors.{AreFloors, FloorLists}
-use Rattle.loc_geom.specs.declared.kinds.Meeting.{Meeting}
-use Rattle.loc_geom.specs.Answers.{IsMeeting}
+use Rattle.loc_geom.specs.{declared.kinds.Meeting.Meeting, Answers.IsMeeting}
 use Rattle.loc_sweep.specs.Swept.{AreInConflict}
 use Rattle.loc_spec_index.specs.Content.{Content, cover_numbers, cover_of_edge, floor_of_corner, table_in}
 use Rattle.loc_spec_index.specs.IndexFile.{IsFileOf}
 use Rattle.loc_spec_index.specs.Flaws.{lone, bare, uneven, conflicting, wrong_floor, wrong_cover, spare_cover, wrong_source}
 use Rattle.loc_laws_index.proofs.FlawKinds as laws
-use Rattle.loc_verify.specs.Judged.{IsLeastOf}
-use Rattle.loc_verify.specs.Least.{IsLeastFailing, IsLeastUneven, is_odd_at}
+use Rattle.loc_verify.specs.{Judged.IsLeastOf, Least.IsLeastFailing, Least.IsLeastUneven, Least.is_odd_at}
 use Rattle.loc_verify.proofs.Ranked.{least_at, least_of}
 
 fails : (b : Bool) → (b ≡ true → ⊥) → not b ≡ true

@@ -1,13 +1,10 @@
 -- How often a number stands in a list, odd or even; and how many of the edges at a corner a feature marks odd.
 use Rattle.std.proofs.Common.{◌≡◌, ℕ, zero, suc, ◌+◌, ◌-◌, ◌<◌, ◌≤◌, Bool, true, false, not, ◌&&◌, ◌||◌, List, [], ◌∷◌, ◌++◌, length, get_or, take, filter, refl, sym, ◌∙◌, ap, subst, inl, inr, arith, cond}
 use Rattle.std.specs.Prelude.{Option, Some, None, IsTrue, count_by, ◌==◌}
-use Rattle.std.specs.List.{list_all, range_with_len}
-use Rattle.std.specs.List.Sorted.{IsPermutation}
+use Rattle.std.specs.{List.list_all, List.range_with_len, List.Sorted.IsPermutation}
 use Rattle.std.proofs.lemmas.Bool.{and_left, and_parts, cases_Bool, cases_eq, cond-false, cond-true, eq-eqb, eqb-true, ltb-true, ne_eqb, or_from}
-use Rattle.std.proofs.lemmas.List.Sorted.{sum_by-IsPermutation}
-use Rattle.std.proofs.lemmas.List.Sums.{sum_by-append}
-use Rattle.loc_spec_plane.specs.declared.Mark.{Mark}
-use Rattle.loc_spec_plane.specs.Lists.{exactly_one, is_rising, odd_many}
+use Rattle.std.proofs.{lemmas.List.Sorted.sum_by-IsPermutation, lemmas.List.Sums.sum_by-append}
+use Rattle.loc_spec_plane.specs.{declared.Mark.Mark, Lists.exactly_one, Lists.is_rising, Lists.odd_many}
 use Rattle.loc_spec_plane.specs.Tables.{Table, IsEvenAt, IsTable, edge_numbers, ends_at, has_odd, hi_of, lo_of, mark_before}
 use Rattle.loc_laws_rays.proofs.Parity.{exactly_one_assoc, exactly_one_comm, exactly_one-false, exactly_one_same, never, odd_many-append, odd_many-exactly_one, odd_many-take_more}
 use Rattle.loc_laws_order.proofs.Booleans.{and_true}

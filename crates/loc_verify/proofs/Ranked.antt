@@ -1,10 +1,8 @@
 -- The kinds of flaws put together in their order: the least of a kind is the first of all where all that is judged before is right.
 use Rattle.std.proofs.Common.{◌≡◌, ◌≢◌, ℕ, ◌<◌, ◌≤◌, true, [], ◌∷◌, length, get_or, refl, sym, ◌∙◌, subst, arith}
 use Rattle.std.specs.Prelude.{IsTrue}
-use Rattle.loc_spec_plane.specs.Lists.{is_in}
+use Rattle.loc_spec_plane.specs.{Lists.is_in, Places.IsFloor, Covers.cover_above}
 use Rattle.loc_spec_plane.specs.Tables.{AllEnds, AllEven, NoConflict, corner, is_on_source}
-use Rattle.loc_spec_plane.specs.Places.{IsFloor}
-use Rattle.loc_spec_plane.specs.Covers.{cover_above}
 use Rattle.loc_spec_index.specs.Content.{Content, cover_numbers, cover_of_edge, floor_of_corner, table_in}
 use Rattle.loc_spec_index.specs.TrueIndex.{IsTrueVersion}
 use Rattle.loc_spec_index.specs.Flaws.{Flaw, HasFlaw, rank, IsFirst, lone, bare, uneven, conflicting, wrong_floor, wrong_cover, spare_cover, wrong_source, deep, wrong_list}

@@ -1,33 +1,21 @@
 -- What following the list of a version says of the version.
 use Rattle.std.proofs.Common.{◌≡◌, ◌≢◌, ℕ, zero, suc, ◌+◌, ◌*◌, ◌^◌, ◌<◌, ◌≤◌, true, ◌||◌, List, [], ◌∷◌, ◌++◌, length, get_or, filter, take, drop, refl, sym, ◌∙◌, ap, subst, append-nil, length-take-le, inl, inr, arith}
-use Rattle.std.specs.Prelude.{IsTrue, nat_lt, slice_get}
-use Rattle.std.specs.List.{IsDistinct}
-use Rattle.std.specs.Set.{is_member}
-use Rattle.std.proofs.Math.Dec.{eqb}
+use Rattle.std.specs.{Prelude.IsTrue, Prelude.nat_lt, Prelude.slice_get, List.IsDistinct, Set.is_member}
+use Rattle.std.proofs.{Math.Dec.eqb, lemmas.Cmp.nat_eq_equiv, Math.Seq.take-append_seam}
 use Rattle.std.proofs.lemmas.Bool.{and_parts, cases_eq, cases_lt, eq-eqb, lt-ltb, ltb-true, ne_eqb, or_left, or_right}
-use Rattle.std.proofs.lemmas.Cmp.{nat_eq_equiv}
-use Rattle.std.proofs.Math.Seq.{take-append_seam}
 use Rattle.std.proofs.lemmas.Option.{none-some, slice_get-get_or, slice_get_past}
-use Rattle.std.proofs.lemmas.List.{drop_all, take_all}
-use Rattle.std.proofs.lemmas.List.Sums.{length-filter}
-use Rattle.std.proofs.lemmas.Map.Keys.{IsDistinct-from_apart}
-use Rattle.std.proofs.lemmas.Map.Made.{length-le_from_is_member}
-use Rattle.loc_spec_plane.specs.Lists.{is_in}
-use Rattle.loc_spec_plane.specs.Points.{Point}
-use Rattle.loc_spec_plane.specs.Tables.{Table, corner, edge_numbers}
+use Rattle.std.proofs.{lemmas.List.drop_all, lemmas.List.take_all, lemmas.List.Sums.length-filter}
+use Rattle.std.proofs.{lemmas.Map.Keys.IsDistinct-from_apart, lemmas.Map.Made.length-le_from_is_member}
+use Rattle.loc_spec_plane.specs.{Lists.is_in, Points.Point, Tables.Table, Tables.corner, Tables.edge_numbers}
 use Rattle.loc_spec_plane.specs.Places.{IsListAt, IsVersion, alive_at}
-use Rattle.loc_laws_order.proofs.Kept.{numbers_rise, rising_kept}
-use Rattle.loc_laws_order.proofs.TableOrder.{rises}
+use Rattle.loc_laws_order.proofs.{Kept.numbers_rise, Kept.rising_kept, TableOrder.rises}
 use Rattle.loc_laws_rays.proofs.Members.{is_in-filter}
 use Rattle.loc_place.proofs.ListCounts.{is_in_member, listed_count}
-use Rattle.loc_spec_index.specs.declared.NodeRow.{NodeRow}
+use Rattle.loc_spec_index.specs.{declared.NodeRow.NodeRow, Content.Content, Content.table_in, Content.root_of}
 use Rattle.loc_spec_index.specs.Nodes.{Side, Left, Right, Reads, nothing, node, child_of, is_deep, IsShallow, led_to, row_of}
-use Rattle.loc_spec_index.specs.Content.{Content, table_in, root_of}
 use Rattle.loc_spec_index.specs.TrueIndex.{IsTrueVersion, alive_count}
-use Rattle.loc_spec_index.specs.Flaws.{DifferFirstAt, IsDeepIn, IsMisread}
-use Rattle.loc_spec_index.specs.IndexFile.{IsFileOf}
-use Rattle.loc_laws_index.proofs.FileFacts.{child-there}
-use Rattle.loc_laws_index.proofs.Reading.{shallow-within}
+use Rattle.loc_spec_index.specs.{Flaws.DifferFirstAt, Flaws.IsDeepIn, Flaws.IsMisread, IndexFile.IsFileOf}
+use Rattle.loc_laws_index.proofs.{FileFacts.child-there, Reading.shallow-within}
 use Rattle.loc_status.proofs.Ends.{at_seam}
 use Rattle.loc_verify.specs.Readings.{HasLongPath, IsReadFrom, PartsAt, PartsFrom, StaysWithin}
 use Rattle.loc_verify.proofs.LevelSteps.{led_front}

@@ -2,12 +2,10 @@
 use Rattle.std.proofs.Common.{◌≡◌, ◌≢◌, ℕ, ◌+◌, ◌-◌, ◌<◌, ◌≤◌, Bool, true, false, not, ◌&&◌, ◌||◌, ◌⊎◌, List, [], ◌∷◌, ◌++◌, length, get_or, refl, sym, ◌∙◌, ap, subst, inl, inr, arith}
 use Rattle.std.specs.Prelude.{Option, Some, None, IfSome, nat_lt, ◌==◌}
 use Rattle.std.proofs.lemmas.Bool.{and_parts, eq-eqb, eqb-true, ltb-true, or_cases, true≢false}
-use Rattle.std.proofs.lemmas.Option.{slice_get-get_or}
-use Rattle.std.proofs.lemmas.List.Folds.{list_any-append, list_any_at}
-use Rattle.loc_spec_plane.specs.Lists.{is_in}
+use Rattle.std.proofs.{lemmas.Option.slice_get-get_or, lemmas.List.Folds.list_any-append, lemmas.List.Folds.list_any_at}
+use Rattle.loc_spec_plane.specs.{Lists.is_in, Covers.cover_above}
 use Rattle.loc_spec_plane.specs.Tables.{Table, IsTable, NoConflict, corner, edge, hi_of, lo_of}
 use Rattle.loc_spec_plane.specs.Places.{IsJustBelow, IsVersion, alive_at, is_edge, lower_of}
-use Rattle.loc_spec_plane.specs.Covers.{cover_above}
 use Rattle.loc_status.specs.Lists.{IsNextBelow}
 use Rattle.loc_status.proofs.Ends as ends
 use Rattle.loc_status.proofs.AtCorner.{alive_at_corner}

@@ -1,9 +1,7 @@
 -- A cover list by the one just below it: `IsNext`.
 use Rattle.std.specs.Prelude.{ℕ, Option, nat_lt, get_or, []}
-use Rattle.loc_spec_plane.specs.Lists.{IsRisingListOf, exactly_one, is_in}
-use Rattle.loc_spec_plane.specs.Tables.{Table}
-use Rattle.loc_cover.specs.Exchanges.{is_marked_odd}
-use Rattle.loc_cover.specs.Legends.{LegendRows, list_above, list_over}
+use Rattle.loc_spec_plane.specs.{Lists.IsRisingListOf, Lists.exactly_one, Lists.is_in, Tables.Table}
+use Rattle.loc_cover.specs.{Exchanges.is_marked_odd, Legends.LegendRows, Legends.list_above, Legends.list_over}
 
 -- the list that an edge names is the one that the edge below names, with the features exchanged that have an odd mark on the edge
 abbrev pub IsNext : Table → LegendRows → Option ℕ → ℕ → Type 0

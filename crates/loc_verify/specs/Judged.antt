@@ -3,8 +3,7 @@
 --   IsVersionFault   a fault is what is wrong with one version
 --   kind_of, IsLeastOf, IsFaultOf  the kinds by their order, and the least flaw of a kind
 use Rattle.std.specs.Prelude.{◌≡◌, ℕ, true}
-use Rattle.loc_spec_plane.specs.Tables.{edge}
-use Rattle.loc_spec_plane.specs.Covers.{list_before}
+use Rattle.loc_spec_plane.specs.{Tables.edge, Covers.list_before}
 use Rattle.loc_geom.specs.Answers.{IsMeeting}
 use Rattle.loc_spec_index.specs.Content.{Content, table_in}
 use Rattle.loc_spec_index.specs.Flaws.{Flaw, HasFlaw, rank, IsDeepIn, IsFirst, IsMisread, lone, bare, uneven, conflicting, wrong_floor, wrong_cover, spare_cover, wrong_source, deep, wrong_list}

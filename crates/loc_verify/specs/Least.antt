@@ -9,8 +9,7 @@
 --   IsLeastWith     the least number so far at which a fact does not hold, with one number more
 --   AreCoversBefore the edges that begin before a corner have the lists above them
 use Rattle.std.specs.Prelude.{◌≡◌, ℕ, ◌<◌, ◌≤◌, ◌⊎◌, Bool, true, false, ◌&&◌, ◌==◌, List, length, Option, Some, None}
-use Rattle.loc_spec_plane.specs.Lists.{odd_many}
-use Rattle.loc_spec_plane.specs.Covers.{cover_above}
+use Rattle.loc_spec_plane.specs.{Lists.odd_many, Covers.cover_above}
 use Rattle.loc_cover.specs.Legends.{LegendRows, list_above}
 use Rattle.loc_spec_plane.specs.Tables.{Table, AllEven, IsEvenAt, edge_numbers, ends_at, has_odd, lo_of}
 

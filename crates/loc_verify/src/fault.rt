@@ -4,10 +4,11 @@ ghost use Rattle.std.specs.Prelude.{◌≡◌};
 
 use loc_geom::Meeting;
 use std::alloc::AllocError;
+use std::fmt;
 use thiserror::Error;
 
 /// The first flaw of an index: corners, edges, features, lists and versions go by number, and so does the position in a list, all from 0.
-#[derive(Clone, Copy, Debug, Drop, Error)]
+#[derive(Clone, Copy, Drop, Error)]
 pub enum VerifyFault {
     /// The corner is the end of no edge.
     #[error("a corner is the end of no edge")]
@@ -42,6 +43,13 @@ pub enum VerifyFault {
     /// Memory was wanting. It says nothing of the index.
     #[error("out of memory")]
     NoMemory,
+}
+
+// A flaw is shown by what it says.
+impl fmt::Debug for VerifyFault {
+    fn fmt<W: fmt::Write>(&self, f: &mut fmt::Formatter<W>) -> fmt::Result {
+        fmt::Display::fmt(self, f)
+    }
 }
 
 impl From<AllocError> for VerifyFault {

@@ -1,17 +1,10 @@
 -- One digit more behind the digits read so far, and behind those of an exponent.
 use Rattle.std.proofs.Common.{List, [], ◌∷◌, ◌++◌, length, take, get_or, min, append_assoc, ◌≡◌, ◌≢◌, ◌⊎◌, ℕ, zero, suc, ◌+◌, ◌-◌, ◌*◌, ◌%◌, ◌^◌, ◌<◌, ◌≤◌, Bool, true, false, refl, sym, ◌∙◌, ap, inl, inr, arith, add-one, add-zero, zero-mul, pow-suc, mul_assoc, mul-one, mul-le-mul_right, mul-le-mul_left, MatchBool, mod-eq_of_lt}
-use Rattle.std.proofs.Math.Nat.{mul-add-mod_self_right}
-use Rattle.std.proofs.lemmas.Nat.{pow-add}
-use Rattle.std.proofs.lemmas.Bool.{and_parts}
-use Rattle.std.proofs.lemmas.Int.Digits.{digits_value_push}
-use Rattle.std.proofs.lemmas.List.{take_more}
-use Rattle.std.specs.Char.{is_ascii_digit}
-use Rattle.std.specs.List.{list_all}
-use Rattle.std.specs.Str.Parse.{digits_value}
-use Rattle.loc_spec_text.proofs.NumberLaws.{ten_pos}
-use Rattle.loc_spec_text.proofs.DigitLaws.{digit_range}
-use Rattle.loc_wkt.specs.declared.grid_numbers.digits.Digits.{Digits}
-use Rattle.loc_wkt.specs.GridNumbers.{Represents}
+use Rattle.std.proofs.{Math.Nat.mul-add-mod_self_right, lemmas.Nat.pow-add, lemmas.Bool.and_parts}
+use Rattle.std.proofs.{lemmas.Int.Digits.digits_value_push, lemmas.List.take_more}
+use Rattle.std.specs.{Char.is_ascii_digit, List.list_all, Str.Parse.digits_value}
+use Rattle.loc_spec_text.proofs.{NumberLaws.ten_pos, DigitLaws.digit_range}
+use Rattle.loc_wkt.specs.{declared.grid_numbers.digits.Digits.Digits, GridNumbers.Represents}
 use Rattle.loc_wkt.proofs.NumberLemmas.{digit_number}
 
 next_power : (z : ℕ) → 10 ^ (z + 1) ≡ 10 ^ z * 10

@@ -2,14 +2,11 @@
 use Rattle.std.proofs.Common.{◌≡◌, ◌≢◌, ℕ, List, [], ◌∷◌, Bool, true, false, ◌&&◌, not, Option, Some, None, MatchOption, refl, sym, ◌∙◌, ap, eqb, subst}
 use Rattle.std.specs.Prelude.{if◌then◌else◌, codes, IfSome, IfNone, is_some}
 use Rattle.std.proofs.lemmas.Bool.{ne_eqb, not-true, not-false, and_parts, both_ways, false_from_ne_true}
-use Rattle.std.specs.Char.{is_ascii_alphabetic}
-use Rattle.std.specs.List.{list_all}
-use Rattle.std.specs.Str.{bytes_eq}
+use Rattle.std.specs.{Char.is_ascii_alphabetic, List.list_all, Str.bytes_eq}
 use Rattle.loc_spec_text.specs.Geometry.{Symbol, word, number, open_mark, close_mark, comma, symbol_of}
 use Rattle.loc_spec_text.specs.Number.{is_number}
 use Rattle.loc_wkt.specs.Fronts.{empty_at, goes_on_at, is_end, is_word, mark_at, number_at, open_at, point_mark_at}
-use Rattle.loc_wkt.proofs.SymbolLemmas.{kind_of, not_that}
-use Rattle.loc_wkt.proofs.TokenFront.{no_number}
+use Rattle.loc_wkt.proofs.{SymbolLemmas.kind_of, SymbolLemmas.not_that, TokenFront.no_number}
 
 abbrev behind_open : Option (ℕ × List Symbol) → Option (List Symbol)
 behind_open (Some (m, ps)) = if eqb m 40 then Some ps else None

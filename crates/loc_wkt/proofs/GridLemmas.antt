@@ -1,15 +1,12 @@
 -- What the parts of a number text, as they are kept, decide of its place on the grid of a scale.
 use Rattle.std.proofs.Common.{◌≡◌, ◌⊎◌, inl, inr, ℕ, ◌+◌, ◌-◌, ◌*◌, ◌^◌, ◌<◌, ◌≤◌, List, [], ◌∷◌, ◌++◌, Bool, true, false, not, ◌||◌, length, min, refl, sym, ◌∙◌, ap, ap₂, subst, arith, length-drop, length-take, mul-le-mul_left}
 use Rattle.std.specs.Prelude.{if◌then◌else◌, pos, neg_ℤ, nat_le}
-use Rattle.std.specs.Char.{is_ascii_digit}
+use Rattle.std.specs.{Char.is_ascii_digit, Str.Parse.digits_value}
 use Rattle.std.specs.List.{before_first, after_first, list_all, list_any, position_or_len}
-use Rattle.std.specs.Str.Parse.{digits_value}
-use Rattle.std.proofs.lemmas.Bool.{and_parts, lt-leb}
-use Rattle.std.proofs.lemmas.List.Folds.{list_all-append}
+use Rattle.std.proofs.{lemmas.Bool.and_parts, lemmas.Bool.lt-leb, lemmas.List.Folds.list_all-append}
 use Rattle.loc_spec_text.specs.Number.{are_digits, exponent, fraction_digits, grid_value, has_exponent, is_exponent_mark, is_in_range, is_negative, is_number, is_on_grid, is_point, is_sign, lowered, magnitude, raised, significand, unsigned, whole_digits}
 use Rattle.loc_spec_text.proofs.NumberLaws.{off_grid, on_grid, out_of_range, zero_on_grid, ten_pos}
-use Rattle.loc_wkt.specs.declared.grid_numbers.Decimal.{Decimal}
-use Rattle.loc_wkt.specs.GridNumbers.{IsDecimal}
+use Rattle.loc_wkt.specs.{declared.grid_numbers.Decimal.Decimal, GridNumbers.IsDecimal}
 use Rattle.loc_wkt.proofs.DigitLemmas.{last_digit, no_digits, not_none}
 use Rattle.loc_wkt.proofs.FirstSymbol.{nothing_after}
 

@@ -1,7 +1,6 @@
 -- Digits that are put from the last to the first.
 use Rattle.std.proofs.Common.{◌≡◌, ℕ, zero, suc, ◌+◌, ◌-◌, ◌*◌, ◌/◌, ◌%◌, ◌^◌, ◌<◌, ◌≤◌, List, [], ◌∷◌, ◌++◌, length, drop, set, true, codes, sym, ◌∙◌, ap, ap₂, arith, pow-suc, add-one, mul_comm}
-use Rattle.std.proofs.lemmas.List.{drop-set, length-set}
-use Rattle.std.proofs.lemmas.Fmt.{length-decimal-le}
+use Rattle.std.proofs.{lemmas.List.drop-set, lemmas.List.length-set, lemmas.Fmt.length-decimal-le}
 use Rattle.std.specs.Fmt.{decimal}
 use Rattle.std.specs.Prelude.{if◌then◌else◌, ℤ, pos, int_lt, unsigned_abs}
 use Rattle.std.proofs.Math.Nat.{div-div-eq-div-mul, div-le_self, div-one}

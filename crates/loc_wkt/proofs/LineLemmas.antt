@@ -2,9 +2,7 @@
 use Rattle.std.proofs.Common.{◌≡◌, ℕ, ◌+◌, ◌-◌, ◌<◌, ◌≤◌, List, [], ◌∷◌, Bool, true, false, length, take, drop, Some, None, refl, sym, ◌∙◌, ap, arith, position, suc, one-add, add-one, subst, length-drop}
 use Rattle.std.specs.Prelude.{◌==◌, nat_lt}
 use Rattle.std.specs.List.{onto_first, position_or_len}
-use Rattle.std.proofs.lemmas.List.{take_all}
-use Rattle.std.proofs.lemmas.Option.{cond_some}
-use Rattle.std.proofs.lemmas.Bool.{ltb-true}
+use Rattle.std.proofs.{lemmas.List.take_all, lemmas.Option.cond_some, lemmas.Bool.ltb-true}
 use Rattle.loc_spec_text.specs.Bytes.{lines}
 use Rattle.loc_spec_text.proofs.CutLaws.{place_none}
 

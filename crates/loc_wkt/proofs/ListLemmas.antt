@@ -1,10 +1,8 @@
 -- Lists in parentheses, read member by member, with what is kept of the members.
 use Rattle.std.proofs.Common.{◌≡◌, ◌<◌, List, [], ◌∷◌, ◌++◌, length, Bool, true, false, Option, Some, None, option_map, refl, sym, ◌∙◌, ap, arith, length-append}
-use Rattle.std.specs.List.{fold}
+use Rattle.std.specs.{List.fold, Str.bytes_eq}
 use Rattle.std.specs.Prelude.{⊤, codes, if◌then◌else◌}
-use Rattle.std.specs.Str.{bytes_eq}
-use Rattle.std.proofs.lemmas.List.Sums.{fold-append}
-use Rattle.std.proofs.lemmas.Option.{same_Some, some_pair_parts}
+use Rattle.std.proofs.{lemmas.List.Sums.fold-append, lemmas.Option.same_Some, lemmas.Option.some_pair_parts}
 use Rattle.loc_spec_text.specs.Geometry.{Symbol, word, open_mark, close_mark, comma, WidePoint, two, three, four, enclosed_or_empty, point, wide_numbers}
 use Rattle.loc_spec_text.specs.Reader.{Reader, enclosed_at, list_at, members_at, next, wide_point_at}
 use Rattle.loc_spec_text.proofs.ReaderLaws.{IsReader, enclosed_reader, list_reader, wide_point_reader}

@@ -3,11 +3,8 @@ use Rattle.std.proofs.Common.{◌≡◌, ℕ, ◌≤◌, List, [], ◌∷◌, �
 use Rattle.std.specs.List.{fold}
 use Rattle.std.proofs.lemmas.List.{map-append}
 use Rattle.loc_spec_plane.specs.Points.{Point}
-use Rattle.loc_spec_text.specs.Geometry.{WidePoint, symbols}
-use Rattle.loc_spec_text.specs.Reader.{Reader, wide_point_at}
-use Rattle.loc_wkt.specs.declared.values.Values.{Values}
-use Rattle.loc_wkt.specs.Fronts.{goes_on_at}
-use Rattle.loc_wkt.specs.Lists.{IsRead, listed_at}
+use Rattle.loc_spec_text.specs.{Geometry.WidePoint, Geometry.symbols, Reader.Reader, Reader.wide_point_at}
+use Rattle.loc_wkt.specs.{declared.values.Values.Values, Fronts.goes_on_at, Lists.IsRead, Lists.listed_at}
 use Rattle.loc_wkt.specs.Passes.{HasRoom, after_point, point_or_zero}
 use Rattle.loc_wkt.proofs.MemberLemmas.{IsSoFar}
 use Rattle.loc_wkt.proofs.ListLemmas.{TakesSymbols, begin, ends, goes_on, kept_more, no_end, no_member, point_takes}

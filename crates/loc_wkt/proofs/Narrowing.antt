@@ -1,8 +1,7 @@
 -- A text is in the grammar of points of two numbers exactly where it is in the wide one and each of its points has two.
 use Rattle.std.proofs.Common.{◌≡◌, ℕ, zero, suc, List, [], ◌∷◌, map, length, Bool, true, false, ◌&&◌, Option, Some, None, option_map, option_and_then, codes, refl, ◌∙◌, ap}
 use Rattle.std.specs.Prelude.{if◌then◌else◌}
-use Rattle.std.specs.List.{list_all}
-use Rattle.std.specs.Str.{bytes_eq}
+use Rattle.std.specs.{List.list_all, Str.bytes_eq}
 use Rattle.loc_spec_text.specs.Geometry.{Symbol, Polygon, PointText, WidePoint, two, three, four, word, number, open_mark, close_mark, comma, other, symbols}
 use Rattle.loc_spec_text.specs.Reader.{Reader, all_of, enclosed_at, geometry_of, list_at, members_at, next, one_of, onto, point_at, tree_after, tree_of, wide_end, wide_geometry_of, wide_more, wide_point_at}
 use Rattle.loc_wkt.specs.Passes.{first_two, has_two}

@@ -2,24 +2,19 @@
 use Rattle.std.proofs.Common.{◌≡◌, ◌≢◌, ℕ, ◌+◌, List, [], ◌∷◌, ◌++◌, map, Bool, true, false, ◌&&◌, not, Option, Some, None, option_map, option_and_then, Ok, Err, refl, sym, ◌∙◌, ap, ap₂, append_assoc, append-nil}
 use Rattle.std.specs.Prelude.{if◌then◌else◌, is_none, ℤ, pos}
 use Rattle.std.specs.List.{flat_map, fold, list_all}
-use Rattle.std.proofs.lemmas.Bool.{and_parts}
-use Rattle.std.proofs.lemmas.Grind.{flat_map-append}
-use Rattle.std.proofs.lemmas.List.Folds.{list_all-append}
+use Rattle.std.proofs.{lemmas.Bool.and_parts, lemmas.Grind.flat_map-append, lemmas.List.Folds.list_all-append}
 use Rattle.std.proofs.lemmas.List.Sums.{fold-append}
 use Rattle.loc_spec_plane.specs.Points.{Point, point_at}
-use Rattle.loc_spec_text.specs.declared.TextFault.{TextFault}
+use Rattle.loc_spec_text.specs.{declared.TextFault.TextFault, Number.grid_value, Number.is_in_range, Number.is_on_grid}
 use Rattle.loc_spec_text.specs.declared.TextFault.TheVariants.{Dimension, NoMemory, OffGrid, Range, Syntax}
 use Rattle.loc_spec_text.specs.Bytes.{err_or, first_fault, ok_unless, or_else}
 use Rattle.loc_spec_text.specs.Geometry.{Polygon, Ring, WidePoint, numbers}
-use Rattle.loc_spec_text.specs.Number.{grid_value, is_in_range, is_on_grid}
 use Rattle.loc_spec_text.specs.Reader.{geometry_of, wide_geometry_of}
 use Rattle.loc_spec_text.specs.Reading.{Polygons, all_numbers, all_rings, number_fault, position, positions, reading, reading_of, ring_fault, value_of, word_fault}
 use Rattle.loc_spec_text.proofs.FaultLaws.{or_else-assoc}
 use Rattle.loc_rings.specs.Values.{with_ring}
 use Rattle.loc_rings.proofs.Cuts.{with_ring-last}
-use Rattle.loc_wkt.specs.declared.values.Counter.{Counter}
-use Rattle.loc_wkt.specs.declared.values.Values.{Values}
-use Rattle.loc_wkt.specs.Lists.{IsUnread}
+use Rattle.loc_wkt.specs.{declared.values.Counter.Counter, declared.values.Values.Values, Lists.IsUnread}
 use Rattle.loc_wkt.specs.Passes.{IsTreeRead, after_point, after_polygon, after_ring, counted, first_two, has_two, nothing_read, outcome, point_or_zero, value_or_zero}
 use Rattle.loc_wkt.proofs.Narrowing.{geometry-narrow, is_narrow, narrow_tree, narrowed}
 

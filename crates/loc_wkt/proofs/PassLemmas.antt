@@ -2,22 +2,17 @@
 use Rattle.std.proofs.Common.{◌≡◌, ℕ, ◌+◌, ◌-◌, ◌++◌, map, not, get_or, ltb, length-append, List, [], ◌∷◌, Bool, true, false, Option, Some, None, option_map, refl, sym, ◌∙◌, ap, ap₂, length, ◌<◌, ◌≤◌, ◌^◌, ℤ, subst, arith}
 use Rattle.std.specs.Prelude.{if◌then◌else◌, is_none, is_err, IfErr, IfOk, IsErrAnd, OnOk, Result, Ok, Err}
 use Rattle.std.specs.List.{fold}
-use Rattle.std.proofs.lemmas.Bool.{le-ltb, lt-ltb, true≢false}
-use Rattle.std.proofs.lemmas.List.{get_or_default}
-use Rattle.std.proofs.lemmas.Result.{err_from_is_err_and}
-use Rattle.std.proofs.lemmas.Option.{some_pair_parts}
+use Rattle.std.proofs.{lemmas.Bool.le-ltb, lemmas.Bool.lt-ltb, lemmas.Bool.true≢false, lemmas.List.get_or_default}
+use Rattle.std.proofs.{lemmas.Result.err_from_is_err_and, lemmas.Option.some_pair_parts}
 use Rattle.loc_spec_plane.specs.Points.{Point, point_at, same_point}
 use Rattle.loc_spec_text.specs.declared.TextFault.{TextFault}
 use Rattle.loc_spec_text.specs.declared.TextFault.TheVariants.{RingOpen, RingShort}
-use Rattle.loc_spec_text.specs.Bytes.{or_else}
+use Rattle.loc_spec_text.specs.{Bytes.or_else, Reader.wide_more, Reader.wide_point_at}
 use Rattle.loc_spec_text.specs.Geometry.{Symbol, number, Polygon, Ring, WidePoint, two, three, four}
-use Rattle.loc_spec_text.specs.Reader.{wide_more, wide_point_at}
 use Rattle.loc_spec_text.specs.Reading.{Polygons, all_rings, ring_fault}
 use Rattle.loc_rings.specs.Values.{with_ring}
-use Rattle.loc_wkt.specs.Fronts.{number_at}
-use Rattle.loc_wkt.specs.Lists.{IsFurther, IsUnread}
+use Rattle.loc_wkt.specs.{Fronts.number_at, Lists.IsFurther, Lists.IsUnread, declared.values.Counter.Counter}
 use Rattle.loc_wkt.specs.Passes.{HasRoom, after_number, after_point, after_polygon, after_ring, counted, first_two, has_two, point_or_zero, value_or_zero, with_values}
-use Rattle.loc_wkt.specs.declared.values.Counter.{Counter}
 use Rattle.loc_wkt.specs.declared.values.Values.{Values}
 
 -- a number is at the front

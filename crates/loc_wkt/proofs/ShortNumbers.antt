@@ -1,26 +1,18 @@
 -- What the bytes of a short number tell: its parts, and that it is a whole symbol.
 use Rattle.std.proofs.Common.{◌≡◌, ◌≢◌, ◌⊎◌, inl, inr, ℕ, zero, suc, ◌+◌, ◌-◌, ◌*◌, ◌^◌, ◌<◌, ◌≤◌, List, [], ◌∷◌, ◌++◌, Bool, true, false, not, ◌&&◌, ◌||◌, length, take, drop, get_or, Some, refl, sym, mul_assoc, mul-le-mul_left, mul-le-mul_right, ◌∙◌, ap, ap₂, subst, arith, ne_eqb, length-take}
 use Rattle.std.specs.Prelude.{if◌then◌else◌, ◌==◌, slice_index}
-use Rattle.std.specs.Char.{is_ascii_digit}
+use Rattle.std.specs.{Char.is_ascii_digit, Str.byte, Str.Parse.digits_value}
 use Rattle.std.specs.List.{before_first, after_first, list_all, position_or_len}
-use Rattle.std.specs.Str.{byte}
-use Rattle.std.specs.Str.Parse.{digits_value}
-use Rattle.std.proofs.Math.Seq.{take-append-add}
+use Rattle.std.proofs.{Math.Seq.take-append-add, lemmas.Nat.pow-add, lemmas.List.Folds.list_all-append}
 use Rattle.std.proofs.lemmas.Bool.{and_parts, eqb-true, or_cases, or_parts}
 use Rattle.std.proofs.lemmas.List.{length-append, take-append-drop, take-take, take_all}
-use Rattle.std.proofs.lemmas.Nat.{pow-add}
-use Rattle.std.proofs.lemmas.List.Folds.{list_all-append}
 use Rattle.loc_spec_text.specs.Bytes.{is_white}
 use Rattle.loc_spec_text.specs.Geometry.{ends_symbol, is_break, is_mark, symbols}
 use Rattle.loc_spec_text.specs.Number.{are_digits, exponent, fraction_digits, has_exponent, is_exponent_mark, is_number, is_point, is_sign, lowered, raised, significand, unsigned, whole_digits}
-use Rattle.loc_spec_text.proofs.NumberLaws.{ten_pos}
+use Rattle.loc_spec_text.proofs.{NumberLaws.ten_pos, DigitLaws.digit_range, DigitLaws.no_point}
 use Rattle.loc_spec_text.proofs.CutLaws.{cut as cut_at_first, first_behind, none_of, uncut}
-use Rattle.loc_spec_text.proofs.DigitLaws.{digit_range, no_point}
-use Rattle.loc_wkt.specs.declared.grid_numbers.short.Front.{Front}
-use Rattle.loc_wkt.specs.Fronts.{number_at}
-use Rattle.loc_wkt.specs.ShortNumbers.{IsFront}
-use Rattle.loc_wkt.proofs.FirstSymbol.{plain_symbol}
-use Rattle.loc_wkt.proofs.FrontLemmas.{number_first}
+use Rattle.loc_wkt.specs.{declared.grid_numbers.short.Front.Front, Fronts.number_at, ShortNumbers.IsFront}
+use Rattle.loc_wkt.proofs.{FirstSymbol.plain_symbol, FrontLemmas.number_first}
 
 -- digits and the point are no breaks and no marks of an exponent
 abbrev in_short : ℕ → Bool

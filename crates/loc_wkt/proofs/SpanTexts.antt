@@ -4,11 +4,8 @@ use Rattle.std.specs.Prelude.{IfSome, IfNone, is_some, if◌then◌else◌, int_
 use Rattle.std.proofs.lemmas.Bool.{both_ways, not-true, not-false, le-leb, lt-leb}
 use Rattle.std.proofs.lemmas.Option.{cond_some, same_Some}
 use Rattle.loc_spec_plane.specs.Points.{point_at as at}
-use Rattle.loc_spec_text.specs.Geometry.{Symbol, PointText, number}
-use Rattle.loc_spec_text.specs.Reader.{point_at}
-use Rattle.loc_spec_text.specs.Number.{grid_value}
-use Rattle.loc_spec_text.specs.Points.{is_grid_number}
-use Rattle.loc_spec_text.specs.Spans.{span_on_grid, span_texts}
+use Rattle.loc_spec_text.specs.{Geometry.Symbol, Geometry.PointText, Geometry.number, Reader.point_at}
+use Rattle.loc_spec_text.specs.{Number.grid_value, Points.is_grid_number, Spans.span_on_grid, Spans.span_texts}
 use Rattle.loc_wkt.specs.Fronts.{number_at}
 use Rattle.loc_wkt.proofs.PassLemmas.{number_front}
 

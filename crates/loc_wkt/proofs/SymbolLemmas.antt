@@ -1,14 +1,10 @@
 -- What kind of symbol a run is, and the mark at the front of a text.
 use Rattle.std.proofs.Common.{◌≡◌, inl, inr, ℕ, ◌-◌, ◌<◌, ◌≤◌, List, [], ◌∷◌, Bool, true, false, ◌||◌, length, take, drop, get_or, Some, None, refl, sym, ◌∙◌, ap, arith}
 use Rattle.std.specs.Prelude.{if◌then◌else◌, codes, ◌==◌}
-use Rattle.std.specs.Char.{is_ascii_alphabetic}
-use Rattle.std.specs.List.{list_all}
-use Rattle.std.specs.Str.{byte, bytes_eq}
+use Rattle.std.specs.{Char.is_ascii_alphabetic, List.list_all, Str.byte, Str.bytes_eq}
 use Rattle.std.proofs.lemmas.Bool.{eqb-true, or_cases, or_parts, or_right, both_ways, false_from_ne_true}
-use Rattle.std.proofs.lemmas.Slice.Eq.{bytes_eq-Decides}
-use Rattle.std.proofs.lemmas.List.{take_all}
-use Rattle.loc_spec_text.specs.Bytes.{drop_while, is_white, capitals}
-use Rattle.loc_spec_text.specs.Number.{is_number}
+use Rattle.std.proofs.{lemmas.Slice.Eq.bytes_eq-Decides, lemmas.List.take_all}
+use Rattle.loc_spec_text.specs.{Bytes.drop_while, Bytes.is_white, Bytes.capitals, Number.is_number}
 use Rattle.loc_spec_text.specs.Geometry.{Symbol, word, number, other, open_mark, close_mark, comma, is_break, is_mark, symbol_of, symbols}
 use Rattle.loc_spec_text.proofs.SymbolLaws.{drop_while-yes, drop_while-no, symbols-skip, symbols-mark, symbols-longest}
 use Rattle.loc_wkt.specs.Fronts.{mark_at}

@@ -2,8 +2,7 @@
 use Rattle.std.proofs.Common.{◌≡◌, ℕ, List, [], ◌∷◌, Bool, true, false, Option, Some, None, Result, Ok, Err, option_and_then, codes, refl, sym, ◌∙◌, ap, ap₂}
 use Rattle.std.specs.Prelude.{if◌then◌else◌, IfErr, IfNone, IfOk, IfSome, is_some, not}
 use Rattle.std.specs.Str.{bytes_eq}
-use Rattle.std.proofs.lemmas.Bool.{not-false, not-true}
-use Rattle.std.proofs.lemmas.Option.{same_Some}
+use Rattle.std.proofs.{lemmas.Bool.not-false, lemmas.Bool.not-true, lemmas.Option.same_Some}
 use Rattle.loc_spec_text.specs.Geometry.{Symbol, PointText, Polygon, word, number, open_mark, close_mark, symbols}
 use Rattle.loc_spec_text.specs.Points.{point_texts}
 use Rattle.loc_spec_text.specs.Reader.{Reader, all_of, list_at, one_of, point_at, tree_after, tree_of, wide_geometry_of}

@@ -1,15 +1,11 @@
 -- The longest token at the front of a text.
 use Rattle.std.proofs.Common.{◌≡◌, ℕ, zero, suc, ◌<◌, ◌≤◌, List, [], ◌∷◌, Bool, true, false, ◌⊎◌, inl, inr, ◌&&◌, ◌||◌, not, ◌==◌, refl, sym, ◌∙◌, ap, subst, arith, one-add, max, ne_eqb, length, take, get_or}
-use Rattle.std.proofs.lemmas.Bool.{and_right, cases_lt, or_right}
-use Rattle.std.proofs.lemmas.Bool.Decides.{nat_tests}
+use Rattle.std.proofs.{lemmas.Bool.and_right, lemmas.Bool.cases_lt, lemmas.Bool.or_right, lemmas.Bool.Decides.nat_tests}
 use Rattle.std.proofs.lemmas.List.{length-take-le, get_or-take}
 use Rattle.std.proofs.lemmas.List.Sums.{prefix_len-le-length, prefix_len_passes, prefix_len_stops}
 use Rattle.std.proofs.lemmas.List.Folds.{list_all_at, length-prefix_len}
-use Rattle.std.specs.Char.{is_ascii_alphabetic}
-use Rattle.std.specs.List.{list_all, prefix_len}
-use Rattle.loc_spec_text.specs.Bytes.{is_white, is_blank}
-use Rattle.loc_spec_text.specs.Number.{is_number}
-use Rattle.loc_spec_text.specs.Tokens.{is_token, is_word}
+use Rattle.std.specs.{Char.is_ascii_alphabetic, List.list_all, List.prefix_len}
+use Rattle.loc_spec_text.specs.{Bytes.is_white, Bytes.is_blank, Number.is_number, Tokens.is_token, Tokens.is_word}
 use Rattle.loc_wkt.specs.TokenList.{longest}
 use Rattle.loc_wkt.proofs.TokenSteps.{no_digit, start_stops}
 use Rattle.loc_wkt.proofs.TokenLongest.{IsLongestTo, longest-is, longest-holds}

@@ -1,12 +1,10 @@
 -- The longest front of a text that passes a test, and the number that a scan finds.
 use Rattle.std.proofs.Common.{◌≡◌, ℕ, zero, suc, ◌+◌, ◌-◌, ◌<◌, ◌≤◌, List, [], ◌∷◌, ◌++◌, Bool, true, false, ◌⊎◌, inl, inr, refl, sym, ◌∙◌, ap, subst, arith, add-one, length, take, drop, get_or, append_assoc}
 use Rattle.std.specs.Prelude.{if◌then◌else◌}
-use Rattle.std.proofs.lemmas.Bool.{cases_lt, true≢false}
-use Rattle.std.proofs.lemmas.List.{take_more, append-nil}
+use Rattle.std.proofs.{lemmas.Bool.cases_lt, lemmas.Bool.true≢false, lemmas.List.take_more, lemmas.List.append-nil}
 use Rattle.std.proofs.Math.Seq.{take-add}
 use Rattle.loc_spec_text.specs.Number.{is_number}
-use Rattle.loc_wkt.specs.TokenList.{longest_to, longest}
-use Rattle.loc_wkt.specs.TokenParts.{completes}
+use Rattle.loc_wkt.specs.{TokenList.longest_to, TokenList.longest, TokenParts.completes}
 use Rattle.loc_wkt.specs.declared.tokens.lengths.Part.{Part}
 
 -- n is the length of the longest front that passes, of those up to m

@@ -2,15 +2,13 @@
 use Rattle.std.proofs.Common.{◌≡◌, ℕ, zero, suc, ◌+◌, ◌-◌, ◌<◌, ◌≤◌, List, [], ◌∷◌, ◌++◌, Bool, true, false, ◌⊎◌, inl, inr, refl, sym, ◌∙◌, ap, subst, arith, add-zero, one-add, length, take, drop, get_or, length-append, length-drop, drop_of_length-le}
 use Rattle.std.specs.Prelude.{if◌then◌else◌}
 use Rattle.std.specs.List.{prefix_len}
-use Rattle.std.proofs.lemmas.Bool.{cases_lt, true≢false}
+use Rattle.std.proofs.{lemmas.Bool.cases_lt, lemmas.Bool.true≢false, lemmas.List.Sums.prefix_len_stops}
 use Rattle.std.proofs.lemmas.List.{take-append-drop, length-take-le, take_rest, get_or-drop}
-use Rattle.std.proofs.lemmas.List.Sums.{prefix_len_stops}
 use Rattle.std.proofs.Math.Seq.{drop-nil, take-add, take-append_seam}
 use Rattle.loc_spec_text.specs.Bytes.{is_white, is_blank}
 use Rattle.loc_spec_text.specs.Tokens.{Token, AreTokens, IsLongest, is_token}
 use Rattle.loc_wkt.specs.TokenList.{longest, token_at, tokens_from}
-use Rattle.loc_wkt.proofs.TokenLongest.{IsLongestTo, longest-holds}
-use Rattle.loc_wkt.proofs.TokenFront.{byte_passes}
+use Rattle.loc_wkt.proofs.{TokenLongest.IsLongestTo, TokenLongest.longest-holds, TokenFront.byte_passes}
 
 -- behind the bytes of a token that has been given
 tokens_from-inside : (text : List ℕ) (place n : ℕ) → tokens_from place n text ≡ tokens_from (place + n) 0 (drop n text)

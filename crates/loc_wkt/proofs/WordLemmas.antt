@@ -1,13 +1,10 @@
 -- The word at the front of a text, as its first symbol and by its letters.
 use Rattle.std.proofs.Common.{◌≡◌, ℕ, List, [], ◌∷◌, Bool, true, false, ◌&&◌, map, refl, sym, ◌∙◌, ap, ap₂, arith, codes}
-use Rattle.std.specs.Char.{is_ascii_alphabetic, to_ascii_lowercase, to_ascii_uppercase}
-use Rattle.std.specs.List.{list_all}
+use Rattle.std.specs.{Char.is_ascii_alphabetic, Char.to_ascii_lowercase, Char.to_ascii_uppercase, List.list_all}
 use Rattle.std.specs.Str.{bytes_eq}
 use Rattle.std.proofs.lemmas.Bool.Decides.{same_from_decides, nat_tests}
 use Rattle.std.proofs.lemmas.Slice.Eq.{bytes_eq-Decides}
-use Rattle.loc_spec_text.specs.Bytes.{capitals}
-use Rattle.loc_spec_text.specs.Geometry.{Symbol, word, symbol_of}
-use Rattle.loc_spec_text.specs.Number.{is_number}
+use Rattle.loc_spec_text.specs.{Bytes.capitals, Geometry.Symbol, Geometry.word, Geometry.symbol_of, Number.is_number}
 use Rattle.loc_wkt.specs.Fronts.{is_word}
 use Rattle.loc_wkt.proofs.SymbolLemmas.{kind_of, letters}
 

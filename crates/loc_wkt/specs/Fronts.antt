@@ -1,8 +1,9 @@
--- What stands at the front of a text's symbols. The words: `mark_at`, `is_word`, `number_at`, `goes_on_at`, `open_at`, `empty_at`, `point_mark_at`, `is_end`.
-use Rattle.std.specs.Prelude.{ℕ, Bool, true, false, List, [], ◌∷◌, codes, if◌then◌else◌, Option, Some, None}
+-- What stands at the front of a text's symbols. The words: `mark_at`, `is_word`, `number_at`, `goes_on_at`, `open_at`, `empty_at`, `point_mark_at`, `is_end`, `IsOn`.
+use Rattle.std.specs.Prelude.{◌≡◌, ℕ, ℤ, IfSome, Bool, true, false, List, [], ◌∷◌, codes, if◌then◌else◌, Option, Some, None}
 use Rattle.std.specs.Str.{byte, bytes_eq}
 use Rattle.loc_spec_text.specs.Geometry.{Symbol, word, number, open_mark, close_mark, comma}
-use Rattle.loc_spec_text.specs.Reader.{Reader}
+use Rattle.loc_spec_plane.specs.Points.{OnGrid}
+use Rattle.loc_spec_text.specs.{Number.grid_value, Points.is_grid_number, Reader.Reader}
 
 -- the byte of the mark at the front, and the symbols behind it
 unfoldable pub mark_at : Reader ℕ
@@ -46,3 +47,8 @@ point_mark_at _ = None
 unfoldable pub is_end : List Symbol → Bool
 is_end (close_mark ∷ []) = true
 is_end _ = false
+
+-- this is the grid value of a number text, where it has one in range
+pub record IsOn (scale : ℕ) (text : List ℕ) (v : Option ℤ) : Type 0 where
+  pub value : v ≡ (if is_grid_number scale text then Some (grid_value scale text) else None)
+  pub bound : IfSome v OnGrid

@@ -2,8 +2,7 @@
 use Rattle.std.specs.Prelude.{◌≡◌, ◌≢◌, ◌⊎◌, ℕ, ◌*◌, ◌%◌, ◌^◌, ◌<◌, ◌≤◌, true, false, List, length, min, MatchBool}
 use Rattle.loc_spec_plane.specs.Points.{OnGrid as IsGridValue}
 use Rattle.loc_spec_text.specs.Number.{fraction_digits, grid_value, is_in_range, is_on_grid, lowered, raised, significand}
-use Rattle.loc_wkt.specs.declared.grid_numbers.digits.Digits.{Digits}
-use Rattle.loc_wkt.specs.declared.grid_numbers.Decimal.{Decimal}
+use Rattle.loc_wkt.specs.{declared.grid_numbers.digits.Digits.Digits, declared.grid_numbers.Decimal.Decimal}
 use Rattle.loc_wkt.specs.declared.grid_numbers.GridNumber.{GridNumber}
 use Rattle.loc_wkt.specs.declared.grid_numbers.GridNumber.TheVariants.{OnGrid, OffGrid, OutOfRange}
 

@@ -4,16 +4,12 @@
 use Rattle.std.specs.Prelude.{◌≡◌, ℕ, ◌+◌, ◌<◌, ◌≤◌, ◌^◌, length, Bool, true, false, List, [], ◌∷◌, ◌++◌, map, if◌then◌else◌, ℤ, pos, Option, Some, None, option_map, is_none, Result, Err}
 use Rattle.std.specs.List.{fold}
 use Rattle.loc_spec_plane.specs.Points.{Point, point_at}
-use Rattle.loc_spec_text.specs.declared.TextFault.{TextFault}
-use Rattle.loc_spec_text.specs.declared.TextFault.TheVariants.{Dimension}
-use Rattle.loc_spec_text.specs.Bytes.{ok_unless, or_else}
-use Rattle.loc_spec_text.specs.Number.{grid_value}
+use Rattle.loc_spec_text.specs.{declared.TextFault.TextFault, declared.TextFault.TheVariants.Dimension}
+use Rattle.loc_spec_text.specs.{Bytes.ok_unless, Bytes.or_else, Number.grid_value, Points.is_grid_number}
 use Rattle.loc_spec_text.specs.Geometry.{Polygon, PointText, Ring, WidePoint, two, three, four}
-use Rattle.loc_spec_text.specs.Points.{is_grid_number}
 use Rattle.loc_spec_text.specs.Reading.{Polygons, all_rings, number_fault, ring_fault}
 use Rattle.loc_rings.specs.Values.{with_ring}
-use Rattle.loc_wkt.specs.declared.values.Counter.{Counter}
-use Rattle.loc_wkt.specs.declared.values.Values.{Values}
+use Rattle.loc_wkt.specs.{declared.values.Counter.Counter, declared.values.Values.Values}
 
 -- the point has two numbers
 abbrev pub has_two : WidePoint → Bool

@@ -1,9 +1,6 @@
 -- Digits with at most one point, at the front of a text. The words: `IsFront`.
 use Rattle.std.specs.Prelude.{◌≡◌, ◌⊎◌, ℕ, ◌≤◌, ◌<◌, true, List, [], ◌∷◌, ◌++◌, length, take}
-use Rattle.std.specs.Char.{is_ascii_digit}
-use Rattle.std.specs.List.{list_all}
-use Rattle.std.specs.Str.{byte}
-use Rattle.std.specs.Str.Parse.{digits_value}
+use Rattle.std.specs.{Char.is_ascii_digit, List.list_all, Str.byte, Str.Parse.digits_value}
 use Rattle.loc_wkt.specs.declared.grid_numbers.short.Front.{Front}
 
 -- The bytes at the front are some digits, and maybe a point and further digits.

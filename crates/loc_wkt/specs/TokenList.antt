@@ -1,7 +1,6 @@
 -- The tokens of a text as a list that is computed. The words: `longest_to`, `longest`, `token_at`, `tokens_from`.
 use Rattle.std.specs.Prelude.{ℕ, zero, suc, ◌+◌, ◌-◌, Bool, List, [], ◌∷◌, length, take, if◌then◌else◌}
-use Rattle.loc_spec_text.specs.Bytes.{is_white}
-use Rattle.loc_spec_text.specs.Tokens.{Token, is_token}
+use Rattle.loc_spec_text.specs.{Bytes.is_white, Tokens.Token, Tokens.is_token}
 
 -- the length of the longest front that passes a test, of those up to a length, and 0 where none does
 abbrev pub longest_to : (List ℕ → Bool) → ℕ → List ℕ → ℕ

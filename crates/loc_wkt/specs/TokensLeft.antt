@@ -2,8 +2,7 @@
 use Rattle.std.specs.Prelude.{List}
 use Rattle.loc_spec_text.specs.Tokens.{Token}
 use Rattle.loc_wkt.specs.declared.tokens.Token.{Token as TokenOfText}
-use Rattle.loc_wkt.specs.declared.tokens.Tokens.{Tokens}
-use Rattle.loc_wkt.specs.TokenList.{tokens_from}
+use Rattle.loc_wkt.specs.{declared.tokens.Tokens.Tokens, TokenList.tokens_from}
 
 -- a token of the program as one of the definitions
 abbrev pub token_of : TokenOfText → Token

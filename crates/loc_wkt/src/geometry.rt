@@ -1,13 +1,13 @@
 // The reader of geometry texts.
 
-ghost use Rattle.std.specs.Prelude.{◌≡◌, ◌≢◌, ◌≤◌, ◌<◌, length, option_and_then, Ok, Err, IfOk, IfErr};
+ghost use Rattle.std.specs.Prelude.{◌≡◌, ◌≢◌, ◌≤◌, ◌<◌, ℕ, List, length, option_and_then, Ok, Err, IfOk, IfErr};
 ghost use Rattle.loc_spec_text.specs.Limits.{most_text};
 ghost use Rattle.loc_spec_text.specs.Bytes.{after_word, capitals, first_word as first_word_of};
 ghost use Rattle.loc_spec_text.specs.Geometry.{symbols};
 ghost use Rattle.loc_spec_text.specs.Reader.{all_of, list_at, one_of, wide_geometry_of};
 ghost use Rattle.loc_spec_text.specs.Reading.{reading, word_fault as word_fault_of};
 ghost use Rattle.loc_wkt.specs.Lists.{IsUnread, wide_polygon_at};
-ghost use Rattle.loc_wkt.specs.Passes.{HasRoom, IsTreeRead, nothing_read, outcome as outcome_of};
+ghost use Rattle.loc_wkt.specs.Passes.{HasRoom, IsTreeRead, outcome as outcome_of};
 
 use crate::marks::{is_this_word, skip_white};
 use crate::tokens::{next_symbol, word_length};
@@ -87,24 +87,20 @@ impl Values {
     }
 }
 
-/// The values of a whole geometry text whose points may have two, three or four numbers.
-fn read_values(alloc: Global, text: &[u8], scale: u8) -> Result<Values, TextFault>
-    requires scale { scale ≤ 15 }
-    requires size { length text.now ≤ most_text }
-    ensures ok { IfOk result (λ values. IsTreeRead (wide_geometry_of text.now) (nothing_read scale) values) }
+/// Reads a whole geometry text whose points may have two, three or four numbers.
+fn read_values(values: &mut Values, alloc: Global, text: &[u8]) -> Result<(), TextFault>
+    requires { (rest : List ℕ) → length rest < length text.now → HasRoom values.old rest }
+    ensures ok { IfOk result (λ u. IsTreeRead (wide_geometry_of text.now) values.old values.new) }
     ensures err { IfErr result (λ fault. IsUnread fault (wide_geometry_of text.now)) }
 {
     let Some((tag, rest)) = next_symbol(text) else {
         return Err(TextFault::Syntax);
     };
-    let mut values = Values::new(alloc, scale);
     if is_this_word(tag, b"POLYGON") {
-        values.read_polygon(alloc, rest)?;
-        return Ok(values);
+        return values.read_polygon(alloc, rest);
     }
     if is_this_word(tag, b"MULTIPOLYGON") {
-        values.read_polygons(alloc, rest)?;
-        return Ok(values);
+        return values.read_polygons(alloc, rest);
     }
     Err(TextFault::Syntax)
 }
@@ -119,6 +115,7 @@ pub fn read_geometry(alloc: Global, text: &[u8], scale: u8) -> Result<Rings, Tex
     if let Some(fault) = word_fault(text) {
         return Err(fault);
     }
-    let values = read_values(alloc, text, scale)?;
+    let mut values = Values::new(alloc, scale);
+    read_values(&mut values, alloc, text)?;
     values.outcome()
 }

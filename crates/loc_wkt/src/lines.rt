@@ -7,7 +7,8 @@ use crate::tokens::is_white;
 
 // Where the first LF stands.
 fn feed_place(text: &[u8]) -> Option<usize>
-    ensures { result ≡ position (λ b. b == 10) text.now }
+    ensures place { result ≡ position (λ b. b == 10) text.now }
+    ensures within { IfSome result (λ i. i < length text.now) }
 {
     text.iter().position(|b| *b == b'\n')
 }

@@ -56,7 +56,6 @@ pub(crate) fn goes_on(text: &[u8]) -> Option<(bool, &[u8])>
 pub(crate) fn next_number(text: &[u8]) -> Option<(NumberText<'_>, &[u8])>
     ensures found { MatchOption result (number_at (symbols text.now) ≡ None) (λ r. number_at (symbols text.now) ≡ Some (text_of r.0, symbols r.1.now)) }
     ensures shorter { IfSome result (λ r. length r.1.now < length text.now) }
-    ensures within { IfSome result (λ r. length (text_of r.0) ≤ length text.now) }
 {
     let text = skip_white(text);
     if let Some((number, rest)) = short_number(text) {

@@ -1,12 +1,12 @@
 // The reader of point lines.
 
-ghost use Rattle.std.specs.Prelude.{◌≡◌, ◌≤◌, ◌<◌, ◌^◌, length, true, if◌then◌else◌, IfSome, MatchOption, Some, None};
+ghost use Rattle.std.specs.Prelude.{◌≡◌, ◌≤◌, ◌<◌, ◌^◌, ℕ, List, length, true, if◌then◌else◌, IfSome, MatchOption, Some, None};
 ghost use Rattle.loc_spec_plane.specs.Points.{OnGrid};
-ghost use Rattle.loc_spec_text.specs.Geometry.{symbols};
+ghost use Rattle.loc_spec_text.specs.Geometry.{PointText, symbols};
 ghost use Rattle.loc_spec_text.specs.Number.{grid_value as grid_value_of};
 ghost use Rattle.loc_spec_text.specs.Points.{is_grid_number, point_of, point_texts};
 ghost use Rattle.loc_spec_text.specs.Reader.{point_at};
-ghost use Rattle.loc_wkt.specs.Fronts.{is_end, point_mark_at};
+ghost use Rattle.loc_wkt.specs.Fronts.{IsOn, is_end, number_at, point_mark_at};
 ghost use Rattle.loc_wkt.specs.NumberTexts.{text_of};
 
 use crate::grid_numbers::{GridNumber, NumberText, on_grid};
@@ -15,14 +15,34 @@ use crate::tokens::next_symbol;
 use loc_geom::Point;
 use loc_spec_text::MOST_LINE;
 
-/// Two numbers at the front of a text, and what follows them.
-pub(crate) fn next_pair(text: &[u8]) -> Option<(NumberText<'_>, NumberText<'_>, &[u8])>
-    ensures found { MatchOption result (point_at (symbols text.now) ≡ None) (λ r. point_at (symbols text.now) ≡ Some ((text_of r.0, text_of r.1), symbols r.2.now)) }
-    ensures first { IfSome result (λ r. length (text_of r.0) ≤ length text.now) }
-    ensures second { IfSome result (λ r. length (text_of r.1) ≤ length text.now) }
+/// The grid value of a number, unless it is off the grid or out of range.
+fn grid_value(number: &NumberText<'_>, scale: u8) -> Option<i64>
+    requires { scale ≤ 15 }
+    ensures value { result ≡ (if is_grid_number scale (text_of number.now) then Some (grid_value_of scale (text_of number.now)) else None) }
+    ensures bound { IfSome result (λ value. OnGrid value) }
 {
-    let (x, rest) = next_number(text)?;
-    let (y, rest) = next_number(rest)?;
+    match on_grid(number, scale) {
+        GridNumber::OnGrid(value) => Some(value),
+        _ => None,
+    }
+}
+
+/// The grid value of the number at the front of a text, if it has one, and what follows it.
+pub(crate) fn next_value(text: &[u8], scale: u8) -> Option<(Option<i64>, &[u8])>
+    requires { scale ≤ 15 }
+    ensures { MatchOption result (number_at (symbols text.now) ≡ None) (λ r. (x : List ℕ) × (number_at (symbols text.now) ≡ Some (x, symbols r.1.now)) × IsOn scale x r.0) }
+{
+    let (number, rest) = next_number(text)?;
+    Some((grid_value(&number, scale), rest))
+}
+
+/// The grid values of two numbers at the front of a text, and what follows them.
+pub(crate) fn next_pair(text: &[u8], scale: u8) -> Option<(Option<i64>, Option<i64>, &[u8])>
+    requires { scale ≤ 15 }
+    ensures { MatchOption result (point_at (symbols text.now) ≡ None) (λ r. (p : PointText) × (point_at (symbols text.now) ≡ Some (p, symbols r.2.now)) × IsOn scale p.0 r.0 × IsOn scale p.1 r.1) }
+{
+    let (x, rest) = next_value(text, scale)?;
+    let (y, rest) = next_value(rest, scale)?;
     Some((x, y, rest))
 }
 
@@ -49,15 +69,14 @@ fn is_close_mark(text: &[u8]) -> bool
     }
 }
 
-/// The numbers of a point line: two alone, or two behind the word POINT in parentheses.
-fn point_numbers(text: &[u8]) -> Option<(NumberText<'_>, NumberText<'_>)>
-    ensures found { MatchOption result (point_texts (symbols text.now) ≡ None) (λ r. point_texts (symbols text.now) ≡ Some (text_of r.0, text_of r.1)) }
-    ensures first { IfSome result (λ r. length (text_of r.0) ≤ length text.now) }
-    ensures second { IfSome result (λ r. length (text_of r.1) ≤ length text.now) }
+/// The grid values of a point line: of two numbers alone, or of two behind the word POINT in parentheses.
+fn point_values(text: &[u8], scale: u8) -> Option<(Option<i64>, Option<i64>)>
+    requires { scale ≤ 15 }
+    ensures { MatchOption result (point_texts (symbols text.now) ≡ None) (λ r. (p : PointText) × (point_texts (symbols text.now) ≡ Some p) × IsOn scale p.0 r.0 × IsOn scale p.1 r.1) }
 {
     match behind_point_mark(text) {
         Some(inside) => {
-            let (x, y, rest) = next_pair(inside)?;
+            let (x, y, rest) = next_pair(inside, scale)?;
             if is_close_mark(rest) {
                 Some((x, y))
             } else {
@@ -65,25 +84,13 @@ fn point_numbers(text: &[u8]) -> Option<(NumberText<'_>, NumberText<'_>)>
             }
         }
         None => {
-            let (x, y, rest) = next_pair(text)?;
+            let (x, y, rest) = next_pair(text, scale)?;
             if next_symbol(rest).is_none() {
                 Some((x, y))
             } else {
                 None
             }
         }
-    }
-}
-
-/// The grid value of a number, unless it is off the grid or out of range.
-pub(crate) fn grid_value(number: &NumberText<'_>, scale: u8) -> Option<i64>
-    requires { scale ≤ 15 }
-    ensures value { result ≡ (if is_grid_number scale (text_of number.now) then Some (grid_value_of scale (text_of number.now)) else None) }
-    ensures bound { IfSome result (λ value. OnGrid value) }
-{
-    match on_grid(number, scale) {
-        GridNumber::OnGrid(value) => Some(value),
-        _ => None,
     }
 }
 
@@ -96,6 +103,6 @@ pub fn read_point(text: &[u8], scale: u8) -> Option<Point>
     if text.len() > MOST_LINE {
         return None;
     }
-    let (x, y) = point_numbers(text)?;
-    Point::new(grid_value(&x, scale)?, grid_value(&y, scale)?)
+    let (x, y) = point_values(text, scale)?;
+    Point::new(x?, y?)
 }

@@ -4,21 +4,20 @@ ghost use Rattle.std.specs.Prelude.{◌≡◌, ◌≤◌, if◌then◌else◌, i
 ghost use Rattle.loc_spec_plane.specs.Points.{OnGrid, point_at};
 ghost use Rattle.loc_spec_plane.specs.Spans.{IsSpan};
 ghost use Rattle.loc_spec_text.specs.Geometry.{symbols};
-ghost use Rattle.loc_spec_text.specs.Spans.{span_on_grid, span_texts};
-ghost use Rattle.loc_wkt.specs.NumberTexts.{text_of};
+ghost use Rattle.loc_spec_text.specs.Spans.{SpanText, span_on_grid, span_texts};
+ghost use Rattle.loc_wkt.specs.Fronts.{IsOn};
 
-use crate::grid_numbers::NumberText;
-use crate::marks::next_number;
-use crate::points::{grid_value, next_pair};
+use crate::points::{next_pair, next_value};
 use crate::tokens::next_symbol;
 use loc_geom::Point;
 
-/// The numbers of a span line: three, and nothing behind them.
-fn span_numbers(text: &[u8]) -> Option<(NumberText<'_>, NumberText<'_>, NumberText<'_>)>
-    ensures { MatchOption result (span_texts (symbols text.now) ≡ None) (λ r. span_texts (symbols text.now) ≡ Some (text_of r.0, text_of r.1, text_of r.2)) }
+/// The grid values of a span line: of three numbers, and nothing behind them.
+fn span_values(text: &[u8], scale: u8) -> Option<(Option<i64>, Option<i64>, Option<i64>)>
+    requires { scale ≤ 15 }
+    ensures { MatchOption result (span_texts (symbols text.now) ≡ None) (λ r. (s : SpanText) × (span_texts (symbols text.now) ≡ Some s) × IsOn scale s.0 r.0 × IsOn scale s.1 r.1 × IsOn scale s.2 r.2) }
 {
-    let (x, low, rest) = next_pair(text)?;
-    let (high, rest) = next_number(rest)?;
+    let (x, low, rest) = next_pair(text, scale)?;
+    let (high, rest) = next_value(rest, scale)?;
     if next_symbol(rest).is_none() {
         Some((x, low, high))
     } else {
@@ -47,10 +46,6 @@ pub fn read_span(text: &[u8], scale: u8) -> Option<(Point, Point)>
     ensures value { result ≡ option_and_then (span_on_grid scale) (span_texts (symbols text.now)) }
     ensures span { IfSome result (λ span. IsSpan span.0 span.1) }
 {
-    let (x, low, high) = span_numbers(text)?;
-    span_between(
-        grid_value(&x, scale)?,
-        grid_value(&low, scale)?,
-        grid_value(&high, scale)?,
-    )
+    let (x, low, high) = span_values(text, scale)?;
+    span_between(x?, low?, high?)
 }

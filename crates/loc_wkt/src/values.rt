@@ -1,7 +1,6 @@
 // What is kept while a geometry text is read.
 
 ghost use Rattle.std.specs.Prelude.{◌≡◌, ◌+◌, ◌<◌, ◌≤◌, ◌^◌, ◌++◌, ℕ, List, [], ◌∷◌, length, true, if◌then◌else◌, option_map, IfSome, IfNone, MatchOption, Some, None, OnOk};
-ghost use Rattle.loc_spec_text.specs.Limits.{most_text};
 ghost use Rattle.loc_rings.specs.Values.{IsRing};
 ghost use Rattle.loc_spec_plane.specs.Points.{OnGrid};
 ghost use Rattle.loc_spec_text.specs.Bytes.{or_else};
@@ -129,7 +128,6 @@ impl Values {
 
     /// The grid value of the next number, or 0 where it is off the grid or out of range.
     pub(crate) fn value(&mut self, text: &NumberText<'_>) -> i64
-        requires length { length (text_of text.now) ≤ most_text }
         requires scale { self.old.scale ≤ 15 }
         requires room { self.old.numbers.count < 2 ^ 28 }
         ensures value { result ≡ value_or_zero self.old.scale (text_of text.now) }

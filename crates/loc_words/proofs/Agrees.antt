@@ -1,11 +1,9 @@
 -- A walk over words agrees with what they give: it has no fault exactly where they give something with different names, and then it finds that.
 use Rattle.std.proofs.Common.{◌≡◌, true, false, List, [], ◌∷◌, ◌++◌, map, fold, Option, Some, None, option_map, refl, sym, ◌∙◌, ap, subst, append_assoc, inl, inr}
-use Rattle.std.proofs.lemmas.Bool.{cases_Bool}
-use Rattle.std.proofs.lemmas.List.{map-append}
+use Rattle.std.proofs.{lemmas.Bool.cases_Bool, lemmas.List.map-append}
 use Rattle.clap.specs.Walk.{Row, Walk, has_row, settled_rows, walked}
 use Rattle.clap.specs.Faults.{repeat_fault, settle_fault, turn_fault, walk_fault}
-use Rattle.clap.specs.Kinds.{Kinds, or_else}
-use Rattle.clap.specs.Simple.{Shape}
+use Rattle.clap.specs.{Kinds.Kinds, Kinds.or_else, Simple.Shape}
 use Rattle.loc_spec_text.specs.Bytes.{Text}
 use Rattle.loc_words.specs.Rows.{Entry, are_different}
 use Rattle.loc_words.proofs.Distinct.{ids, absent, one_more}

@@ -1,8 +1,7 @@
 -- A word cut at its first "=".
 use Rattle.std.proofs.Common.{◌≡◌, ◌+◌, ℕ, suc, Bool, true, false, not, List, [], ◌∷◌, ◌++◌, take, drop, refl, sym, ◌∙◌, ap, append-nil, ap₂, cond, inl, inr, arith, one-add, length, ◌<◌}
 use Rattle.std.specs.List.{before_first, after_first, prefix_len, list_any, position_or_len}
-use Rattle.std.proofs.lemmas.Bool.{cases_Bool}
-use Rattle.std.proofs.lemmas.Bool.Decides.{Decides-eqb}
+use Rattle.std.proofs.{lemmas.Bool.cases_Bool, lemmas.Bool.Decides.Decides-eqb}
 use native.Mathlib.Numerals.{unary_clauses}
 use Rattle.loc_spec_text.specs.Bytes.{Text}
 use Rattle.loc_words.specs.Rows.{is_equals}

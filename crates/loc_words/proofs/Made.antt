@@ -1,8 +1,7 @@
 -- The command of `clap` that is made rule by rule.
 use Rattle.std.proofs.Common.{◌≡◌, ◌+◌, ◌<◌, ℕ, List, [], ◌∷◌, map, take, length, get_or, sym, ◌∙◌, ap, append_assoc}
 use Rattle.std.proofs.lemmas.List.{map-append, take_more}
-use Rattle.clap.specs.Walk.{Rule}
-use Rattle.clap.specs.Simple.{App, on_top, with_rule}
+use Rattle.clap.specs.{Walk.Rule, Simple.App, Simple.on_top, Simple.with_rule}
 use Rattle.loc_words.specs.Apps.{with_rules}
 
 -- one rule more

@@ -2,8 +2,7 @@
 use Rattle.std.proofs.Common.{◌≡◌, ◌∙◌, List, [], ◌∷◌, map, length, Option, Some, None, String, string_bytes, option_map, ok_or, Result, Ok, Err, IfErr, refl, sym, ap, arith}
 use Rattle.loc_spec_text.specs.Bytes.{Text}
 use Rattle.loc_words.specs.Words.{Asked, asked_by, command_of, commands, named_in}
-use Rattle.loc_words.specs.declared.command.Command.{Command}
-use Rattle.loc_words.specs.declared.fault.WordsFault.{WordsFault}
+use Rattle.loc_words.specs.{declared.command.Command.Command, declared.fault.WordsFault.WordsFault}
 use Rattle.loc_words.specs.declared.fault.WordsFault.TheVariants.{Refused}
 
 pub no_words : {Z : Type 0} (words : List (String Z)) → length words ≡ 0 → command_of (map string_bytes words) ≡ None

@@ -1,9 +1,7 @@
 -- The row that a name has, and the command of its name that words are.
 use Rattle.std.proofs.Common.{◌≡◌, ◌∙◌, Bool, true, false, List, [], ◌∷◌, map, find, if◌then◌else◌, Option, Some, None, option_and_then, ap, refl, subst, sym}
-use Rattle.std.specs.List.{list_all}
-use Rattle.std.specs.Str.{bytes_eq}
-use Rattle.std.proofs.lemmas.Bool.{and_parts}
-use Rattle.std.proofs.lemmas.Option.{same_Some}
+use Rattle.std.specs.{List.list_all, Str.bytes_eq}
+use Rattle.std.proofs.{lemmas.Bool.and_parts, lemmas.Option.same_Some}
 use Rattle.loc_spec_text.specs.Bytes.{Text}
 use Rattle.loc_words.specs.Rows.{CommandRow, Entry, given_of, is_row}
 use Rattle.loc_words.specs.Words.{Asked, Making, commands, made_in, named_in, row_in}

@@ -1,9 +1,6 @@
 -- Numbers by their digits.
 use Rattle.std.proofs.Common.{◌≡◌, ◌==◌, ◌^◌, ℕ, ◌<◌, ◌≤◌, true, false, [], ◌∷◌, length, Some, None, Result, Ok, Err, nat_lt, nat_le, refl, ◌∙◌, ap, arith, inl, inr}
-use Rattle.std.specs.Char.{is_ascii_digit}
-use Rattle.std.specs.List.{list_all}
-use Rattle.std.specs.Int.{IsInRange}
-use Rattle.std.specs.Result.{OkIff, result_ok}
+use Rattle.std.specs.{Char.is_ascii_digit, List.list_all, Int.IsInRange, Result.OkIff, Result.result_ok}
 use Rattle.std.specs.Str.Parse.{IsNumeral, ParsesUnsigned, digits_value, without_leading_plus}
 use Rattle.std.proofs.lemmas.Bool.{and_parts, cases_Bool, ne_eqb, le-leb, lt-ltb, ltb-true}
 use Rattle.std.proofs.lemmas.Str.Parse.{numerals_by_value}

@@ -5,9 +5,7 @@ use Rattle.std.specs.List.{before_first, after_first, list_any, list_all}
 use Rattle.std.proofs.lemmas.Bool.{and_parts, cases_Bool, ne_eqb, or_cases}
 use Rattle.std.proofs.lemmas.Bool.Decides.{Decides-eqb}
 use Rattle.clap.specs.Walk.{Row, Rule, arg_by_long, settled_rows, walked}
-use Rattle.clap.specs.Faults.{settle_fault, turn_fault}
-use Rattle.clap.specs.Kinds.{Kinds, or_else}
-use Rattle.clap.specs.Simple.{Shape}
+use Rattle.clap.specs.{Faults.settle_fault, Faults.turn_fault, Kinds.Kinds, Kinds.or_else, Simple.Shape}
 use Rattle.clap.proofs.OnLiterals.{clap_on_literals}
 use Rattle.loc_spec_text.specs.Bytes.{Text}
 use Rattle.loc_words.specs.Rows.{OptionRow, Entry, are_different, is_equals, is_of, is_value, named, option_in, settings, settings_of, takes}

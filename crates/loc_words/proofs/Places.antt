@@ -2,13 +2,9 @@
 use Rattle.std.proofs.Common.{◌≡◌, ◌==◌, ◌+◌, ◌&&◌, min, ℕ, Bool, true, false, List, [], ◌∷◌, Option, Some, option_map, sym, subst}
 use Rattle.std.specs.List.{list_all}
 use Rattle.std.proofs.lemmas.Bool.{and_parts}
-use Rattle.clap.specs.Lexer.{usize_max}
-use Rattle.clap.specs.Walk.{Row, Rule, settled_rows}
-use Rattle.clap.specs.Faults.{settle_fault}
-use Rattle.clap.specs.Simple.{Shape}
+use Rattle.clap.specs.{Lexer.usize_max, Walk.Row, Walk.Rule, Walk.settled_rows, Faults.settle_fault, Simple.Shape}
 use Rattle.loc_spec_text.specs.Bytes.{Text}
-use Rattle.loc_words.specs.Rows.{OptionRow, entries_of, is_value}
-use Rattle.loc_words.specs.Tested.{is_tested}
+use Rattle.loc_words.specs.{Rows.OptionRow, Rows.entries_of, Rows.is_value, Tested.is_tested}
 use Rattle.loc_words.proofs.Agrees.{Agrees, agrees_as, one_use, walk_end, walk_on, walk_total}
 use Rattle.loc_words.proofs.Options.{HasOptions, on_settings, plain_word}
 use Rattle.loc_words.proofs.Walking.{IsPlace, held, state, placed, placed_fault, place_once, place_settles}

@@ -1,20 +1,14 @@
 -- The rules that a row makes, and what is found among them by name and by number.
 use Rattle.std.proofs.Common.{◌≡◌, ◌==◌, ◌+◌, ◌<◌, ◌||◌, ℕ, Bool, true, false, not, List, [], ◌∷◌, ◌++◌, map, length, Option, Some, None, option_map, refl, sym, ◌∙◌, ap, arith, inl, inr}
-use Rattle.std.specs.Prelude.{find}
-use Rattle.std.specs.List.{list_any}
-use Rattle.std.specs.Option.{option_map_or}
-use Rattle.std.specs.Str.{bytes_eq}
+use Rattle.std.specs.{Prelude.find, List.list_any, Option.option_map_or, Str.bytes_eq}
 use Rattle.std.proofs.lemmas.Bool.{and_parts, cases_Bool, ne_eqb, not-true, or_parts}
-use Rattle.std.proofs.lemmas.Bool.Decides.{Decides-eqb}
-use Rattle.std.proofs.lemmas.List.Folds.{list_any-append}
+use Rattle.std.proofs.{lemmas.Bool.Decides.Decides-eqb, lemmas.List.Folds.list_any-append}
 use Rattle.std.proofs.lemmas.Slice.Eq.{bytes_eq-Decides}
-use Rattle.clap.specs.Lexer.{usize_max}
+use Rattle.clap.specs.{Lexer.usize_max, Simple.filled, Simple.filled_from, Simple.with_index}
 use Rattle.clap.specs.Walk.{Rule, arg_by_id, arg_by_index, arg_by_long}
-use Rattle.clap.specs.Simple.{filled, filled_from, with_index}
 use Rattle.loc_spec_text.specs.Bytes.{Text}
-use Rattle.loc_words.specs.Apps.{option_rule, place_rule}
+use Rattle.loc_words.specs.{Apps.option_rule, Apps.place_rule, declared.row.OptionKind.OptionKind}
 use Rattle.loc_words.specs.Rows.{OptionRow, are_different, is_of, takes}
-use Rattle.loc_words.specs.declared.row.OptionKind.{OptionKind}
 use Rattle.loc_words.specs.declared.row.OptionKind.TheVariants.{Required, Optional, Flag}
 use Rattle.loc_words.proofs.Options.{Stands, nothing, option, flag}
 use Rattle.loc_words.proofs.Places.{HasPlaces, next, place_after}

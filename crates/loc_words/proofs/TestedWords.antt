@@ -6,12 +6,10 @@ use Rattle.std.proofs.lemmas.Bool.{and_parts, cases_Bool, le-leb, leb-true, or_p
 use Rattle.std.proofs.lemmas.Slice.Eq.{bytes_eq-Decides}
 use Rattle.loc_spec_text.specs.Bytes.{Text}
 use Rattle.loc_words.specs.Rows.{OptionRow, Entry, entries_of, is_equals, is_of, is_value, settings, takes}
-use Rattle.loc_words.specs.Tested.{are_tested, is_tested}
-use Rattle.loc_words.specs.declared.row.OptionKind.{OptionKind}
+use Rattle.loc_words.specs.{Tested.are_tested, Tested.is_tested, declared.row.OptionKind.OptionKind}
 use Rattle.loc_words.specs.declared.row.OptionKind.TheVariants.{Required, Optional, Flag}
-use Rattle.loc_words.proofs.Cuts.{before-dashes, dashed}
+use Rattle.loc_words.proofs.{Cuts.before-dashes, Cuts.dashed, Places.tested_from}
 use Rattle.loc_words.proofs.Options.{alone_first, apart_first, flag_first, joined_first}
-use Rattle.loc_words.proofs.Places.{tested_from}
 
 -- an option by its full name, and a value where one stands with it
 pub record IsNamed (word : Text) (value : Option Text) : Type 0 where

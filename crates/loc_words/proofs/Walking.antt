@@ -1,21 +1,16 @@
 -- What one word does to `clap`'s walk over the words: a place, an option that takes one value, its value, and a flag.
 use Rattle.std.proofs.Common.{◌≡◌, ◌==◌, ◌+◌, ◌&&◌, min, ℕ, Bool, true, false, List, [], ◌∷◌, ◌++◌, Option, Some, None, refl, ap, inl, inr}
-use Rattle.std.specs.List.{before_first, after_first}
-use Rattle.std.specs.Str.{bytes_eq}
-use Rattle.std.proofs.lemmas.Bool.{cases_Bool, or_parts}
-use Rattle.std.proofs.lemmas.Slice.Eq.{bytes_eq-Decides}
-use Rattle.clap.specs.Lexer.{has_byte, usize_max}
+use Rattle.std.specs.{List.before_first, List.after_first, Str.bytes_eq}
+use Rattle.std.proofs.{lemmas.Bool.cases_Bool, lemmas.Bool.or_parts, lemmas.Slice.Eq.bytes_eq-Decides}
+use Rattle.clap.specs.{Lexer.has_byte, Lexer.usize_max, Kinds.Kinds, Kinds.or_else}
 use Rattle.clap.specs.Walk.{Held, Walk, Row, Rule, Text, walked, settled_rows, idle, option, with_values, without, has_row, arg_by_id, arg_by_index, arg_by_long}
 use Rattle.clap.specs.Faults.{turn_fault, settle_fault, repeat_fault, walk_fault}
-use Rattle.clap.specs.Kinds.{Kinds, or_else}
-use Rattle.clap.specs.Simple.{Shape, filled, with_index}
-use Rattle.clap.specs.Values.{reading_of}
+use Rattle.clap.specs.{Simple.Shape, Simple.filled, Simple.with_index, Values.reading_of}
 use Rattle.clap.specs.declared.builder.value_parser.ValueParser.TheVariants as vp
 use Rattle.clap.specs.declared.parser.matches.ValueSource.TheVariants.{CommandLine}
 use Rattle.clap.specs.declared.error.kind.ErrorKind.TheVariants as kind
 use Rattle.clap.proofs.OnLiterals.{clap_on_literals}
-use Rattle.loc_words.specs.Apps.{long_rule, place_rule}
-use Rattle.loc_words.specs.Rows.{Entry}
+use Rattle.loc_words.specs.{Apps.long_rule, Apps.place_rule, Rows.Entry}
 
 -- the rules have an option of this name
 pub record IsOption (rules : List Rule) (name : Text) : Type 0 where

@@ -1,31 +1,23 @@
 -- The whole parse of the words of a row.
 use Rattle.std.proofs.Common.{◌≡◌, ◌+◌, ◌<◌, ◌&&◌, ◌||◌, ℕ, Bool, true, false, not, cond, List, [], ◌∷◌, ◌++◌, map, length, fold, nat_lt, Option, Some, None, is_some, option_map, option_and_then, Result, Ok, Err, IfOk, refl, sym, ◌∙◌, ap, ap₂, subst, arith, inl, inr}
-use Rattle.std.specs.Prelude.{count_by}
-use Rattle.std.specs.List.{find, list_any, list_all}
-use Rattle.std.specs.Str.{bytes_eq}
-use Rattle.std.proofs.Math.Bool.{or_assoc}
+use Rattle.std.specs.{Prelude.count_by, List.find, List.list_any, List.list_all, Str.bytes_eq}
+use Rattle.std.proofs.{Math.Bool.or_assoc, lemmas.List.Folds.list_any-append, lemmas.Slice.Eq.bytes_eq-Decides}
 use Rattle.std.proofs.lemmas.Bool.{and_parts, cases_Bool, ltb-true, not-true, or_parts}
-use Rattle.std.proofs.lemmas.List.Folds.{list_any-append}
-use Rattle.std.proofs.lemmas.Slice.Eq.{bytes_eq-Decides}
 use Rattle.clap.specs.Facts.{Entry as Found}
-use Rattle.clap.specs.Lexer.{usize_max}
+use Rattle.clap.specs.{Lexer.usize_max, Takes.is_given, Kinds.Kinds, Kinds.or_else}
 use Rattle.clap.specs.Walk.{Row, Rule, arg_by_index, first_of, has_row, is_early_multiple, nothing_held, row_of, walk, with_default}
-use Rattle.clap.specs.Takes.{is_given}
 use Rattle.clap.specs.Faults.{check_fault, default_fault, defaults_fault, entered_fault, fault_of, is_simple_and_free, level_fault, settle_fault, walk_fault}
-use Rattle.clap.specs.Kinds.{Kinds, or_else}
 use Rattle.clap.specs.Simple.{Shape, built, entered, filled, matches_of, with_index}
 use Rattle.clap.proofs.OnLiterals.{clap_on_literals}
 use Rattle.loc_spec_text.specs.Bytes.{Text}
 use Rattle.loc_words.specs.Apps.{Parses, app_of_row, entry_of, given_by, option_rule, place_rule}
 use Rattle.loc_words.specs.Rows.{CommandRow, OptionRow, Entry, are_different, entries_of, given_of, is_required, is_row, is_value, is_whole, names_of, stands, value_in}
-use Rattle.loc_words.specs.Tested.{are_tested}
+use Rattle.loc_words.specs.{Tested.are_tested, declared.parser.Given.Given}
 use Rattle.std.specs.declared.alloc.AllocError.{AllocError}
-use Rattle.loc_words.specs.declared.parser.Given.{Given}
 use Rattle.loc_words.proofs.Agrees.{Agrees, names, or_else-assoc, both_quiet, walk_end, walk_total, words_after}
-use Rattle.loc_words.proofs.Options.{HasOptions, Stands}
+use Rattle.loc_words.proofs.{Options.HasOptions, Options.Stands, TestedWords.given_tested, TestedWords.tested_is}
 use Rattle.loc_words.proofs.Places.{HasPlaces, on_entries, place_after, tested_from, next}
 use Rattle.loc_words.proofs.Rules.{filled_option, none_behind, options_known, placed_rules, places_known, rules_filled}
-use Rattle.loc_words.proofs.TestedWords.{given_tested, tested_is}
 use Rattle.loc_words.proofs.Walking.{row, state, no_fault}
 
 -- what holds of each rule of places and options

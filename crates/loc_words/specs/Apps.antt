@@ -1,13 +1,11 @@
 -- A row as a simple command of `clap`, and what `clap` found under each name.
 use Rattle.std.specs.Prelude.{◌≡◌, ℕ, List, ◌++◌, [], Bool, true, map, Option, Some, None, Result, Ok, Err, slice_get, ⊤}
 use Rattle.clap.specs.Words.{App, Row, Rule, fault_of, found_of, matches_of, new_app, new_rule, rows_of}
-use Rattle.clap.specs.Simple.{on_top}
-use Rattle.clap.specs.declared.builder.action.ArgAction.TheVariants.{Set}
+use Rattle.clap.specs.{Simple.on_top, declared.builder.action.ArgAction.TheVariants.Set}
 use Rattle.std.specs.declared.alloc.AllocError.{AllocError}
 use Rattle.loc_spec_text.specs.Bytes.{Text}
 use Rattle.loc_words.specs.Rows.{CommandRow, OptionRow, Entry, is_required, is_row, given_of}
-use Rattle.loc_words.specs.declared.parser.Given.{Given}
-use Rattle.loc_words.specs.declared.row.OptionKind.{OptionKind}
+use Rattle.loc_words.specs.{declared.parser.Given.Given, declared.row.OptionKind.OptionKind}
 use Rattle.loc_words.specs.declared.row.OptionKind.TheVariants.{Flag}
 
 -- a place, which is required

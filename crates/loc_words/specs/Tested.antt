@@ -1,7 +1,6 @@
 -- What is tested of words before they are parsed. The words: `is_long`, `has_value`, `is_tested`, `are_tested`.
 use Rattle.std.specs.Prelude.{ℕ, ◌==◌, Bool, false, not, ◌&&◌, ◌||◌, List, [], ◌∷◌, length, nat_le, take, drop}
-use Rattle.std.specs.List.{list_all, list_any, after_first}
-use Rattle.std.specs.Str.{byte}
+use Rattle.std.specs.{List.list_all, List.list_any, List.after_first, Str.byte}
 use Rattle.loc_spec_text.specs.Bytes.{Text}
 use Rattle.loc_words.specs.Rows.{is_equals, is_value}
 

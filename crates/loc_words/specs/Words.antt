@@ -1,15 +1,11 @@
 -- The command that a list of words is: the rows of the commands, what each makes of the words that are given for its row, and
 -- `command_of` for the whole list.
 use Rattle.std.specs.Prelude.{ℕ, ◌≤◌, ◌^◌, ◌&&◌, Bool, List, [], ◌∷◌, ◌++◌, length, codes, map, nat_lt, nat_le, if◌then◌else◌, Option, Some, None, option_map, option_and_then, find, ⊤}
-use Rattle.std.specs.Char.{is_ascii_digit}
-use Rattle.std.specs.List.{list_all}
-use Rattle.std.specs.Str.{bytes_eq}
-use Rattle.std.specs.Str.Parse.{digits_value}
-use Rattle.loc_spec_text.specs.Bytes.{Text}
+use Rattle.std.specs.{Char.is_ascii_digit, List.list_all, Str.bytes_eq, Str.Parse.digits_value}
+use Rattle.loc_spec_text.specs.{Bytes.Text, declared.Form.Form}
 use Rattle.loc_spec_asked.specs.declared.Index.{Index}
 use Rattle.loc_spec_asked.specs.declared.Index.TheVariants.{Scan, Tree, Trap}
 use Rattle.loc_spec_asked.specs.Orders.{AskedOrder, asked_order, in_file, shuffled_from}
-use Rattle.loc_spec_text.specs.declared.Form.{Form}
 use Rattle.loc_spec_text.specs.declared.Form.TheVariants.{Lines, Csv}
 use Rattle.loc_gen.specs.declared.kinds.Kind.{Kind}
 use Rattle.loc_gen.specs.declared.kinds.Kind.TheVariants.{Grid, Nest, Strips}
@@ -17,8 +13,7 @@ use Rattle.loc_words.specs.Rows.{CommandRow, OptionRow, Entry, given_of, stands,
 use Rattle.loc_words.specs.declared.row.OptionKind.TheVariants.{Required, Optional, Flag}
 use Rattle.loc_words.specs.declared.row.CommandRow.{CommandRow as Row}
 use Rattle.loc_words.specs.declared.row.OptionRow.{OptionRow as Declared}
-use Rattle.loc_words.specs.declared.command.Command.{Command}
-use Rattle.loc_words.specs.declared.command.LayerFile.{LayerFile}
+use Rattle.loc_words.specs.{declared.command.Command.Command, declared.command.LayerFile.LayerFile}
 use Rattle.loc_words.specs.declared.command.Command.TheVariants.{Query, Features, Check, Build, Ask, Verify, Face, Gen, Trial, Upgrade, Edges, Stab, Valid, Dissolve}
 
 -- what a command says of its layer's file

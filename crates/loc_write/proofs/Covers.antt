@@ -1,7 +1,6 @@
 -- The bytes of a cover list: its length, and its members.
 use Rattle.std.proofs.Common.{◌≡◌, ℕ, Bool, List, [], ◌∷◌, ◌++◌, length, map, refl, sym, ◌∙◌, ap, append-nil}
-use Rattle.std.specs.Int.{w32, to_be_bytes}
-use Rattle.std.specs.List.{flat_map}
+use Rattle.std.specs.{Int.w32, Int.to_be_bytes, List.flat_map}
 use Rattle.loc_spec_index.specs.declared.Part.TheVariants.{Covers}
 use Rattle.loc_spec_index.specs.IndexFile.{number, order, spelled_all}
 use Rattle.loc_write.specs.Bytes.{cover_bytes, number_bytes}

@@ -1,26 +1,19 @@
 -- The bytes of a content of a table, a legend and versions are its file: every field is right.
 use Rattle.std.proofs.Common.{◌≡◌, ℕ, ◌+◌, ◌*◌, ◌^◌, ◌<◌, ◌≤◌, true, false, List, [], length, map, get_or, refl, sym, ◌∙◌, subst, arith}
-use Rattle.std.specs.Prelude.{None, All, sum_by}
-use Rattle.std.specs.List.{flat_map}
-use Rattle.std.specs.Int.{w32}
+use Rattle.std.specs.{Prelude.None, Prelude.All, Prelude.sum_by, List.flat_map, Int.w32}
 use Rattle.std.proofs.lemmas.List.{get_or_default}
-use Rattle.loc_spec_plane.specs.Lists.{is_rising}
-use Rattle.loc_spec_plane.specs.Points.{before, IsGridPoint}
+use Rattle.loc_spec_plane.specs.{Lists.is_rising, Points.before, Points.IsGridPoint}
 use Rattle.loc_spec_plane.specs.Covers.{feature_count, list_before}
 use Rattle.loc_spec_plane.specs.Tables.{Table, IsTable, mark_before}
-use Rattle.loc_spec_index.specs.declared.NodeRow.{NodeRow}
-use Rattle.loc_spec_index.specs.Content.{Content, EdgeRow}
+use Rattle.loc_spec_index.specs.{declared.NodeRow.NodeRow, Content.Content, Content.EdgeRow}
 use Rattle.loc_spec_index.specs.IndexFile.{number, none_or_next, are_right, rows_from, parts, fields, bytes_of, header_fields, id_fields, corner_fields, edge_fields, edge_row_before, mark_fields, mark_row_before, cover_fields, node_fields, IsFileOf}
 use Rattle.loc_laws_index.proofs.RightFields.{all-right, parts-right}
 use Rattle.loc_laws_index.proofs.RightRows.{IsMarkIn, rising-chain}
 use Rattle.loc_cover.specs.Legends.{LegendRows, FitsTable, IsSound}
 use Rattle.loc_edges.specs.Small.{IsSmallTable}
-use Rattle.loc_persist.specs.Meaning.{VersionsMeaning}
-use Rattle.loc_persist.specs.Numbered.{IsWithin}
+use Rattle.loc_persist.specs.{Meaning.VersionsMeaning, Numbered.IsWithin}
 use Rattle.loc_write.specs.Written.{content_of}
-use Rattle.loc_write.proofs.Lists.{edge-at, length-edges}
-use Rattle.loc_write.proofs.Ranges.{floor-within}
-use Rattle.loc_write.proofs.Spelling.{length-marks}
+use Rattle.loc_write.proofs.{Lists.edge-at, Lists.length-edges, Ranges.floor-within, Spelling.length-marks}
 use Rattle.loc_write.proofs.Right.{each-at, rows-right, flat-right, map-right, id-right, corner-right, IsEdgeWithin, edge-right, chain-edges, mark-right, marks-each, features-each, chain-marks, IsListWithin, covers-right, node-right}
 use Rattle.loc_spec_text.specs.Limits.{most_id_bytes}
 

@@ -3,10 +3,7 @@ use Rattle.std.proofs.Common.{◌≡◌, ℕ, zero, suc, ◌+◌, ◌<◌, Bool,
 use Rattle.std.specs.Prelude.{◌==◌, filter, cond}
 use Rattle.std.specs.List.{range_with_len}
 use Rattle.std.proofs.lemmas.Bool.{ne_eqb, eq-eqb}
-use Rattle.loc_spec_plane.specs.Lists.{numbers}
-use Rattle.loc_spec_plane.specs.Points.{Point}
-use Rattle.loc_spec_plane.specs.declared.Mark.{Mark}
-use Rattle.loc_spec_plane.specs.Tables.{Table, IsTable}
+use Rattle.loc_spec_plane.specs.{Lists.numbers, Points.Point, declared.Mark.Mark, Tables.Table, Tables.IsTable}
 use Rattle.loc_spec_index.specs.Content.{Content, EdgeRow, table_in, marks_of, cover_numbers}
 use Rattle.loc_cover.specs.Legends.{LegendRows}
 use Rattle.loc_write.specs.Written.{edge_rows, marks_from, content_of, ContentHoldsParts}

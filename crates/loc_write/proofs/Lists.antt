@@ -1,14 +1,11 @@
 -- What is left of lists of rows as they are put, one row after the other.
 use Rattle.std.proofs.Common.{◌≡◌, ℕ, zero, suc, ◌+◌, ◌<◌, ◌≤◌, List, [], ◌∷◌, ◌++◌, length, drop, map, get_or, Some, refl, sym, ◌∙◌, ap, arith}
-use Rattle.std.specs.Prelude.{slice_get}
-use Rattle.std.specs.List.{flat_map}
-use Rattle.std.proofs.lemmas.List.{at_drop_more, at_drop_all}
-use Rattle.std.proofs.lemmas.Option.{get_or_from_slice_get}
+use Rattle.std.specs.{Prelude.slice_get, List.flat_map}
+use Rattle.std.proofs.{lemmas.List.at_drop_more, lemmas.List.at_drop_all, lemmas.Option.get_or_from_slice_get}
 use Rattle.std.proofs.lemmas.Grind.{flat_map-append}
 use Rattle.loc_spec_plane.specs.declared.Mark.{Mark}
 use Rattle.loc_spec_index.specs.Content.{EdgeRow}
-use Rattle.loc_write.specs.Bytes.{edge_bytes, mark_bytes}
-use Rattle.loc_write.specs.Written.{edge_rows, marks_from}
+use Rattle.loc_write.specs.{Bytes.edge_bytes, Bytes.mark_bytes, Written.edge_rows, Written.marks_from}
 
 -- ---- the text of the rows from one on is its own, and that of the rows behind it
 

@@ -1,17 +1,13 @@
 -- The number of a node, and its row by number, are the only ones.
 use Rattle.std.proofs.Common.{◌≡◌, ℕ, zero, suc, ◌+◌, ◌<◌, ◌≤◌, Bool, true, false, List, [], ◌∷◌, ◌++◌, length, refl, sym, ◌∙◌, ap, subst, arith, length-append}
 use Rattle.std.proofs.lemmas.Bool.{ltb-true, ltb-false}
-use Rattle.std.proofs.lemmas.List.{get_or_default, get_or_append_left}
-use Rattle.std.proofs.lemmas.Option.{slice_get_within}
+use Rattle.std.proofs.{lemmas.List.get_or_default, lemmas.List.get_or_append_left, lemmas.Option.slice_get_within}
 use Rattle.std.proofs.Math.Seq.{get_or-append_seam}
 use Rattle.std.specs.Prelude.{Option, Some, None, slice_get, get_or, All, nat_lt}
-use Rattle.loc_pool.specs.declared.Link.{Link}
-use Rattle.loc_pool.specs.Maps.{Map, links}
+use Rattle.loc_pool.specs.{declared.Link.Link, Maps.Map, Maps.links}
 use Rattle.loc_pool.specs.Rows.{Row, row, AreNames, IsPlace}
-use Rattle.loc_spec_index.specs.declared.NodeRow.{NodeRow}
-use Rattle.loc_spec_index.specs.Nodes.{row_of, no_row}
-use Rattle.loc_persist.specs.Numbered.{IsNumber, IsNodeRow, IsWithin}
-use Rattle.loc_persist.specs.Meaning.{VersionsMeaning}
+use Rattle.loc_spec_index.specs.{declared.NodeRow.NodeRow, Nodes.row_of, Nodes.no_row}
+use Rattle.loc_persist.specs.{Numbered.IsNumber, Numbered.IsNodeRow, Numbered.IsWithin, Meaning.VersionsMeaning}
 use Rattle.loc_persist.specs.ByNumber.{AreRowsByNumber, AreRootsByNumber}
 use Rattle.loc_persist.proofs.Places.{place-once}
 

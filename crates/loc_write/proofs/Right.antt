@@ -1,19 +1,13 @@
 -- When the fields of rows are right: each number is below its bound, and each row comes behind the one before it.
 use Rattle.std.proofs.Common.{◌≡◌, ℕ, zero, suc, ◌+◌, ◌-◌, ◌^◌, ◌<◌, ◌≤◌, Bool, true, false, ◌&&◌, List, [], ◌∷◌, ◌++◌, length, map, get_or, refl, sym, subst, arith, ℤ, pos, negsuc}
 use Rattle.std.specs.Prelude.{Option, Some, None, nat_lt, ◌==◌, min, sum_by, fold, max, if◌then◌else◌, unsigned_abs}
-use Rattle.std.specs.List.{flat_map, last_or, list_all}
-use Rattle.std.specs.Int.{w32}
+use Rattle.std.specs.{List.flat_map, List.last_or, List.list_all, Int.w32}
 use Rattle.std.proofs.lemmas.Bool.{and_parts, and_from, or_left, or_right, lt-ltb, ltb-true, eqb-true, eq-eqb}
-use Rattle.std.proofs.lemmas.Int.{ints}
-use Rattle.std.proofs.lemmas.List.Sums.{sum_by-append}
-use Rattle.loc_spec_plane.specs.Lists.{is_rising}
+use Rattle.std.proofs.{lemmas.Int.ints, lemmas.List.Sums.sum_by-append}
+use Rattle.loc_spec_plane.specs.{Lists.is_rising, Covers.list_before, declared.Mark.Mark}
 use Rattle.loc_spec_plane.specs.Points.{Point, before, OnGrid, IsGridPoint}
-use Rattle.loc_spec_plane.specs.Covers.{list_before}
-use Rattle.loc_spec_plane.specs.declared.Mark.{Mark}
 use Rattle.loc_spec_plane.specs.Tables.{pair_before, mark_before}
-use Rattle.loc_spec_index.specs.declared.NodeRow.{NodeRow}
-use Rattle.loc_spec_index.specs.declared.Part.TheVariants.{Covers}
-use Rattle.loc_spec_index.specs.Content.{EdgeRow}
+use Rattle.loc_spec_index.specs.{declared.NodeRow.NodeRow, declared.Part.TheVariants.Covers, Content.EdgeRow}
 use Rattle.loc_spec_index.specs.IndexFile.{Field, number, order, bit, follows, is_right, are_right, rows_from, is_rising_pair, id_fields, corner_fields, edge_fields, edge_row_before, mark_fields, mark_row_before, cover_fields, node_fields}
 use Rattle.loc_laws_index.proofs.Progress.{are_right-append}
 use Rattle.loc_laws_index.proofs.RightFields.{Holds, holds-right, all-right}

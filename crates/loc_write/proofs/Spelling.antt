@@ -1,22 +1,16 @@
 -- The bytes of a content, part by part: those of its header, and the texts of its rows.
 use Rattle.std.proofs.Common.{◌≡◌, ℕ, ◌+◌, List, [], ◌∷◌, ◌++◌, length, map, refl, sym, ◌∙◌, ap, append_assoc, append-nil, length-append, arith}
-use Rattle.std.specs.Prelude.{sum_by}
-use Rattle.std.specs.Int.{w32, to_be_bytes}
-use Rattle.std.specs.List.{flat_map}
-use Rattle.std.proofs.lemmas.List.{length-map}
-use Rattle.std.proofs.lemmas.List.Sums.{sum_by-append}
-use Rattle.loc_spec_plane.specs.declared.Mark.{Mark}
-use Rattle.loc_spec_plane.specs.Tables.{Table}
-use Rattle.loc_spec_index.specs.declared.NodeRow.{NodeRow}
-use Rattle.loc_spec_index.specs.Content.{Content}
+use Rattle.std.specs.{Prelude.sum_by, Int.w32, Int.to_be_bytes, List.flat_map}
+use Rattle.std.proofs.{lemmas.List.length-map, lemmas.List.Sums.sum_by-append}
+use Rattle.loc_spec_plane.specs.{declared.Mark.Mark, Tables.Table}
+use Rattle.loc_spec_index.specs.{declared.NodeRow.NodeRow, Content.Content}
 use Rattle.loc_spec_index.specs.IndexFile.{Field, number, none_or_next, spelled_all, rows_from, parts, fields, bytes_of, id_fields, corner_fields, edge_fields, mark_fields, cover_fields, node_fields}
 use Rattle.loc_laws_index.proofs.Progress.{flat-rows, map-rows, spelled_all-append}
 use Rattle.loc_cover.specs.Legends.{LegendRows}
 use Rattle.loc_write.specs.Bytes.{header_bytes, id_bytes, corner_bytes, edge_bytes, mark_bytes, cover_bytes, number_bytes, node_bytes}
 use Rattle.loc_write.specs.Texts.{front_text, head_text, list_text, tree_text}
 use Rattle.loc_write.specs.Written.{marks_from, content_of}
-use Rattle.loc_write.proofs.Lists.{length-edges}
-use Rattle.loc_write.proofs.Covers.{members}
+use Rattle.loc_write.proofs.{Lists.length-edges, Covers.members}
 
 both : (a a' b b' : List ℕ) → a ≡ a' → b ≡ b' → a ++ b ≡ a' ++ b'
 both a a' b b' e f = cc

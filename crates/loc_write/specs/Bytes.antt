@@ -2,10 +2,8 @@
 -- The words: header_bytes, id_bytes, corner_bytes, edge_bytes, mark_bytes, cover_bytes, number_bytes and node_bytes, each of such a row.
 use Rattle.std.specs.Prelude.{ℕ, List, [], ◌∷◌, codes}
 use Rattle.std.specs.Int.{w32}
-use Rattle.loc_spec_plane.specs.declared.Mark.{Mark}
-use Rattle.loc_spec_plane.specs.Points.{Point}
-use Rattle.loc_spec_index.specs.declared.NodeRow.{NodeRow}
-use Rattle.loc_spec_index.specs.Content.{EdgeRow}
+use Rattle.loc_spec_plane.specs.{declared.Mark.Mark, Points.Point}
+use Rattle.loc_spec_index.specs.{declared.NodeRow.NodeRow, Content.EdgeRow}
 use Rattle.loc_spec_index.specs.IndexFile.{magic, version, number, spelled_all, id_fields, corner_fields, edge_fields, mark_fields, cover_fields, node_fields}
 
 -- a header of the second version

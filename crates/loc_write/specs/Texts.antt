@@ -2,8 +2,7 @@
 use Rattle.std.specs.Prelude.{ℕ, List, ◌++◌, length, sum_by}
 use Rattle.std.specs.List.{flat_map}
 use Rattle.loc_spec_plane.specs.Tables.{Table}
-use Rattle.loc_spec_index.specs.declared.NodeRow.{NodeRow}
-use Rattle.loc_spec_index.specs.IndexFile.{none_or_next}
+use Rattle.loc_spec_index.specs.{declared.NodeRow.NodeRow, IndexFile.none_or_next}
 use Rattle.loc_cover.specs.Legends.{LegendRows}
 use Rattle.loc_write.specs.Bytes.{header_bytes, id_bytes, corner_bytes, edge_bytes, mark_bytes, cover_bytes, number_bytes, node_bytes}
 use Rattle.loc_write.specs.Written.{edge_rows, marks_from}

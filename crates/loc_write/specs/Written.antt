@@ -6,13 +6,11 @@
 --   HoldsParts         a content has the table, and says of its edges what the legend says
 --   ContentHoldsParts  as a law: a content of a table, a legend and versions holds them
 use Rattle.std.specs.Prelude.{◌≡◌, ℕ, ◌+◌, List, [], ◌∷◌, ◌++◌, length, map}
-use Rattle.loc_spec_plane.specs.declared.Mark.{Mark}
-use Rattle.loc_spec_plane.specs.Tables.{Table, IsTable}
+use Rattle.loc_spec_plane.specs.{declared.Mark.Mark, Tables.Table, Tables.IsTable}
 use Rattle.loc_spec_index.specs.declared.NodeRow.{NodeRow}
 use Rattle.loc_spec_index.specs.Content.{Content, EdgeRow, table_in, cover_numbers}
 use Rattle.loc_cover.specs.Legends.{LegendRows}
-use Rattle.loc_persist.specs.Meaning.{VersionsMeaning}
-use Rattle.loc_persist.specs.ByNumber.{AreRowsByNumber, AreRootsByNumber}
+use Rattle.loc_persist.specs.{Meaning.VersionsMeaning, ByNumber.AreRowsByNumber, ByNumber.AreRootsByNumber}
 
 -- edges by their ends, sources and cover lists
 abbrev pub edge_rows : List (ℕ × ℕ) → List (ℕ × ℕ) → List ℕ → List EdgeRow

@@ -1,7 +1,6 @@
 use Rattle.loc_spec_text.specs.Points.{ended}
 use Rattle.loc_batch.specs.PointLines.{is_point_line}
-use Rattle.loc_course.specs.Moments.{moment}
-use Rattle.loc_course.specs.Stops.{end_of, source}
+use Rattle.loc_course.specs.{Moments.moment, Stops.end_of, Stops.source}
 use Rattle.loc_answering.proofs.Places.{places_source}
 use Rattle.loc_answering.proofs.answer_source.Goals as goal
 

@@ -1,6 +1,4 @@
-use Rattle.loc_laws_built.proofs.Counted.{layer_fits}
-use Rattle.loc_laws_built.proofs.Spelled.{bytes_of_are}
-use Rattle.loc_laws_built.proofs.True.{content_is_true}
+use Rattle.loc_laws_built.proofs.{Counted.layer_fits, Spelled.bytes_of_are, True.content_is_true}
 use Rattle.loc_laws_built.proofs.built_law.Goals as goal
 
 pub returns-clause-is_true : goal.returns-clause-is_true

@@ -1,6 +1,5 @@
 use Rattle.loc_laws_judge.proofs.First.{found_is_first, none_is_true, true_has_none}
-use Rattle.loc_laws_judge.proofs.Readable.{files_are_readable}
-use Rattle.loc_laws_judge.proofs.Same.{first_is_found}
+use Rattle.loc_laws_judge.proofs.{Readable.files_are_readable, Same.first_is_found}
 use Rattle.loc_laws_judge.proofs.first_flaw_law.Goals as goal
 
 pub returns-clause-file : goal.returns-clause-file

@@ -1,5 +1,4 @@
-use Rattle.loc_laws_order.proofs.Floors.{floor_of_list}
-use Rattle.loc_laws_order.proofs.ListLaws.{list_is_chain, list_from_chain}
+use Rattle.loc_laws_order.proofs.{Floors.floor_of_list, ListLaws.list_is_chain, ListLaws.list_from_chain}
 use Rattle.loc_laws_order.proofs.Unique.{list-unique}
 use Rattle.loc_laws_order.proofs.list_law.Goals as goal
 

@@ -1,5 +1,4 @@
-use Rattle.loc_laws_rays.proofs.Along.{parity_along}
-use Rattle.loc_laws_rays.proofs.Covering.{cover_law, touch_law}
+use Rattle.loc_laws_rays.proofs.{Along.parity_along, Covering.cover_law, Covering.touch_law}
 use Rattle.loc_laws_rays.proofs.cover_law.Goals as goal
 
 pub returns-clause-parity : goal.returns-clause-parity

@@ -1,6 +1,4 @@
-use Rattle.loc_laws_rays.proofs.RayLaw.{segment_law}
-use Rattle.loc_laws_rays.proofs.RayRings.{ring_law}
-use Rattle.loc_laws_rays.proofs.RayEdges.{edges_law}
+use Rattle.loc_laws_rays.proofs.{RayLaw.segment_law, RayRings.ring_law, RayEdges.edges_law}
 use Rattle.loc_laws_rays.proofs.ray_law.Goals as goal
 
 pub returns-clause-segment : goal.returns-clause-segment

@@ -1,5 +1,4 @@
-use Rattle.loc_laws_valid.proofs.ByLists.{breaches_by_lists}
-use Rattle.loc_laws_valid.proofs.Inside.{inside_by_list}
+use Rattle.loc_laws_valid.proofs.{ByLists.breaches_by_lists, Inside.inside_by_list}
 use Rattle.loc_laws_valid.proofs.inside_law.Goals as goal
 
 pub returns-clause-inside : goal.returns-clause-inside

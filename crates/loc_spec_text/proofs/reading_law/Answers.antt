@@ -1,6 +1,5 @@
 use Rattle.std.proofs.Common.{sym, subst, Result}
-use Rattle.loc_spec_text.specs.declared.TextFault.{TextFault}
-use Rattle.loc_spec_text.specs.Reading.{Reads, Polygons}
+use Rattle.loc_spec_text.specs.{declared.TextFault.TextFault, Reading.Reads, Reading.Polygons}
 use Rattle.loc_spec_text.proofs.ReaderLaws.{Reads-reading, reading_reads}
 use Rattle.loc_spec_text.proofs.reading_law.Goals as goal
 

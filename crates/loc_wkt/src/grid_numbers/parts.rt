@@ -1,6 +1,6 @@
 // The parts of a number text: its digits before and behind the point, and its exponent.
 
-ghost use Rattle.std.specs.Prelude.{◌≡◌, ◌≤◌, ◌+◌, ℕ, List, length, position, true, false, IfSome, IfNone};
+ghost use Rattle.std.specs.Prelude.{◌≡◌, ◌≤◌, ◌<◌, ◌+◌, ℕ, List, length, position, true, false, IfSome, IfNone};
 ghost use Rattle.std.specs.Char.{is_ascii_digit};
 ghost use Rattle.std.specs.List.{before_first, after_first, list_all, list_any};
 ghost use Rattle.loc_spec_text.specs.Number.{are_digits, exponent, fraction_digits, has_exponent, is_exponent_mark, is_number as is_number_text, is_point, whole_digits};
@@ -18,14 +18,16 @@ pub struct NumberParts<'a> {
 
 /// The place of the first point.
 fn point_place(text: &[u8]) -> Option<usize>
-    ensures { result ≡ position is_point text.now }
+    ensures place { result ≡ position is_point text.now }
+    ensures within { IfSome result (λ i. i < length text.now) }
 {
     text.iter().position(|b| *b == b'.')
 }
 
 /// The place of the first E.
 fn exponent_place(text: &[u8]) -> Option<usize>
-    ensures { result ≡ position is_exponent_mark text.now }
+    ensures place { result ≡ position is_exponent_mark text.now }
+    ensures within { IfSome result (λ i. i < length text.now) }
 {
     text.iter().position(|b| *b == b'e' || *b == b'E')
 }

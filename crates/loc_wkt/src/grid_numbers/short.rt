@@ -87,7 +87,6 @@ fn front_of(text: &[u8]) -> Option<Front>
 pub(crate) fn short_number(text: &[u8]) -> Option<(ShortNumber<'_>, &[u8])>
     ensures found { IfSome result (λ r. number_at (symbols text.now) ≡ Some (r.0.text.now, symbols r.1.now)) }
     ensures shorter { IfSome result (λ r. length r.1.now < length text.now) }
-    ensures within { IfSome result (λ r. length r.0.text.now ≤ length text.now) }
 {
     let body = unsigned(text);
     let front = front_of(&body[..body.len().min(MOST_BYTES)])?;

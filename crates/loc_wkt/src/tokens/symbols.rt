@@ -58,7 +58,6 @@ fn symbol_length(text: &[u8]) -> usize
 pub fn next_symbol(text: &[u8]) -> Option<(&[u8], &[u8])>
     ensures found { IfSome result (λ p. symbols text.now ≡ symbol_of p.0.now ∷ symbols p.1.now) }
     ensures shorter { IfSome result (λ p. length p.1.now < length text.now) }
-    ensures within { IfSome result (λ p. length p.0.now ≤ length text.now) }
     ensures none { IfNone result (symbols text.now ≡ []) }
 {
     let white = white_length(text);

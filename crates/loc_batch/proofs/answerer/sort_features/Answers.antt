@@ -1,6 +1,5 @@
 use Rattle.std.proofs.Common.{nat_eq, ◌∙◌}
-use Rattle.std.proofs.lemmas.Bool.Decides.{Decides-eqb}
-use Rattle.std.proofs.lemmas.List.Filters.{dedup_is}
+use Rattle.std.proofs.{lemmas.Bool.Decides.Decides-eqb, lemmas.List.Filters.dedup_is}
 use Rattle.loc_edges.proofs.SortedSet.{sorted_set-dedup}
 use Rattle.loc_cover.proofs.Gathered.{numbers_by_less}
 use Rattle.loc_batch.proofs.answerer.sort_features.Goals as goal

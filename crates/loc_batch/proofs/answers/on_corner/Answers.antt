@@ -1,6 +1,5 @@
-use Rattle.std.proofs.Common.{[], subst}
+use Rattle.std.proofs.{Common.[], Common.subst, lemmas.Option.get_or_from_slice_get}
 use Rattle.std.specs.Prelude.{IsTrue, nat_lt}
-use Rattle.std.proofs.lemmas.Option.{get_or_from_slice_get}
 use Rattle.loc_spec_plane.specs.Lists.{is_rising}
 use Rattle.loc_cover.specs.Legends.{AreNamed}
 use Rattle.loc_batch.proofs.answers.on_corner.Goals as goal

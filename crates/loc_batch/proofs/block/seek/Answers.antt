@@ -1,8 +1,7 @@
 use Rattle.std.proofs.Common.{◌≡◌, suc, ◌+◌, ◌∷◌, drop, Some, sym, refl, ◌<◌, length, subst, ◌∙◌, ap, arith, rules, length-set, drop_of_length-le, drop-cons, add-one, add-mul, mul-le-mul_right}
 use Rattle.std.specs.Prelude.{set, IfSome}
 use Rattle.std.proofs.lemmas.List.Elements.{All-set}
-use Rattle.loc_batch.specs.Blocks.{placed}
-use Rattle.loc_batch.specs.declared.block.Query.{Query}
+use Rattle.loc_batch.specs.{Blocks.placed, declared.block.Query.Query}
 use Rattle.loc_batch.proofs.block.seek.Goals as goal
 
 pub loop-query-init : goal.loop-query-init

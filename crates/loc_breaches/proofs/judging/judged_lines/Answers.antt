@@ -1,13 +1,10 @@
-use Rattle.std.proofs.Common.{ap}
-use Rattle.std.proofs.lemmas.Result.{err_from_is_err_and}
+use Rattle.std.proofs.{Common.ap, lemmas.Result.err_from_is_err_and}
 use Rattle.loc_spec_valid.specs.BreachTexts.{breach_line}
 use Rattle.loc_valid.specs.Judged.{told}
 use Rattle.loc_course.specs.Courses.{writes}
 use Rattle.loc_course.proofs.Going.{lacks_on}
 use Rattle.loc_breaches.specs.BreachCourses.{are_lines, judged_course}
-use Rattle.loc_breaches.proofs.Courses.{refused_at}
-use Rattle.loc_breaches.proofs.LineLists.{line_at}
-use Rattle.loc_breaches.proofs.Refusals.{refused_none}
+use Rattle.loc_breaches.proofs.{Courses.refused_at, LineLists.line_at, Refusals.refused_none}
 use Rattle.loc_breaches.proofs.judging.judged_lines.Goals as goal
 
 pub returns-in_err-breach-clause-goes_on : goal.returns-in_err-breach-clause-goes_on

@@ -23,4 +23,4 @@ returns g c k =
     let shelf = g.F.Shelf.meaning c.read_features_file.new.shelf in
     let passes = subst (λ (text : Text). are_lines c.args.scale c.in_ok-layer.layer text ≡ true) (sym c.deref.ensures.value) (lines_pass c.args.scale c.in_ok-layer.layer c.in_ok-text.text.items c.in_ok-text.ensures.lines) in
     c.in_ok-layer.ensures (judged_course c.args.scale) o k _ _
-    (c.in_ok-text.ensures.goes_on (moment shelf o k) _ _ (c.write_out.ensures (are_lines c.args.scale c.in_ok-layer.layer) shelf k passes))
+    (c.in_ok-text.ensures.goes_on (moment shelf o k) _ _ (c.write_out.ensures (are_lines c.args.scale c.in_ok-layer.layer) passes shelf k))

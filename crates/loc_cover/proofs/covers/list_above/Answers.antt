@@ -1,10 +1,8 @@
 use Rattle.std.proofs.Common.{◌∙◌, List, [], sym, ap, subst}
 use Rattle.std.specs.Prelude.{nat_lt}
-use Rattle.std.proofs.lemmas.Option.{get_or_from_slice_get}
-use Rattle.std.proofs.lemmas.Result.{on_ok_weaker}
-use Rattle.loc_spec_plane.specs.declared.Mark.{Mark}
+use Rattle.std.proofs.{lemmas.Option.get_or_from_slice_get, lemmas.Result.on_ok_weaker}
+use Rattle.loc_spec_plane.specs.{declared.Mark.Mark, Covers.cover_of_floor}
 use Rattle.loc_spec_plane.specs.Lists.{exactly_one, is_in, is_rising, IsRisingListOf}
-use Rattle.loc_spec_plane.specs.Covers.{cover_of_floor}
 use Rattle.loc_cover.specs.Exchanges.{is_marked_odd}
 use Rattle.loc_cover.proofs.Numbering.{list_is, under_rises}
 use Rattle.loc_cover.proofs.covers.list_above.Goals as goal

@@ -1,6 +1,5 @@
 use Rattle.std.proofs.Common.{◌≢◌, ℕ, ◌+◌, ◌<◌, get_or, Vec, Global, Option, None, refl, sym, subst, arith}
-use Rattle.loc_cover.specs.Numbered.{IsNumbered}
-use Rattle.loc_cover.specs.Stores.{StoreRows, IsStore}
+use Rattle.loc_cover.specs.{Numbered.IsNumbered, Stores.StoreRows, Stores.IsStore}
 use Rattle.loc_cover.proofs.Numbering.{known_next, known_there, numbered_none}
 use Rattle.loc_cover.proofs.covers.number_all.Goals as goal
 use Rattle.loc_cover.proofs.covers.number_all.Goals.{then-is_none+in_default, else-is_none}
@@ -16,32 +15,8 @@ loop-edge-init c = record {
 pub index-requires : goal.index-requires
 index-requires c = omega (arith, c.loop-edge.invariant.numbered.as_many, c.loop-edge.numbers.ok.0, c.edge_count-edge-end.ensures.value, c.loop-edge-test.true)
 
-pub number_down-made-requires-clause-even : goal.number_down-made-requires-clause-even
-number_down-made-requires-clause-even c = c.requires.even
-
 pub number_down-made-requires-clause-in_range : goal.number_down-made-requires-clause-in_range
 number_down-made-requires-clause-in_range c = omega (arith, c.edge_count-edge-end.ensures.value, c.loop-edge-test.true)
-
-pub number_down-made-requires-clause-below : goal.number_down-made-requires-clause-below
-number_down-made-requires-clause-below c = c.requires.below
-
-pub number_down-made-requires-clause-stands : goal.number_down-made-requires-clause-stands
-number_down-made-requires-clause-stands c = c.loop-edge.invariant.stands
-
-pub number_down-made-requires-clause-numbered : goal.number_down-made-requires-clause-numbered
-number_down-made-requires-clause-numbered c = c.loop-edge.invariant.numbered
-
-pub returns-in-Err-clause-stands : goal.returns-in-Err-clause-stands
-returns-in-Err-clause-stands c = tt
-
-pub returns-in-Err-clause-numbered : goal.returns-in-Err-clause-numbered
-returns-in-Err-clause-numbered c = tt
-
-pub returns-in-Err-clause-known : goal.returns-in-Err-clause-known
-returns-in-Err-clause-known c = tt
-
-pub returns-in-Err-clause-refused : goal.returns-in-Err-clause-refused
-returns-in-Err-clause-refused c = c.in-Err.ensures.refused
 
 pub loop-edge-preserved : goal.loop-edge-preserved
 loop-edge-preserved c = elim c.if-is_none.branch [
@@ -57,14 +32,5 @@ loop-edge-preserved c = elim c.if-is_none.branch [
   }
 ]
 
-pub returns-clause-stands : goal.returns-clause-stands
-returns-clause-stands c = c.loop-edge.invariant.stands
-
-pub returns-clause-numbered : goal.returns-clause-numbered
-returns-clause-numbered c = c.loop-edge.invariant.numbered
-
 pub returns-clause-known : goal.returns-clause-known
 returns-clause-known c = λ e lt. c.loop-edge.invariant.known e (omega (arith, lt, c.edge_count-edge-end.ensures.value, c.loop-edge-test.false))
-
-pub returns-clause-refused : goal.returns-clause-refused
-returns-clause-refused c = tt

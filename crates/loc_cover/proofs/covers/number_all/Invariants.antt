@@ -1,6 +1,5 @@
 use Rattle.std.proofs.Common.{◌≢◌, ℕ, ◌<◌, None, get_or}
-use Rattle.loc_cover.specs.Numbered.{IsNumbered}
-use Rattle.loc_cover.specs.Stores.{IsStore}
+use Rattle.loc_cover.specs.{Numbered.IsNumbered, Stores.IsStore}
 use Rattle.loc_cover.proofs.covers.number_all.Given as goal
 
 -- the lists above the edges before are known

@@ -1,6 +1,5 @@
 use Rattle.std.proofs.Common.{length}
-use Rattle.loc_cover.specs.Numbered.{IsNumbered, IsPath, KeepsKnown}
-use Rattle.loc_cover.specs.Stores.{IsStore}
+use Rattle.loc_cover.specs.{Numbered.IsNumbered, Numbered.IsPath, Numbered.KeepsKnown, Stores.IsStore}
 use Rattle.loc_cover.proofs.covers.number_down.Given as goal
 
 -- what is left of the path is one

@@ -1,6 +1,5 @@
 use Rattle.std.proofs.Common.{sym, ◌∙◌, subst, Result, Ok, Err}
-use Rattle.std.specs.Prelude.{IfErr}
-use Rattle.std.specs.Result.{IsErrAnd}
+use Rattle.std.specs.{Prelude.IfErr, Result.IsErrAnd}
 use Rattle.loc_cover.specs.Legends.{IsRefused}
 use Rattle.loc_cover.proofs.Numbering.{numbered_more, refused_is}
 use Rattle.loc_cover.proofs.covers.number_edge.Goals as goal

@@ -1,5 +1,4 @@
-use Rattle.loc_cover.proofs.Descending.{IsDescent}
-use Rattle.loc_cover.proofs.Ranked.{rank}
+use Rattle.loc_cover.proofs.{Descending.IsDescent, Ranked.rank}
 use Rattle.loc_cover.proofs.covers.path_down.Given as goal
 
 abbrev pub invariant-loop-next : goal.invariant-loop-next

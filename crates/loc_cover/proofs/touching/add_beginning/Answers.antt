@@ -1,9 +1,7 @@
 use Rattle.std.proofs.Common.{◌≡◌, ◌+◌, ◌-◌, ◌++◌, ◌∷◌, [], ◌||◌, map, sym, ◌∙◌, ap, subst, arith}
 use Rattle.std.specs.List.{list_any, range_with_len}
 use Rattle.std.proofs.lemmas.Option.{get_or_from_slice_get}
-use Rattle.loc_spec_plane.specs.declared.Mark.{Mark}
-use Rattle.loc_spec_plane.specs.Lists.{is_in}
-use Rattle.loc_spec_plane.specs.Tables.{has}
+use Rattle.loc_spec_plane.specs.{declared.Mark.Mark, Lists.is_in, Tables.has}
 use Rattle.loc_laws_order.proofs.Kept.{range_more}
 use Rattle.loc_cover.proofs.Gathered.{Gathers, begun, gathers_more}
 use Rattle.loc_cover.proofs.touching.add_beginning.Goals as goal

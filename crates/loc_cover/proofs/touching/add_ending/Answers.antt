@@ -1,10 +1,7 @@
 use Rattle.std.proofs.Common.{◌<◌, ◌++◌, [], ◌||◌, ◌==◌, length, get_or, map, sym, ◌∙◌, ap, subst}
 use Rattle.std.specs.List.{list_any}
-use Rattle.std.proofs.lemmas.List.{take_all, take_more}
-use Rattle.std.proofs.lemmas.Option.{get_or_from_slice_get}
-use Rattle.loc_spec_plane.specs.declared.Mark.{Mark}
-use Rattle.loc_spec_plane.specs.Lists.{is_in}
-use Rattle.loc_spec_plane.specs.Tables.{edge_numbers, has, hi_of}
+use Rattle.std.proofs.{lemmas.List.take_all, lemmas.List.take_more, lemmas.Option.get_or_from_slice_get}
+use Rattle.loc_spec_plane.specs.{declared.Mark.Mark, Lists.is_in, Tables.edge_numbers, Tables.has, Tables.hi_of}
 use Rattle.loc_cover.proofs.Gathered.{Gathers, any-filter, below_count, gathers_more}
 use Rattle.loc_cover.proofs.touching.add_ending.Goals as goal
 

@@ -1,11 +1,8 @@
 use Rattle.std.proofs.Common.{nat_eq, ◌||◌, ◌==◌, ◌&&◌, ◌∙◌, ap, subst, sym}
-use Rattle.std.specs.Prelude.{nat_lt}
-use Rattle.std.specs.List.{list_any}
-use Rattle.std.proofs.lemmas.Bool.Decides.{Decides-eqb}
-use Rattle.std.proofs.lemmas.List.Filters.{dedup_is}
-use Rattle.loc_spec_plane.specs.Lists.{is_in, IsRisingListOf}
+use Rattle.std.specs.{Prelude.nat_lt, List.list_any}
+use Rattle.std.proofs.{lemmas.Bool.Decides.Decides-eqb, lemmas.List.Filters.dedup_is}
+use Rattle.loc_spec_plane.specs.{Lists.is_in, Lists.IsRisingListOf, Covers.has_at}
 use Rattle.loc_spec_plane.specs.Tables.{edge_numbers, has, hi_of, lo_of}
-use Rattle.loc_spec_plane.specs.Covers.{has_at}
 use Rattle.loc_edges.proofs.SortedSet.{any-sorted_set, rising-sorted_set, sorted_set-dedup}
 use Rattle.loc_cover.proofs.Gathered.{either_at, numbers_by_less}
 use Rattle.loc_cover.proofs.touching.put_corner.Goals as goal

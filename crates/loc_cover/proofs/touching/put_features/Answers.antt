@@ -1,8 +1,6 @@
 use Rattle.std.proofs.Common.{◌++◌, ◌==◌, map, sym, ◌∙◌, ap, subst}
-use Rattle.std.specs.Prelude.{nat_lt}
-use Rattle.std.specs.List.{list_any}
-use Rattle.loc_spec_plane.specs.declared.Mark.{Mark}
-use Rattle.loc_spec_plane.specs.Lists.{IsRisingListOf}
+use Rattle.std.specs.{Prelude.nat_lt, List.list_any}
+use Rattle.loc_spec_plane.specs.{declared.Mark.Mark, Lists.IsRisingListOf}
 use Rattle.loc_cover.proofs.Gathered.{are_features}
 use Rattle.loc_cover.proofs.touching.put_features.Goals as goal
 

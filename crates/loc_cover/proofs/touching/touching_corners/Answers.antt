@@ -1,7 +1,6 @@
 use Rattle.std.proofs.Common.{sym, subst}
 use Rattle.std.specs.Prelude.{nat_lt}
-use Rattle.loc_spec_plane.specs.Lists.{IsRisingListOf}
-use Rattle.loc_spec_plane.specs.Covers.{has_at}
+use Rattle.loc_spec_plane.specs.{Lists.IsRisingListOf, Covers.has_at}
 use Rattle.loc_cover.proofs.Gathered.{row_more}
 use Rattle.loc_cover.proofs.touching.touching_corners.Goals as goal
 

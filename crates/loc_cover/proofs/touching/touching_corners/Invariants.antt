@@ -1,7 +1,6 @@
 use Rattle.std.proofs.Common.{◌≡◌, ℕ, ◌<◌, [], length, get_or}
 use Rattle.std.specs.Prelude.{nat_lt}
-use Rattle.loc_spec_plane.specs.Lists.{IsRisingListOf}
-use Rattle.loc_spec_plane.specs.Covers.{has_at}
+use Rattle.loc_spec_plane.specs.{Lists.IsRisingListOf, Covers.has_at}
 use Rattle.loc_cover.proofs.touching.touching_corners.Given as goal
 
 -- the corners before have their rows

@@ -1,10 +1,7 @@
 use Rattle.std.proofs.Common.{◌==◌, [], sym, subst}
-use Rattle.std.specs.Prelude.{nat_lt}
-use Rattle.std.specs.List.{list_any}
+use Rattle.std.specs.{Prelude.nat_lt, List.list_any}
 use Rattle.std.proofs.lemmas.Option.{get_or_from_slice_get}
-use Rattle.loc_spec_plane.specs.declared.Mark.{Mark}
-use Rattle.loc_spec_plane.specs.Lists.{IsRisingListOf}
-use Rattle.loc_spec_plane.specs.Tables.{has}
+use Rattle.loc_spec_plane.specs.{declared.Mark.Mark, Lists.IsRisingListOf, Tables.has}
 use Rattle.loc_cover.proofs.Gathered.{row_more}
 use Rattle.loc_cover.proofs.touching.touching_edges.Goals as goal
 

@@ -1,7 +1,6 @@
 use Rattle.std.proofs.Common.{◌≡◌, ℕ, ◌<◌, [], length, get_or}
 use Rattle.std.specs.Prelude.{nat_lt}
-use Rattle.loc_spec_plane.specs.Lists.{IsRisingListOf}
-use Rattle.loc_spec_plane.specs.Tables.{has}
+use Rattle.loc_spec_plane.specs.{Lists.IsRisingListOf, Tables.has}
 use Rattle.loc_cover.proofs.touching.touching_edges.Given as goal
 
 -- the edges before have their rows

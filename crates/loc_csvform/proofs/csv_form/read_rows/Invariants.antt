@@ -1,7 +1,6 @@
 use Rattle.std.proofs.Common.{◌≡◌, ◌≤◌, ◌+◌, [], length, map}
 use Rattle.std.specs.List.{enumerate_from}
-use Rattle.loc_spec_text.specs.Limits.{most_text}
-use Rattle.loc_spec_text.specs.Reading.{reading}
+use Rattle.loc_spec_text.specs.{Limits.most_text, Reading.reading}
 use Rattle.loc_csvform.specs.Layer.{csv_row, features_from}
 use Rattle.loc_csvform.specs.Records.{IsReading, bytes_of, records_of}
 use Rattle.loc_csvform.proofs.csv_form.read_rows.Given as goal

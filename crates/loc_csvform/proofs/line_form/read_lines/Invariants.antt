@@ -1,6 +1,5 @@
 use Rattle.std.proofs.Common.{◌≡◌, ◌≤◌, [], length, ◌+◌}
-use Rattle.loc_spec_text.specs.Limits.{most_text}
-use Rattle.loc_spec_text.specs.Reading.{reading}
+use Rattle.loc_spec_text.specs.{Limits.most_text, Reading.reading}
 use Rattle.loc_csvform.specs.Layer.{features_from, line_rows}
 use Rattle.loc_csvform.proofs.Layers.{later}
 use Rattle.loc_csvform.proofs.line_form.read_lines.Given as goal

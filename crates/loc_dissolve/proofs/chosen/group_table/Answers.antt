@@ -2,8 +2,7 @@ use Rattle.std.proofs.Common.{◌≡◌, ◌<◌, true, List, sym, ◌∙◌, ap
 use Rattle.std.specs.Prelude.{All}
 use Rattle.std.proofs.lemmas.Result.{IfOk-weaker}
 use Rattle.loc_spec_plane.specs.Points.{Edge, Point, before}
-use Rattle.loc_spec_plane.specs.Lists.{is_rising, numbers, sorted_set}
-use Rattle.loc_spec_plane.specs.Tables.{edge}
+use Rattle.loc_spec_plane.specs.{Lists.is_rising, Lists.numbers, Lists.sorted_set, Tables.edge}
 use Rattle.loc_spec_groups.specs.Groups.{group_table, is_kept}
 use Rattle.loc_laws_noding.specs.Laws.{ends_of}
 use Rattle.loc_edges.specs.Parts.{GoesUpBelow, table_of_parts}

@@ -1,6 +1,5 @@
 use Rattle.std.proofs.Common.{◌≡◌, ℕ, map, true}
-use Rattle.loc_spec_plane.specs.declared.Mark.{Mark}
-use Rattle.loc_spec_plane.specs.Lists.{numbers}
+use Rattle.loc_spec_plane.specs.{declared.Mark.Mark, Lists.numbers}
 use Rattle.loc_dissolve.proofs.chosen.odd_marks.Given as goal
 
 -- the marks of the edges before stand there

@@ -1,9 +1,7 @@
 use Rattle.std.proofs.Common.{get_or, Ok, Err, sym, inl, inr, arith}
 use Rattle.std.specs.Prelude.{◌==◌}
-use Rattle.std.proofs.lemmas.Bool.{cases_lt, eq-eqb, ne_eqb}
-use Rattle.std.proofs.lemmas.List.{get_or_default}
-use Rattle.std.proofs.lemmas.List.Folds.{list_any_at, list_any_none}
-use Rattle.std.proofs.lemmas.List.Sorted.{searched}
+use Rattle.std.proofs.{lemmas.Bool.cases_lt, lemmas.Bool.eq-eqb, lemmas.Bool.ne_eqb, lemmas.List.get_or_default}
+use Rattle.std.proofs.{lemmas.List.Folds.list_any_at, lemmas.List.Folds.list_any_none, lemmas.List.Sorted.searched}
 use Rattle.loc_laws_order.proofs.TableOrder.{rises_weakly}
 use Rattle.loc_dissolve.proofs.crossing.is_listed.Goals as goal
 

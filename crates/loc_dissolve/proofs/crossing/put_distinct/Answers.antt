@@ -1,8 +1,7 @@
 use Rattle.std.proofs.Common.{◌≡◌, nat_eq, ◌++◌, List, ℕ, ◌∙◌, ap, subst, sym}
 use Rattle.std.specs.Prelude.{nat_lt, ◌==◌}
 use Rattle.std.specs.List.{dedup}
-use Rattle.std.proofs.lemmas.Bool.Decides.{Decides-eqb}
-use Rattle.std.proofs.lemmas.List.Filters.{dedup_is}
+use Rattle.std.proofs.{lemmas.Bool.Decides.Decides-eqb, lemmas.List.Filters.dedup_is}
 use Rattle.std.proofs.lemmas.List.Sorted.{IsPermutation-refl}
 use Rattle.loc_spec_plane.specs.Lists.{is_in, IsRisingListOf}
 use Rattle.loc_edges.proofs.SortedSet.{any-sorted_set, rising-sorted_set, sorted_set-dedup}

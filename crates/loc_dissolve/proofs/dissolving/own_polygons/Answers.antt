@@ -1,20 +1,15 @@
 use Rattle.std.proofs.Common.{◌≡◌, ◌-◌, ◌<◌, false, filter, get_or, length, map, sym, ◌∙◌, ap, subst, arith}
-use Rattle.std.specs.Prelude.{All}
-use Rattle.std.specs.List.{range_with_len}
+use Rattle.std.specs.{Prelude.All, List.range_with_len}
 use Rattle.std.proofs.lemmas.List.FromFn.{length-range_with_len}
-use Rattle.std.proofs.lemmas.List.Sums.{count_by-le-length, length-filter}
-use Rattle.std.proofs.lemmas.Result.{IfOk-weaker}
+use Rattle.std.proofs.{lemmas.List.Sums.count_by-le-length, lemmas.List.Sums.length-filter, lemmas.Result.IfOk-weaker}
 use Rattle.loc_spec_plane.specs.Tables.{Table, edge_numbers}
 use Rattle.loc_place.specs.Planar.{IsPlanar}
 use Rattle.loc_half.specs.HalfEdgeLists.{next_in}
-use Rattle.loc_faces.specs.FaceLists.{face_in}
-use Rattle.loc_faces.specs.Subdivision.{face_at, next_at}
+use Rattle.loc_faces.specs.{FaceLists.face_in, Subdivision.face_at, Subdivision.next_at}
 use Rattle.loc_spec_groups.specs.Groups.{face_rings, group_polygons, group_table, is_kept}
-use Rattle.loc_laws_dissolve.proofs.Chosen.{length-chosen}
-use Rattle.loc_laws_dissolve.proofs.Grouped.{table_law}
+use Rattle.loc_laws_dissolve.proofs.{Chosen.length-chosen, Grouped.table_law}
 use Rattle.loc_dissolve.specs.Grouping.{in_group}
-use Rattle.loc_dissolve.proofs.Grouped.{polygons_are}
-use Rattle.loc_dissolve.proofs.Tabled.{all_in_range}
+use Rattle.loc_dissolve.proofs.{Grouped.polygons_are, Tabled.all_in_range}
 use Rattle.loc_dissolve.proofs.dissolving.own_polygons.Goals as goal
 
 pub covered_faces-requires-clause-kept : goal.covered_faces-requires-clause-kept

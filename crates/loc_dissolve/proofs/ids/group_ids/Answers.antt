@@ -1,11 +1,7 @@
 use Rattle.std.proofs.Common.{◌≡◌, ℕ, ◌+◌, ◌<◌, ◌++◌, ◌∷◌, List, [], length, get_or, Option, Some, None, sym, ◌∙◌, ap, subst, arith, BTreeMap, Bor}
 use Rattle.std.specs.Prelude.{if◌then◌else◌}
-use Rattle.std.specs.BTreeMap.{get_by}
-use Rattle.std.specs.Cmp.Lexicographic.{slice_cmp}
-use Rattle.std.specs.Ordering.{nat_cmp}
-use Rattle.std.specs.Str.{bytes_eq}
-use Rattle.std.proofs.lemmas.List.{get_or-map, length-map}
-use Rattle.std.proofs.lemmas.Map.Text.{btree_map_updates_str}
+use Rattle.std.specs.{BTreeMap.get_by, Cmp.Lexicographic.slice_cmp, Ordering.nat_cmp, Str.bytes_eq}
+use Rattle.std.proofs.{lemmas.List.get_or-map, lemmas.List.length-map, lemmas.Map.Text.btree_map_updates_str}
 use Rattle.loc_spec_text.specs.Bytes.{Text}
 use Rattle.loc_dissolve.specs.Grouping.{ids_of}
 use Rattle.loc_dissolve.proofs.Names.{AreNumbered, IsKnown, all_numbered, known_none, known_one}

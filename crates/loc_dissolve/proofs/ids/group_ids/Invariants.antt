@@ -1,6 +1,4 @@
-use Rattle.std.specs.BTreeMap.{get_by}
-use Rattle.std.specs.Cmp.Lexicographic.{slice_cmp}
-use Rattle.std.specs.Ordering.{nat_cmp}
+use Rattle.std.specs.{BTreeMap.get_by, Cmp.Lexicographic.slice_cmp, Ordering.nat_cmp}
 use Rattle.loc_dissolve.specs.Grouping.{ids_of}
 use Rattle.loc_dissolve.proofs.Names.{AreNumbered}
 use Rattle.loc_dissolve.proofs.ids.group_ids.Given as goal

@@ -1,11 +1,9 @@
 use Rattle.std.proofs.Common.{◌<◌, ℕ, List, [], length, sym, ◌∙◌, ap₂, subst, arith, ◌++◌}
 use Rattle.std.specs.Prelude.{All}
 use Rattle.std.proofs.lemmas.Option.{get_or_from_slice_get}
-use Rattle.loc_spec_plane.specs.declared.Mark.{Mark}
-use Rattle.loc_spec_plane.specs.Covers.{cover_above}
+use Rattle.loc_spec_plane.specs.{declared.Mark.Mark, Covers.cover_above}
 use Rattle.loc_spec_groups.specs.Groups.{is_kept}
-use Rattle.loc_dissolve.specs.Grouping.{in_group}
-use Rattle.loc_dissolve.specs.Keeping.{IsCrossing, odd_features}
+use Rattle.loc_dissolve.specs.{Grouping.in_group, Keeping.IsCrossing, Keeping.odd_features}
 use Rattle.loc_dissolve.proofs.Crossed.{groups_within, keeps_is, odd_named, row_is}
 use Rattle.loc_dissolve.proofs.Keepers.{edge_if, filter_step}
 use Rattle.loc_dissolve.proofs.kept.kept_pairs.Goals as goal

@@ -1,12 +1,9 @@
 use Rattle.std.proofs.Common.{◌≡◌, ◌<◌, ◌++◌, List, ℕ, length, map, sym, ◌∙◌, ap, ap₂, subst, arith}
 use Rattle.std.specs.Prelude.{All}
-use Rattle.std.proofs.lemmas.List.{map-append}
-use Rattle.std.proofs.lemmas.List.FromFn.{length-map-range_with_len}
-use Rattle.loc_spec_plane.specs.Rings.{Ring}
-use Rattle.loc_spec_plane.specs.HalfEdges.{half_edge_count}
+use Rattle.std.proofs.{lemmas.List.map-append, lemmas.List.FromFn.length-map-range_with_len}
+use Rattle.loc_spec_plane.specs.{Rings.Ring, HalfEdges.half_edge_count}
 use Rattle.loc_half.specs.HalfEdgeLists.{next_in}
-use Rattle.loc_faces.specs.Boundaries.{inner_leaders, outer_leaders}
-use Rattle.loc_faces.specs.FaceLists.{face_in}
+use Rattle.loc_faces.specs.{Boundaries.inner_leaders, Boundaries.outer_leaders, FaceLists.face_in}
 use Rattle.loc_faces.proofs.Lines.{inner_is, inner_within, outer_is, outer_within, outers_many}
 use Rattle.loc_spec_groups.specs.Groups.{ring_from}
 use Rattle.loc_dissolve.proofs.polygons.polygon_of.Goals as goal

@@ -1,6 +1,5 @@
 use Rattle.std.proofs.Common.{◌<◌, [], ◌∷◌, ◌++◌, length, sym, ◌∙◌, ap, subst}
-use Rattle.loc_spec_plane.specs.HalfEdges.{half_edge_count, way_to}
-use Rattle.loc_spec_plane.specs.Tables.{corner}
+use Rattle.loc_spec_plane.specs.{HalfEdges.half_edge_count, HalfEdges.way_to, Tables.corner}
 use Rattle.loc_half.specs.HalfEdgeLists.{next_in}
 use Rattle.loc_dissolve.proofs.Rings.{IsWalkedTo, walked_all, walked_first, walked_more, way_shorter}
 use Rattle.loc_dissolve.proofs.polygons.ring_from.Goals as goal

@@ -1,7 +1,6 @@
 use Rattle.std.proofs.Common.{get_or, map, ◌∙◌, ap}
 use Rattle.std.specs.Prelude.{count_by, ◌==◌}
-use Rattle.std.proofs.lemmas.List.{take_all}
-use Rattle.std.proofs.lemmas.List.Sorted.{sum_by-IsPermutation}
+use Rattle.std.proofs.{lemmas.List.take_all, lemmas.List.Sorted.sum_by-IsPermutation}
 use Rattle.loc_dissolve.proofs.Counted.{count-map, one}
 use Rattle.loc_dissolve.proofs.rows.put_groups.Goals as goal
 

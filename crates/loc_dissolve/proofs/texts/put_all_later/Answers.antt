@@ -1,6 +1,5 @@
 use Rattle.std.proofs.Common.{◌++◌, refl, arith}
-use Rattle.std.specs.Prelude.{codes}
-use Rattle.std.specs.List.{flat_map}
+use Rattle.std.specs.{Prelude.codes, List.flat_map}
 use Rattle.std.proofs.lemmas.Result.{err_from_is_err_and}
 use Rattle.loc_page.proofs.Pages.{goes_end, goes_more, stop}
 use Rattle.loc_faces.proofs.Writing.{goes_item}

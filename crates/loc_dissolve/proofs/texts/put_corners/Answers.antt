@@ -1,6 +1,5 @@
 use Rattle.std.proofs.Common.{◌++◌, refl, arith}
-use Rattle.std.specs.Prelude.{codes}
-use Rattle.std.specs.List.{flat_map}
+use Rattle.std.specs.{Prelude.codes, List.flat_map}
 use Rattle.loc_spec_plane.specs.Points.{Point}
 use Rattle.loc_spec_text.specs.Points.{position_text}
 use Rattle.std.proofs.lemmas.Result.{err_from_is_err_and}

@@ -1,9 +1,8 @@
-use Rattle.std.proofs.Common.{ap}
+use Rattle.std.proofs.{Common.ap, lemmas.Result.err_from_is_err_and}
 use Rattle.std.specs.List.{flat_map}
 use Rattle.loc_spec_text.specs.Points.{quoted_byte}
 use Rattle.loc_spec_groups.specs.GroupTexts.{polygons_text}
 use Rattle.loc_dissolve.proofs.Written.{row_is}
-use Rattle.std.proofs.lemmas.Result.{err_from_is_err_and}
 use Rattle.loc_page.proofs.Pages.{both, put_same, stop}
 use Rattle.loc_dissolve.proofs.texts.put_group.Goals as goal
 

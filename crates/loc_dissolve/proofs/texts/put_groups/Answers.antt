@@ -1,7 +1,6 @@
-use Rattle.std.proofs.Common.{refl, arith}
+use Rattle.std.proofs.{Common.refl, Common.arith, lemmas.Result.err_from_is_err_and}
 use Rattle.std.specs.List.{flat_map}
 use Rattle.loc_spec_groups.specs.GroupTexts.{group_row}
-use Rattle.std.proofs.lemmas.Result.{err_from_is_err_and}
 use Rattle.loc_page.proofs.Pages.{goes_end, goes_more, stop}
 use Rattle.loc_faces.proofs.Writing.{goes_item}
 use Rattle.loc_dissolve.proofs.texts.put_groups.Goals as goal

@@ -1,7 +1,6 @@
-use Rattle.std.proofs.Common.{ap}
+use Rattle.std.proofs.{Common.ap, lemmas.Result.err_from_is_err_and}
 use Rattle.loc_spec_groups.specs.GroupTexts.{dissolved_text}
 use Rattle.loc_page.proofs.Pages.{cut_page, put_same, whole_page}
-use Rattle.std.proofs.lemmas.Result.{err_from_is_err_and}
 use Rattle.loc_dissolve.proofs.texts.write_dissolved.Goals as goal
 
 pub returns-in_err-put_layer : goal.returns-in_err-put_layer

@@ -1,7 +1,6 @@
 use Rattle.std.proofs.Common.{ℕ, ◌∙◌, ap, Vec, Global}
 use Rattle.std.specs.List.{dedup}
-use Rattle.std.proofs.lemmas.Bool.{both_ways}
-use Rattle.std.proofs.lemmas.List.{take_all}
+use Rattle.std.proofs.{lemmas.Bool.both_ways, lemmas.List.take_all}
 use Rattle.loc_spec_plane.specs.Points.{Edge, same_edge}
 use Rattle.loc_laws_order.proofs.TableOrder.{origin_point}
 use Rattle.loc_edges.specs.Tagged.{segments_in}

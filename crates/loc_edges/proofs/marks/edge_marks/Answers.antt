@@ -1,7 +1,6 @@
 use Rattle.std.proofs.Common.{◌≡◌, map, ◌∙◌, ap}
 use Rattle.std.proofs.lemmas.Result.{IfOk-weaker}
-use Rattle.loc_spec_plane.specs.Points.{edge_before}
-use Rattle.loc_spec_plane.specs.Lists.{sorted_set}
+use Rattle.loc_spec_plane.specs.{Points.edge_before, Lists.sorted_set}
 use Rattle.loc_edges.specs.Tagged.{features_of, marks_of, segments_in}
 use Rattle.loc_edges.proofs.marks.edge_marks.Goals as goal
 

@@ -1,5 +1,5 @@
 use Rattle.std.proofs.Common.{◌≡◌, ◌+◌, ◌<◌, [], ◌∷◌, ◌++◌, List, ℕ, length, take, map, sym, ◌∙◌, ap, arith}
-use Rattle.std.proofs.lemmas.List.{map_push, take_more}
+use Rattle.std.proofs.lemmas.List.{map_push, take_all, take_more}
 use Rattle.std.proofs.lemmas.Option.{get_or_from_slice_get}
 use Rattle.loc_edges.specs.Tagged.{marks_of}
 use Rattle.loc_edges.proofs.marks.mark_rows.Goals as goal
@@ -15,3 +15,6 @@ loop-n-preserved c =
     ∙ (ap (λ ms. c.loop-n.rows ++ ms ∷ []) (c.deref.ensures.value ∙ c.in_ok-count_edge.ensures)
     ∙ (ap (λ rows. rows ++ marks_of row ∷ []) c.loop-n.invariant
     ∙ (sym (map_push marks_of (take n features) row) ∙ ap (map marks_of) (sym more))))
+
+pub returns : goal.returns
+returns c = c.loop-n.invariant ∙ ap (map marks_of) (take_all c.loop-n.n c.args.features.now (omega (arith, c.loop-n-test.false, c.len-n-end.ensures)))

@@ -1,11 +1,8 @@
 use Rattle.std.proofs.Common.{◌≡◌, ℕ, true, ◌++◌, ◌∷◌, [], List, length, get_or, take, map, sym, ◌∙◌, ap, arith, Vec, Global}
 use Rattle.std.proofs.lemmas.Bool.{both_ways, cond-true}
-use Rattle.std.proofs.lemmas.List.{take_more, get_or_default, map-append}
-use Rattle.loc_spec_plane.specs.Points.{Point, Edge, before}
-use Rattle.loc_spec_plane.specs.Lists.{is_rising}
-use Rattle.loc_spec_plane.specs.Rings.{segment_between}
-use Rattle.loc_laws_order.proofs.Sides.{before-differ}
-use Rattle.loc_laws_order.proofs.TableOrder.{rises, origin_point}
+use Rattle.std.proofs.lemmas.List.{take_all, take_more, get_or_default, map-append}
+use Rattle.loc_spec_plane.specs.{Points.Point, Points.Edge, Points.before, Lists.is_rising, Rings.segment_between}
+use Rattle.loc_laws_order.proofs.{Sides.before-differ, TableOrder.rises, TableOrder.origin_point}
 use Rattle.loc_edges.specs.Parts.{GoesUpBelow, edge_of_pair}
 use Rattle.loc_edges.proofs.numbers.edges_between.Goals as goal
 use Rattle.loc_edges.proofs.numbers.edges_between.Goals.{in-Some+in_ok-push, in_default}
@@ -43,3 +40,6 @@ loop-pair-preserved c =
           ∙ sym (ap (map (edge_of_pair corners)) (take_more ends k (0, 0) c.loop-pair-test.true) ∙ map-append (edge_of_pair corners) (take k ends) (pair ∷ [])))))
       | in_default w ↦ absurd (both_ways _ (before-differ a b (in_order corners c.requires.in_order pair goes_up a b c.index-corners-pair.is c.index-corners-pair-in-loop-pair.is)) w.in_default.ensures.one_point)
     ]
+
+pub returns : goal.returns
+returns c = c.loop-pair.invariant ∙ ap (map (edge_of_pair c.args.corners.now)) (take_all c.loop-pair.pair-index c.args.ends.now c.loop-pair-test.false)

@@ -1,7 +1,6 @@
 use Rattle.std.proofs.Common.{◌≡◌, ℕ, ◌+◌, ◌++◌, ◌∷◌, [], List, take, map, sym, ◌∙◌, ap}
-use Rattle.std.proofs.lemmas.List.{map_push, take_more}
-use Rattle.loc_spec_plane.specs.Points.{Edge}
-use Rattle.loc_spec_plane.specs.Tables.{number_of}
+use Rattle.std.proofs.lemmas.List.{map_push, take_all, take_more}
+use Rattle.loc_spec_plane.specs.{Points.Edge, Tables.number_of}
 use Rattle.loc_edges.proofs.numbers.numbered_ends.Goals as goal
 
 pub loop-edge-preserved : goal.loop-edge-preserved
@@ -22,3 +21,6 @@ loop-edge-preserved c =
           ∙ (sym (map_push numbered (take k edges) edge) ∙ ap (map numbered) (sym more))))),
       c.corner_number_near-lo.ensures.within,
     )
+
+pub returns : goal.returns
+returns c = c.loop-edge.invariant.0 ∙ ap (map (λ (e : Edge). (number_of c.args.corners.now e.lo, number_of c.args.corners.now e.hi))) (take_all c.loop-edge.edge-index c.args.edges.now c.loop-edge-test.false)

@@ -1,6 +1,5 @@
 use Rattle.std.proofs.Common.{◌≡◌, ◌≤◌, ◌^◌, take, map}
-use Rattle.loc_spec_plane.specs.Points.{Edge}
-use Rattle.loc_spec_plane.specs.Tables.{number_of}
+use Rattle.loc_spec_plane.specs.{Points.Edge, Tables.number_of}
 use Rattle.loc_edges.proofs.numbers.numbered_ends.Given as goal
 
 -- the ends of the edges before have their numbers

@@ -1,11 +1,9 @@
 use Rattle.loc_spec_text.specs.Reading.{all_rings}
 use Rattle.std.proofs.Common.{◌≡◌, ◌+◌, List, [], ◌∷◌, ◌++◌, take, get_or, sym, ◌∙◌, ap, subst, inl, inr, arith}
-use Rattle.std.proofs.lemmas.Bool.{cases_lt}
+use Rattle.std.proofs.{lemmas.Bool.cases_lt, lemmas.Option.get_or_from_slice_get, lemmas.Option.slice_get_within}
 use Rattle.std.proofs.lemmas.List.{append_assoc, map-append, take_more, flat_map_more}
-use Rattle.std.proofs.lemmas.Option.{get_or_from_slice_get, slice_get_within}
 use Rattle.loc_rings.specs.Values.{IsRing}
-use Rattle.loc_spec_plane.specs.Rings.{Ring, ring_segments, segments}
-use Rattle.loc_spec_plane.specs.Points.{Edge}
+use Rattle.loc_spec_plane.specs.{Rings.Ring, Rings.ring_segments, Rings.segments, Points.Edge}
 use Rattle.loc_edges.specs.Tagged.{tagged_by}
 use Rattle.loc_edges.proofs.segments.add_rings.Goals as goal
 

@@ -1,12 +1,11 @@
 use Rattle.std.proofs.Common.{◌≡◌, ◌+◌, ◌++◌, [], ◌∷◌, length, take, sym, ◌∙◌, ap, subst, arith}
 use Rattle.std.specs.Prelude.{All}
-use Rattle.std.proofs.lemmas.List.{length-map, length-take-le, map_more}
+use Rattle.std.proofs.lemmas.List.{length-map, length-take-le, map_more, take_all}
 use Rattle.std.proofs.lemmas.List.Elements.{All-push}
 use Rattle.loc_spec_plane.specs.Rings.{segments}
 use Rattle.loc_spec_text.specs.Reading.{all_rings}
 use Rattle.loc_rings.specs.Values.{IsRing, rings_of}
-use Rattle.loc_edges.specs.Layers.{layer_rings}
-use Rattle.loc_edges.specs.Tagged.{tagged_by, tagged_from}
+use Rattle.loc_edges.specs.{Layers.layer_rings, Tagged.tagged_by, Tagged.tagged_from}
 use Rattle.loc_edges.proofs.Tagged.{tagged_more}
 use Rattle.loc_edges.proofs.segments.tagged_segments.Goals as goal
 
@@ -25,3 +24,9 @@ loop-n-preserved c =
           ∙ (ap (λ k. tagged_from 0 before ++ tagged_by k (segments (rings_of feature))) (sym count)
           ∙ (sym (tagged_more 0 before (rings_of feature)) ∙ ap (tagged_from 0) (sym more))))),
     )
+
+pub returns-clause-value : goal.returns-clause-value
+returns-clause-value c = c.loop-n.invariant.1 ∙ ap (λ fs. tagged_from 0 (layer_rings fs)) (take_all c.loop-n.n c.args.features.now c.loop-n-test.false)
+
+pub returns-clause-closed : goal.returns-clause-closed
+returns-clause-closed c = subst (λ fs. All (All IsRing) (layer_rings fs)) (take_all c.loop-n.n c.args.features.now c.loop-n-test.false) c.loop-n.invariant.0

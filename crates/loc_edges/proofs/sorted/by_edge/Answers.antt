@@ -1,5 +1,4 @@
-use Rattle.std.proofs.Common.{rules}
-use Rattle.std.proofs.lemmas.List.Sorted.{answers_always}
+use Rattle.std.proofs.{Common.rules, lemmas.List.Sorted.answers_always}
 use Rattle.loc_edges.proofs.Tagged.{features_stay, in_order as edges_in_order}
 use Rattle.loc_edges.proofs.sorted.by_edge.Goals as goal
 

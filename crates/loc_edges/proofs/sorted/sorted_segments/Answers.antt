@@ -1,15 +1,9 @@
 use Rattle.std.proofs.Common.{ℕ, ◌≡◌, ◌+◌, ◌<◌, length, sym, ◌∙◌, ap, subst, arith}
-use Rattle.std.specs.Prelude.{All}
-use Rattle.std.specs.List.Sorted.{IsPermutation}
-use Rattle.std.proofs.lemmas.List.{length-map}
-use Rattle.std.proofs.lemmas.List.Sorted.{All-permutation}
-use Rattle.std.proofs.lemmas.Result.{IfOk-weaker}
-use Rattle.loc_spec_plane.specs.Points.{Edge, edge_before}
-use Rattle.loc_spec_plane.specs.Lists.{sorted_set}
-use Rattle.loc_spec_plane.specs.Tables.{pieces_of, whole}
+use Rattle.std.specs.{Prelude.All, List.Sorted.IsPermutation}
+use Rattle.std.proofs.{lemmas.List.length-map, lemmas.List.Sorted.All-permutation, lemmas.Result.IfOk-weaker}
+use Rattle.loc_spec_plane.specs.{Points.Edge, Points.edge_before, Lists.sorted_set, Tables.pieces_of, Tables.whole}
 use Rattle.loc_rings.specs.Values.{rings_of}
-use Rattle.loc_edges.specs.Layers.{layer_rings}
-use Rattle.loc_edges.specs.Tagged.{features_of, segments_in, tagged_from}
+use Rattle.loc_edges.specs.{Layers.layer_rings, Tagged.features_of, Tagged.segments_in, Tagged.tagged_from}
 use Rattle.loc_edges.proofs.Tagged.{edges_stay, features_fit, tagged_pieces-whole}
 use Rattle.loc_edges.proofs.sorted.sorted_segments.Goals as goal
 

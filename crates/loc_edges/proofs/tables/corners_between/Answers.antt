@@ -1,12 +1,9 @@
 use Rattle.std.proofs.Common.{◌≡◌, ◌∙◌, ap}
-use Rattle.loc_spec_plane.specs.Points.{before}
-use Rattle.loc_spec_plane.specs.Lists.{sorted_set}
+use Rattle.loc_spec_plane.specs.{Points.before, Lists.sorted_set}
 use Rattle.loc_laws_noding.specs.Laws.{ends_of}
-use Rattle.loc_laws_noding.proofs.Orders.{points_by_before}
-use Rattle.loc_laws_noding.proofs.SortedSet.{same-sorted_set}
-use Rattle.loc_edges.proofs.Layers.{corners_from_edges}
+use Rattle.loc_laws_noding.proofs.{Orders.points_by_before, SortedSet.same-sorted_set}
+use Rattle.loc_edges.proofs.{Layers.corners_from_edges, tables.corners_between.Goals.After-sorted_points}
 use Rattle.loc_edges.proofs.tables.corners_between.Goals as goal
-use Rattle.loc_edges.proofs.tables.corners_between.Goals.{After-sorted_points}
 
 -- what is made
 made : (c : After-sorted_points) → c.sorted_points.result.items ≡ sorted_set before (ends_of c.args.edges.now)

@@ -1,11 +1,8 @@
 use Rattle.std.proofs.Common.{◌≡◌, ◌∙◌, ap}
 use Rattle.std.specs.Prelude.{IsTrue}
 use Rattle.std.proofs.lemmas.Result.{IfOk-weaker}
-use Rattle.loc_spec_plane.specs.Points.{edge_before}
-use Rattle.loc_spec_plane.specs.Lists.{is_rising, sorted_set}
-use Rattle.loc_spec_plane.specs.Tables.{pieces_of, whole}
-use Rattle.loc_edges.specs.Layers.{layer_rings}
-use Rattle.loc_edges.specs.Tagged.{segments_in}
+use Rattle.loc_spec_plane.specs.{Points.edge_before, Lists.is_rising, Lists.sorted_set, Tables.pieces_of, Tables.whole}
+use Rattle.loc_edges.specs.{Layers.layer_rings, Tagged.segments_in}
 use Rattle.loc_laws_noding.proofs.Tables.{pieces_rise}
 use Rattle.loc_edges.proofs.tables.edges.Goals as goal
 

@@ -1,7 +1,6 @@
 use Rattle.std.proofs.Common.{◌++◌, ◌∷◌, [], ◌∙◌, ap, Vec, Global}
 use Rattle.std.specs.List.{list_any}
-use Rattle.std.proofs.lemmas.Bool.{both_ways}
-use Rattle.std.proofs.lemmas.List.{take_all}
+use Rattle.std.proofs.{lemmas.Bool.both_ways, lemmas.List.take_all}
 use Rattle.loc_spec_plane.specs.Points.{Point}
 use Rattle.loc_laws_noding.specs.Laws.{ends_of}
 use Rattle.loc_edges.proofs.Layers.{ends_more}

@@ -1,10 +1,8 @@
 use Rattle.std.proofs.Common.{◌∙◌, ap, arith}
 use Rattle.loc_half.specs.HalfEdgeLists.{next_in}
-use Rattle.loc_faces.specs.FaceLists.{face_in}
-use Rattle.loc_faces.specs.FaceTexts.{face_text}
+use Rattle.loc_faces.specs.{FaceLists.face_in, FaceTexts.face_text}
 use Rattle.loc_course.specs.Following.{lacks}
-use Rattle.loc_course.proofs.Going.{lacks_end}
-use Rattle.loc_course.proofs.Taken.{cut, done, takes_same}
+use Rattle.loc_course.proofs.{Going.lacks_end, Taken.cut, Taken.done, Taken.takes_same}
 use Rattle.loc_face.proofs.Written.{above_below, text_is}
 use Rattle.loc_face.specs.FaceCourses.{text_above}
 use Rattle.loc_face.proofs.seeking.write_above.Goals as goal

@@ -1,8 +1,7 @@
 use Rattle.std.proofs.Common.{◌≡◌, ◌+◌, ◌≤◌, Ok, sym, ◌∙◌, ap, subst}
 use Rattle.std.specs.Prelude.{codes}
 use Rattle.loc_spec_plane.specs.declared.Place.TheVariants.{Corner, Border, Area}
-use Rattle.loc_place.specs.Found.{place_at}
-use Rattle.loc_place.specs.Steps.{most_steps}
+use Rattle.loc_place.specs.{Found.place_at, Steps.most_steps}
 use Rattle.loc_face.specs.FaceCourses.{line_at}
 use Rattle.loc_face.proofs.Written.{refuses_it, same_ok, sought}
 use Rattle.loc_face.proofs.seeking.write_at.Goals as goal

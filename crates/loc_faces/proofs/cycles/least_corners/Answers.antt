@@ -2,8 +2,7 @@ use Rattle.std.proofs.Common.{◌≡◌, ◌+◌, ◌<◌, get_or, set, min, ref
 use Rattle.std.proofs.lemmas.List.{get_or_read}
 use Rattle.loc_spec_plane.specs.HalfEdges.{half_edge_count, target}
 use Rattle.loc_half.specs.HalfEdgeLists.{leader_in}
-use Rattle.loc_faces.proofs.Leaders.{leads_within}
-use Rattle.loc_faces.proofs.Least.{IsLeastSoFar, least_more, least_all}
+use Rattle.loc_faces.proofs.{Leaders.leads_within, Least.IsLeastSoFar, Least.least_more, Least.least_all}
 use Rattle.loc_faces.proofs.cycles.least_corners.Goals as goal
 
 pub loop-h-preserved : goal.loop-h-preserved

@@ -1,5 +1,4 @@
-use Rattle.loc_faces.proofs.Lines.{no_outer, outer_many}
-use Rattle.loc_faces.proofs.Once.{stands_once}
+use Rattle.loc_faces.proofs.{Lines.no_outer, Lines.outer_many, Once.stands_once}
 use Rattle.loc_faces.proofs.laws.lines_law.Goals as goal
 
 pub returns-clause-once : goal.returns-clause-once

@@ -6,8 +6,7 @@ use Rattle.loc_edges.specs.Ending.{row_of}
 use Rattle.loc_edges.proofs.EndingRows.{row_of-numbered, row_of-stable}
 use Rattle.loc_half.specs.HalfEdgeLists.{next_in}
 use Rattle.loc_faces.specs.Boundaries.{leads_hanging}
-use Rattle.loc_faces.proofs.Numbering.{filter_past}
-use Rattle.loc_faces.proofs.Keyed.{filter-filter, keyed_more, keyed_within}
+use Rattle.loc_faces.proofs.{Numbering.filter_past, Keyed.filter-filter, Keyed.keyed_more, Keyed.keyed_within}
 use Rattle.loc_faces.proofs.nesting.hanging_by_face.Goals as goal
 use Rattle.loc_faces.proofs.nesting.hanging_by_face.Goals.{In_ok-sort_by_key, then-leads_hanging+in_ok-push, else-leads_hanging}
 

@@ -1,9 +1,7 @@
 use Rattle.std.proofs.Common.{◌≡◌, ℕ, ◌+◌, ◌*◌, ◌<◌, false, List, Option, None, length, get_or, set, refl, sym, ◌∙◌, ap, subst, arith}
 use Rattle.std.specs.Prelude.{◌==◌, IfSome}
 use Rattle.std.proofs.lemmas.Bool.{and_parts, eqb-true}
-use Rattle.loc_spec_plane.specs.Tables.{lo_of}
-use Rattle.loc_spec_plane.specs.HalfEdges.{half_edge_count}
-use Rattle.loc_spec_plane.specs.Faces.{face_above}
+use Rattle.loc_spec_plane.specs.{Tables.lo_of, HalfEdges.half_edge_count, Faces.face_above}
 use Rattle.loc_half.specs.HalfEdgeLists.{leader_in}
 use Rattle.loc_faces.specs.Cycles.{face_by}
 use Rattle.loc_faces.proofs.Leaders.{leads_within}

@@ -1,6 +1,5 @@
-use Rattle.std.proofs.Common.{get_or, refl}
+use Rattle.std.proofs.{Common.get_or, Common.refl, lemmas.Result.err_from_is_err_and}
 use Rattle.std.specs.List.{flat_map}
-use Rattle.std.proofs.lemmas.Result.{err_from_is_err_and}
 use Rattle.loc_half.specs.HalfEdgeLists.{next_in}
 use Rattle.loc_faces.specs.FaceTexts.{cycle_line}
 use Rattle.loc_page.proofs.Pages.{goes_end, goes_more, goes_next, stop}

@@ -1,14 +1,10 @@
 use Rattle.std.proofs.Common.{ℕ, ◌<◌, List, length, sym, subst, ap, arith}
-use Rattle.std.specs.Prelude.{All, codes}
-use Rattle.std.specs.List.{flat_map}
-use Rattle.std.proofs.lemmas.List.FromFn.{length-map-range_with_len}
-use Rattle.std.proofs.lemmas.Result.{err_from_is_err_and}
+use Rattle.std.specs.{Prelude.All, Prelude.codes, List.flat_map}
+use Rattle.std.proofs.{lemmas.List.FromFn.length-map-range_with_len, lemmas.Result.err_from_is_err_and}
 use Rattle.loc_page.specs.Puts.{PutsText}
 use Rattle.loc_spec_plane.specs.HalfEdges.{half_edge_count}
 use Rattle.loc_half.specs.HalfEdgeLists.{next_in}
-use Rattle.loc_faces.specs.Boundaries.{inner_leaders}
-use Rattle.loc_faces.specs.FaceLists.{face_in}
-use Rattle.loc_faces.specs.FaceTexts.{cycle_line}
+use Rattle.loc_faces.specs.{Boundaries.inner_leaders, FaceLists.face_in, FaceTexts.cycle_line}
 use Rattle.loc_faces.proofs.Lines.{inner_is, inner_within, outer_is, outer_within, outers_many}
 use Rattle.loc_page.proofs.Pages.{both, stop}
 use Rattle.loc_faces.proofs.texts.put_text.Goals as goal

@@ -1,11 +1,9 @@
 use Rattle.std.proofs.Common.{◌≡◌, ◌+◌, ◌<◌, [], length, get_or, map, filter, take, sym, ◌∙◌, ap, subst, arith, length-append}
-use Rattle.std.proofs.lemmas.List.{get_or_default, length-map}
-use Rattle.std.proofs.lemmas.List.Sums.{sum_by-take-le}
+use Rattle.std.proofs.{lemmas.List.get_or_default, lemmas.List.length-map, lemmas.List.Sums.sum_by-take-le}
 use Rattle.loc_spec_plane.specs.Rings.{touches, covers}
 use Rattle.loc_laws_any.specs.Unions.{part_of}
 use Rattle.loc_edges.specs.Layers.{layer_rings}
-use Rattle.loc_spans.specs.Boxes.{rings_at}
-use Rattle.loc_spans.specs.Parity.{IsAnswer}
+use Rattle.loc_spans.specs.{Boxes.rings_at, Parity.IsAnswer}
 use Rattle.loc_features.specs.Gathered.{NamesAll, number_of, segment_count}
 use Rattle.loc_features.proofs.Naming.{counted_more, few_boxes, few_named, names_more, names_none, names_up_to, none_at}
 use Rattle.loc_features.proofs.gathering.gather.Goals as goal

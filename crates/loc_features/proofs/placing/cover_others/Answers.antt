@@ -1,6 +1,5 @@
 use Rattle.std.proofs.Common.{◌≡◌, ℕ, ◌+◌, Bool, true, not, filter, get_or, length, length-append, take, sym, ◌∙◌, ap, cond, arith}
-use Rattle.std.proofs.lemmas.List.{length-map}
-use Rattle.std.proofs.lemmas.List.Filters.{length-filter_more}
+use Rattle.std.proofs.{lemmas.List.length-map, lemmas.List.Filters.length-filter_more}
 use Rattle.loc_spec_plane.specs.Lists.{is_in}
 use Rattle.loc_laws_any.specs.Unions.{by_place}
 use Rattle.loc_features.proofs.Placed.{few_front}

@@ -1,7 +1,6 @@
 use Rattle.std.proofs.Common.{◌≡◌, ◌≢◌, ◌<◌, List, length, get_or, sym, ◌∙◌, ap, subst, arith, inl, inr, get_or-set_other, get_or-set_same}
 use Rattle.std.specs.Prelude.{set}
-use Rattle.std.proofs.lemmas.Bool.{cases_eq}
-use Rattle.std.proofs.lemmas.List.{get_or_default}
+use Rattle.std.proofs.{lemmas.Bool.cases_eq, lemmas.List.get_or_default}
 use Rattle.loc_parts.specs.declared.parts.Part.{Part}
 use Rattle.loc_features.specs.Places.{IsAt}
 use Rattle.loc_features.proofs.Placed.{places_many, places_more}

@@ -1,7 +1,6 @@
 use Rattle.std.proofs.Common.{◌≡◌, ℕ, ◌+◌, ◌-◌, ◌*◌, ◌<◌, ◌≤◌, ◌++◌, map, take, get_or, None}
 use Rattle.std.specs.Prelude.{replicate}
-use Rattle.loc_spec_plane.specs.declared.Place.{Place}
-use Rattle.loc_spec_plane.specs.declared.Place.TheVariants.{Area}
+use Rattle.loc_spec_plane.specs.{declared.Place.Place, declared.Place.TheVariants.Area}
 use Rattle.loc_place.specs.Found.{place_at}
 use Rattle.loc_parts.specs.declared.parts.Part.{Part}
 use Rattle.loc_features.specs.Places.{IsAt}

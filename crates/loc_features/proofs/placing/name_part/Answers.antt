@@ -5,9 +5,7 @@ use Rattle.loc_laws_order.proofs.Kept.{is_in-filter}
 use Rattle.loc_laws_any.specs.Unions.{by_place}
 use Rattle.loc_edges.specs.Layers.{layer_rings}
 use Rattle.loc_cover.specs.Legends.{covering, touching}
-use Rattle.loc_features.proofs.Naming.{few_kept}
-use Rattle.loc_features.proofs.Placed.{others_are, placed}
-use Rattle.loc_features.proofs.Together.{more_named}
+use Rattle.loc_features.proofs.{Naming.few_kept, Placed.others_are, Placed.placed, Together.more_named}
 use Rattle.loc_features.proofs.placing.name_part.Goals as goal
 
 pub touching_at-touching-requires : goal.touching_at-touching-requires

@@ -2,10 +2,8 @@ use Rattle.std.proofs.Common.{◌≡◌, ◌<◌, List, length, get_or, take, sy
 use Rattle.std.proofs.lemmas.List.Elements.{All-get_or}
 use Rattle.loc_spec_plane.specs.declared.Place.TheVariants.{Corner}
 use Rattle.loc_edges.specs.Layers.{layer_rings}
-use Rattle.loc_parts.specs.Parts.{IsPartOf, part_numbers}
-use Rattle.loc_parts.specs.declared.parts.Part.{Part}
-use Rattle.loc_features.specs.Gathered.{Names}
-use Rattle.loc_features.specs.Places.{IsAt}
+use Rattle.loc_parts.specs.{Parts.IsPartOf, Parts.part_numbers, declared.parts.Part.Part}
+use Rattle.loc_features.specs.{Gathered.Names, Places.IsAt}
 use Rattle.loc_features.proofs.Together.{part_more, part_room}
 use Rattle.loc_features.proofs.placing.name_parts.Goals as goal
 

@@ -1,11 +1,8 @@
 use Rattle.std.proofs.Common.{◌≡◌, ◌<◌, ◌++◌, List, [], length, get_or, take, sym, ◌∙◌, ap, subst, arith}
 use Rattle.std.specs.Prelude.{sum_by}
-use Rattle.std.proofs.lemmas.List.{length-map}
-use Rattle.std.proofs.lemmas.List.Elements.{All-get_or}
-use Rattle.std.proofs.lemmas.List.Sums.{sum_by_more}
+use Rattle.std.proofs.{lemmas.List.length-map, lemmas.List.Elements.All-get_or, lemmas.List.Sums.sum_by_more}
 use Rattle.loc_edges.specs.Layers.{layer_rings}
-use Rattle.loc_parts.specs.Parts.{IsLeftOf, left_numbers, part_numbers}
-use Rattle.loc_parts.specs.declared.parts.Left.{Left}
+use Rattle.loc_parts.specs.{Parts.IsLeftOf, Parts.left_numbers, Parts.part_numbers, declared.parts.Left.Left}
 use Rattle.loc_features.specs.Gathered.{Names, segments_at}
 use Rattle.loc_features.proofs.Together.{few_left, left_at, left_more, left_room}
 use Rattle.loc_features.proofs.whole.name_rest.Goals as goal

@@ -1,6 +1,5 @@
 use Rattle.std.proofs.Common.{◌∙◌, ap}
-use Rattle.std.specs.Ordering.{is_lt, nat_cmp}
-use Rattle.std.specs.Cmp.Lexicographic.{slice_cmp}
+use Rattle.std.specs.{Ordering.is_lt, Ordering.nat_cmp, Cmp.Lexicographic.slice_cmp}
 use Rattle.loc_file.proofs.Orders.{list-test, follows-last}
 use Rattle.loc_file.proofs.covers.follows.Goals as goal
 

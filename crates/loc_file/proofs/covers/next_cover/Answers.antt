@@ -1,10 +1,8 @@
 use Rattle.std.proofs.Common.{[], map}
-use Rattle.std.specs.Prelude.{None}
+use Rattle.std.specs.{Prelude.None, Int.w32, List.last_or}
 use Rattle.loc_spec_index.specs.IndexFile.{number}
 use Rattle.loc_file.specs.Readings.{stop}
 use Rattle.loc_file.proofs.Steps.{handed, wrong-along, read-along, fault-first}
-use Rattle.std.specs.Int.{w32}
-use Rattle.std.specs.List.{last_or}
 use Rattle.loc_file.proofs.CoverRows.{members-stop, holds-is, cover-stop, cover-read}
 use Rattle.loc_file.proofs.covers.next_cover.Goals as goal
 

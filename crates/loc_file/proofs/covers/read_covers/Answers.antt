@@ -1,8 +1,7 @@
 use Rattle.std.proofs.Common.{map, ap, ◌∙◌, arith}
-use Rattle.std.specs.Prelude.{None}
+use Rattle.std.specs.{Prelude.None, List.last_or}
 use Rattle.loc_spec_index.specs.IndexFile.{cover_row}
 use Rattle.loc_file.proofs.Steps.{handed, unheld, stop-along, row-along}
-use Rattle.std.specs.List.{last_or}
 use Rattle.std.proofs.lemmas.List.{map-append}
 use Rattle.loc_file.proofs.CoverRows.{covers-more, covers-stop}
 use Rattle.loc_file.proofs.covers.read_covers.Goals as goal

@@ -1,11 +1,9 @@
 use Rattle.std.proofs.Common.{ℕ, [], sym, subst, refl}
 use Rattle.std.specs.Prelude.{Option}
-use Rattle.loc_spec_index.specs.declared.IndexFault.{IndexFault}
-use Rattle.loc_spec_index.specs.declared.Part.TheVariants.{Edges}
+use Rattle.loc_spec_index.specs.{declared.IndexFault.IndexFault, declared.Part.TheVariants.Edges}
 use Rattle.loc_spec_index.specs.IndexFile.{order, source_fields}
-use Rattle.loc_file.specs.declared.edges.EdgeOf.{EdgeOf}
+use Rattle.loc_file.specs.{declared.edges.EdgeOf.EdgeOf, Told.told_row, Told.told_source}
 use Rattle.loc_file.specs.Readings.{Left, IsFaultIn, IsRead, IsRowStop, stop, no_memory, three}
-use Rattle.loc_file.specs.Told.{told_row, told_source}
 use Rattle.loc_file.proofs.ToldEdges.{told-source}
 use Rattle.loc_file.proofs.Steps.{handed, stop-within, read-along, read-none, read-append, wrong-along, fault-behind, fault-first, fault-front}
 use Rattle.loc_file.proofs.edges.next_edge.Goals as goal

@@ -1,8 +1,7 @@
 use Rattle.std.proofs.Common.{◌≡◌, ◌∙◌, ℕ, true, false, Bool, [], refl, sym, ap, subst}
 use Rattle.std.specs.Prelude.{if◌then◌else◌, not, ◌==◌, Result, Ok, Err, IfOk, IfErr}
 use Rattle.std.proofs.lemmas.Bool.{ne_eqb}
-use Rattle.loc_spec_index.specs.declared.IndexFault.{IndexFault}
-use Rattle.loc_spec_index.specs.IndexFile.{source_fields}
+use Rattle.loc_spec_index.specs.{declared.IndexFault.IndexFault, IndexFile.source_fields}
 use Rattle.loc_file.specs.Readings.{Left, IsRead, IsFaultIn, IsRowStop, stop, no_memory, two}
 use Rattle.loc_file.proofs.edges.next_source.Goals as goal
 

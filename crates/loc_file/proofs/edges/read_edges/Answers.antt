@@ -1,6 +1,5 @@
 use Rattle.loc_file.specs.Told.{told_row}
-use Rattle.loc_file.proofs.Steps.{handed, unheld}
-use Rattle.loc_file.proofs.Loops.{kept-more, kept-stop}
+use Rattle.loc_file.proofs.{Steps.handed, Steps.unheld, Loops.kept-more, Loops.kept-stop}
 use Rattle.loc_file.proofs.edges.read_edges.Goals as goal
 
 pub returns-in_err-edge-clause-err : goal.returns-in_err-edge-clause-err

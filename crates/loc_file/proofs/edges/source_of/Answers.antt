@@ -1,6 +1,5 @@
-use Rattle.std.proofs.Common.{sym, ap}
+use Rattle.std.proofs.{Common.sym, Common.ap, lemmas.Bool.ne_eqb}
 use Rattle.std.specs.Prelude.{if◌then◌else◌, not}
-use Rattle.std.proofs.lemmas.Bool.{ne_eqb}
 use Rattle.loc_file.proofs.edges.source_of.Goals as goal
 
 pub returns-else-version-eq1 : goal.returns-else-version-eq1

@@ -1,7 +1,6 @@
 use Rattle.loc_spec_index.specs.IndexFile.{floor_field}
 use Rattle.loc_file.specs.Readings.{one}
-use Rattle.loc_file.proofs.Steps.{handed, unheld}
-use Rattle.loc_file.proofs.Loops.{alone-more, alone-stop}
+use Rattle.loc_file.proofs.{Steps.handed, Steps.unheld, Loops.alone-more, Loops.alone-stop}
 use Rattle.loc_file.proofs.floors.read_floors.Goals as goal
 
 pub returns-in_err-floor-clause-err : goal.returns-in_err-floor-clause-err

@@ -1,9 +1,8 @@
 use Rattle.std.proofs.Common.{◌≡◌, ℕ, ◌+◌, List, [], ◌∷◌, ◌++◌, refl, arith, codes}
 use Rattle.loc_spec_text.specs.Limits.{most_features, most_points}
 use Rattle.loc_spec_index.specs.IndexFile.{Field, magic, version, most_edges}
-use Rattle.loc_file.specs.declared.header.Header.{Header}
+use Rattle.loc_file.specs.{declared.header.Header.Header, Told.header_row}
 use Rattle.loc_file.specs.Readings.{Left, IsRead, stop, two, three}
-use Rattle.loc_file.specs.Told.{header_row}
 use Rattle.loc_laws_index.proofs.RightFields.{all-hold}
 use Rattle.loc_file.proofs.Steps.{handed, stop-within, stop-along, row-along, read-append, read-next, fault-behind, fault-first, fault-next}
 use Rattle.loc_file.proofs.header.read_header.Goals as goal

@@ -1,6 +1,5 @@
 use Rattle.std.proofs.Common.{refl, sym}
-use Rattle.loc_file.proofs.Steps.{handed}
-use Rattle.loc_file.proofs.Fields.{short-at, magic-wrong}
+use Rattle.loc_file.proofs.{Steps.handed, Fields.short-at, Fields.magic-wrong}
 use Rattle.loc_file.proofs.header.read_magic.Goals as goal
 
 pub returns-in_err-held-clause-err : goal.returns-in_err-held-clause-err

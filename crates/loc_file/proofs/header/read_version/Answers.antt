@@ -1,7 +1,6 @@
 use Rattle.std.proofs.Common.{refl, ◌∙◌}
 use Rattle.loc_spec_index.specs.IndexFile.{version}
-use Rattle.loc_file.proofs.Steps.{handed}
-use Rattle.loc_file.proofs.Fields.{short-at, version-wrong, word_is}
+use Rattle.loc_file.proofs.{Steps.handed, Fields.short-at, Fields.version-wrong, Fields.word_is}
 use Rattle.loc_file.proofs.header.read_version.Goals as goal
 
 pub returns-in_err-held-clause-err : goal.returns-in_err-held-clause-err

@@ -1,9 +1,7 @@
 use Rattle.std.proofs.Common.{sym, ◌∙◌, ap, map, arith, refl, length}
 use Rattle.std.proofs.lemmas.List.{length-map}
 use Rattle.loc_spec_plane.specs.Tables.{Table}
-use Rattle.loc_file.specs.declared.edges.EdgeOf.{EdgeOf}
-use Rattle.loc_file.specs.Contents.{content_in}
-use Rattle.loc_file.specs.Told.{told_source}
+use Rattle.loc_file.specs.{declared.edges.EdgeOf.EdgeOf, Contents.content_in, Told.told_source}
 use Rattle.loc_file.proofs.Holding.{as_many_sources, corners-go-up, ends-go-up, sources-fit, ends-fit, few_ends, marks-on-ends, marks-named, lists-are, lists-named, above-fit, floors-fit, content-is, held-is}
 use Rattle.loc_laws_index.proofs.FileFacts.{facts}
 use Rattle.loc_file.proofs.held.hold.Goals as goal

@@ -1,10 +1,8 @@
 use Rattle.std.proofs.Common.{sym, subst, arith}
 use Rattle.loc_spec_index.specs.declared.IndexFault.TheVariants as fault
 use Rattle.loc_spec_index.specs.IndexFile.{IsFileOf}
-use Rattle.loc_file.specs.Keeping.{FileOf}
-use Rattle.loc_file.specs.Refused.{IsRefused, unheld}
-use Rattle.loc_file.proofs.Steps.{handed}
-use Rattle.loc_file.proofs.Refusals.{refused, refused-long, file-whole}
+use Rattle.loc_file.specs.{Keeping.FileOf, Refused.IsRefused, Refused.unheld}
+use Rattle.loc_file.proofs.{Steps.handed, Refusals.refused, Refusals.refused-long, Refusals.file-whole}
 use Rattle.loc_file.proofs.held.read_index.Goals as goal
 
 pub returns-in_err-parts-clause-err : goal.returns-in_err-parts-clause-err

@@ -1,7 +1,6 @@
 use Rattle.std.proofs.Common.{◌≡◌, ℕ, ◌+◌, ◌<◌, List, [], ◌∷◌, ◌++◌, length, get_or, map, take, sym, ◌∙◌, ap}
 use Rattle.std.proofs.lemmas.List.{map_more, take_all}
-use Rattle.loc_file.specs.declared.edges.EdgeOf.{EdgeOf}
-use Rattle.loc_file.specs.Told.{told_source}
+use Rattle.loc_file.specs.{declared.edges.EdgeOf.EdgeOf, Told.told_source}
 use Rattle.loc_file.proofs.held.sources_of.Goals as goal
 
 -- the source of one edge more behind those of the edges before it

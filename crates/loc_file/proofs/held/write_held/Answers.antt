@@ -1,8 +1,6 @@
 use Rattle.std.proofs.Common.{length, ap, subst, arith}
 use Rattle.loc_spec_index.specs.IndexFile.{IsFileOf, bytes_of}
-use Rattle.loc_laws_index.proofs.FileFacts.{facts}
-use Rattle.loc_laws_index.proofs.Renewed.{renewed}
-use Rattle.loc_laws_index.proofs.AgreeTable.{most-small}
+use Rattle.loc_laws_index.proofs.{FileFacts.facts, Renewed.renewed, AgreeTable.most-small}
 use Rattle.loc_write.proofs.Spelling.{length-marks}
 use Rattle.loc_file.specs.Keeping.{FileOf}
 use Rattle.loc_file.proofs.held.write_held.Goals as goal

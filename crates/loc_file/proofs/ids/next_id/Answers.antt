@@ -1,7 +1,6 @@
 use Rattle.std.proofs.Common.{[]}
 use Rattle.loc_file.specs.Readings.{stop, no_memory}
-use Rattle.loc_file.proofs.Steps.{handed, fault-first}
-use Rattle.loc_file.proofs.Texts.{at_id}
+use Rattle.loc_file.proofs.{Steps.handed, Steps.fault-first, Texts.at_id}
 use Rattle.loc_file.proofs.ids.next_id.Goals as goal
 
 pub returns-in_err-count-clause-err : goal.returns-in_err-count-clause-err

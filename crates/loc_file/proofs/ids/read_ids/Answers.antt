@@ -1,8 +1,7 @@
 use Rattle.std.proofs.Common.{map, ap, ◌∙◌}
 use Rattle.loc_spec_index.specs.IndexFile.{id_fields}
-use Rattle.loc_file.proofs.Steps.{handed, unheld}
+use Rattle.loc_file.proofs.{Steps.handed, Steps.unheld, Loops.alone-more, Loops.alone-stop}
 use Rattle.std.proofs.lemmas.List.{map-append}
-use Rattle.loc_file.proofs.Loops.{alone-more, alone-stop}
 use Rattle.loc_file.proofs.ids.read_ids.Goals as goal
 
 pub returns-in_err-id-clause-err : goal.returns-in_err-id-clause-err

@@ -1,6 +1,5 @@
 use Rattle.std.proofs.Common.{[], false, refl}
-use Rattle.loc_spec_index.specs.declared.Part.TheVariants.{Marks}
-use Rattle.loc_spec_index.specs.IndexFile.{mark_row, order}
+use Rattle.loc_spec_index.specs.{declared.Part.TheVariants.Marks, IndexFile.mark_row, IndexFile.order}
 use Rattle.loc_file.specs.Readings.{stop, two}
 use Rattle.loc_file.proofs.Steps.{handed, stop-within, wrong-along, read-none, fault-behind, fault-first, fault-next}
 use Rattle.loc_file.proofs.marks.next_mark.Goals as goal

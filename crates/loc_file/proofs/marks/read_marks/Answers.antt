@@ -1,6 +1,5 @@
 use Rattle.loc_spec_index.specs.IndexFile.{mark_row}
-use Rattle.loc_file.proofs.Steps.{handed, unheld}
-use Rattle.loc_file.proofs.Loops.{kept-more, kept-stop}
+use Rattle.loc_file.proofs.{Steps.handed, Steps.unheld, Loops.kept-more, Loops.kept-stop}
 use Rattle.loc_file.proofs.marks.read_marks.Goals as goal
 
 pub returns-in_err-mark-clause-err : goal.returns-in_err-mark-clause-err

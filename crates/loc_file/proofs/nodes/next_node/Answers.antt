@@ -1,7 +1,6 @@
 use Rattle.std.proofs.Common.{◌≡◌, ℕ, [], ◌∷◌, ◌++◌, ◌+◌, refl}
 use Rattle.std.specs.Int.{w8}
-use Rattle.loc_spec_index.specs.declared.IndexFault.{IndexFault}
-use Rattle.loc_spec_index.specs.IndexFile.{number, node_fields}
+use Rattle.loc_spec_index.specs.{declared.IndexFault.IndexFault, IndexFile.number, IndexFile.node_fields}
 use Rattle.loc_file.specs.Readings.{Left, IsRead, IsRowStop, stop, two, three}
 use Rattle.loc_file.proofs.Steps.{handed, stop-within, row-along, stop-along, read-none, read-append, fault-first, fault-behind}
 use Rattle.loc_file.proofs.nodes.next_node.Goals as goal

@@ -1,6 +1,5 @@
 use Rattle.loc_spec_index.specs.IndexFile.{node_fields}
-use Rattle.loc_file.proofs.Steps.{handed, unheld}
-use Rattle.loc_file.proofs.Loops.{alone-more, alone-stop}
+use Rattle.loc_file.proofs.{Steps.handed, Steps.unheld, Loops.alone-more, Loops.alone-stop}
 use Rattle.loc_file.proofs.nodes.read_nodes.Goals as goal
 
 pub returns-in_err-node-clause-err : goal.returns-in_err-node-clause-err

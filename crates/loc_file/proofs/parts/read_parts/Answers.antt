@@ -1,6 +1,5 @@
 use Rattle.std.proofs.Common.{map, arith}
-use Rattle.loc_laws_index.proofs.AgreeTable.{most-small}
-use Rattle.loc_laws_index.proofs.RightFields.{all-hold}
+use Rattle.loc_laws_index.proofs.{AgreeTable.most-small, RightFields.all-hold}
 use Rattle.loc_file.specs.Told.{header_row}
 use Rattle.loc_file.proofs.Steps.{handed}
 use Rattle.loc_file.proofs.Stops.{header-stop, ids-stop, corners-stop, edges-stop, marks-stop, covers-stop, floors-stop, roots-stop, nodes-stop, all-read, all-shaped}
@@ -57,3 +56,6 @@ returns-clause-ok c = all-read c.in_ok-header.header (map (λ id. id.items) c.in
 
 pub returns-clause-shaped : goal.returns-clause-shaped
 returns-clause-shaped c = all-shaped c.in_ok-header.header (map (λ id. id.items) c.in_ok-ids.ids.items) c.in_ok-corners.corners.items c.in_ok-edges.edges.items c.in_ok-marks.marks.items (map (λ list. list.items) c.in_ok-covers.covers.items) c.in_ok-floors.floors.items c.in_ok-roots.roots.items c.in_ok-nodes.nodes.items c.in_ok-header.ensures.ok c.in_ok-ids.ensures.ok c.in_ok-corners.ensures.ok c.in_ok-edges.ensures.ok c.in_ok-marks.ensures.ok c.in_ok-covers.ensures.ok c.in_ok-floors.ensures.ok c.in_ok-roots.ensures.ok c.in_ok-nodes.ensures.ok
+
+pub read_floors-requires : goal.read_floors-requires
+read_floors-requires c = let edges = (all-hold (header_row c.in_ok-header.header) c.in_ok-header.ensures.ok.right).1.1.1.1.1.0 in let most = most-small c.in_ok-header.header.version in omega (arith, edges, most)

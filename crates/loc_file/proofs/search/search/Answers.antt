@@ -1,6 +1,5 @@
 use Rattle.std.proofs.Common.{◌-◌, sym, ◌∙◌, arith}
-use Rattle.loc_file.proofs.Deep.{most-corner, most-walk}
-use Rattle.loc_file.proofs.TrueSteps.{true-corner, true-walk}
+use Rattle.loc_file.proofs.{Deep.most-corner, Deep.most-walk, TrueSteps.true-corner, TrueSteps.true-walk}
 use Rattle.loc_file.proofs.Walked.{corners-there, edges-there}
 use Rattle.loc_file.proofs.Searched.{search-corner, search-none, search-behind}
 use Rattle.loc_file.proofs.search.search.Goals as goal

@@ -1,10 +1,8 @@
 use Rattle.std.proofs.Common.{◌≡◌, suc, ◌+◌, ◌-◌, ◌≤◌, length, refl, sym, ◌∙◌, ap, subst, arith}
 use Rattle.loc_spec_index.specs.Nodes.{Left, Right, child}
-use Rattle.loc_file.specs.Searches.{answer_of}
+use Rattle.loc_file.specs.{Searches.answer_of, Depths.depth_from}
 use Rattle.loc_laws_search.proofs.Walking.{walk-on, walk-left, walk-right, same-walk}
-use Rattle.loc_file.specs.Depths.{depth_from}
-use Rattle.loc_file.proofs.Deep.{depth-child, same-depth}
-use Rattle.loc_file.proofs.Walked.{child-within, edges-there}
+use Rattle.loc_file.proofs.{Deep.depth-child, Deep.same-depth, Walked.child-within, Walked.edges-there}
 use Rattle.loc_file.proofs.search.walk_version.Goals as goal
 use Rattle.loc_file.proofs.search.walk_version.Goals.{in-Above, in-Below}
 

@@ -1,7 +1,6 @@
 use Rattle.std.proofs.Common.{◌≡◌, ◌+◌, ◌-◌, ◌≤◌, length}
 use Rattle.std.specs.Prelude.{None}
-use Rattle.loc_spec_index.specs.Content.{root_of}
-use Rattle.loc_spec_index.specs.Search.{walk}
+use Rattle.loc_spec_index.specs.{Content.root_of, Search.walk}
 use Rattle.loc_file.specs.Depths.{depth_from}
 use Rattle.loc_file.proofs.search.walk_version.Given as goal
 

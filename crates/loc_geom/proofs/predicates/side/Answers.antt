@@ -1,8 +1,6 @@
 use Rattle.std.proofs.Common.{◌≡◌, ◌∙◌, true, false, ℤ, pos, to_z, of_z, to_z-of_z, arith}
-use Rattle.std.specs.Int.{w128}
+use Rattle.std.specs.{Int.w128, Prelude.int_lt, Ordering.int_eq}
 use Rattle.std.proofs.lemmas.Int.{ints}
-use Rattle.std.specs.Prelude.{int_lt}
-use Rattle.std.specs.Ordering.{int_eq}
 use Rattle.loc_spec_plane.specs.Points.{turn}
 use borrow.Author.Differences.{fits_in}
 use Rattle.loc_geom.proofs.predicates.side.Goals as goal

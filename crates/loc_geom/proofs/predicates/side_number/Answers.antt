@@ -1,7 +1,6 @@
-use Rattle.std.proofs.Common.{to_z-of_z, arith}
+use Rattle.std.proofs.{Common.to_z-of_z, Common.arith, lemmas.Int.ints}
 use Rattle.std.specs.Int.{w128}
 use borrow.Author.Differences.{fits_in}
-use Rattle.std.proofs.lemmas.Int.{ints}
 use Rattle.loc_geom.proofs.predicates.side_number.Goals as goal
 
 pub returns : goal.returns

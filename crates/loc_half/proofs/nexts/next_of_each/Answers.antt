@@ -1,6 +1,5 @@
 use Rattle.std.proofs.Common.{◌≡◌, ℕ, List, ◌++◌, length, get_or, take, drop, sym, ◌∙◌, ap, subst, inl, inr, arith}
-use Rattle.std.proofs.lemmas.Bool.{cases_eq}
-use Rattle.std.proofs.Math.Seq.{take-append_seam}
+use Rattle.std.proofs.{lemmas.Bool.cases_eq, Math.Seq.take-append_seam}
 use Rattle.loc_spec_plane.specs.HalfEdges.{half_edge_count, target, IsNext}
 use Rattle.loc_half.proofs.Halves.{target-fits}
 use Rattle.loc_half.proofs.nexts.next_of_each.Goals as goal

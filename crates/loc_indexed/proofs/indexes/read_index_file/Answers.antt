@@ -1,15 +1,10 @@
-use Rattle.std.proofs.Common.{None}
-use Rattle.std.proofs.lemmas.Result.{err_from_is_err_and}
-use Rattle.loc_spec_text.specs.Bytes.{Text}
-use Rattle.loc_io.specs.Meaning.{Meaning}
-use Rattle.loc_io.specs.Streams.{stream}
+use Rattle.std.proofs.{Common.None, lemmas.Result.err_from_is_err_and}
+use Rattle.loc_spec_text.specs.{Bytes.Text, Limits.most_index}
+use Rattle.loc_io.specs.{Meaning.Meaning, Streams.stream}
 use Rattle.loc_laws_index.specs.IndexReading.{reading}
-use Rattle.loc_course.specs.Courses.{Course}
-use Rattle.loc_course.specs.Following.{Moment, moment}
-use Rattle.loc_course.specs.Stops.{source}
+use Rattle.loc_course.specs.{Courses.Course, Following.Moment, Following.moment, Stops.source}
 use Rattle.loc_course.proofs.Going.{goes_further}
 use Rattle.loc_indexed.specs.IndexedCourses.{index_in}
-use Rattle.loc_spec_text.specs.Limits.{most_index}
 use Rattle.loc_indexed.proofs.ToldFiles.{told_file, told_of}
 use Rattle.loc_indexed.proofs.indexes.read_index_file.Goals as goal
 

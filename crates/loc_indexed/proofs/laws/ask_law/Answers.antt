@@ -1,6 +1,5 @@
 use Rattle.loc_indexed.proofs.MarkedAnswers.{layer_course, true_course}
-use Rattle.loc_indexed.proofs.Behind.{ask_makes_none, ask_refuses_behind}
-use Rattle.loc_indexed.proofs.ReadBack.{file_reads}
+use Rattle.loc_indexed.proofs.{Behind.ask_makes_none, Behind.ask_refuses_behind, ReadBack.file_reads}
 use Rattle.loc_indexed.proofs.laws.ask_law.Goals as goal
 
 pub returns-clause-reads : goal.returns-clause-reads

@@ -1,6 +1,4 @@
-use Rattle.loc_laws_judge.proofs.First.{true_has_none}
-use Rattle.loc_laws_judge.proofs.Readable.{files_are_readable}
-use Rattle.loc_laws_judge.proofs.Same.{first_is_found}
+use Rattle.loc_laws_judge.proofs.{First.true_has_none, Readable.files_are_readable, Same.first_is_found}
 use Rattle.loc_indexed.proofs.Flawed.{goes_flawed, goes_unflawed}
 use Rattle.loc_indexed.proofs.verifying.judge_held.Goals as goal
 

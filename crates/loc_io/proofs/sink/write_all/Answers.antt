@@ -1,7 +1,5 @@
 use Rattle.std.proofs.Common.{◌-◌, ◌<◌, ◌≤◌, length, length-take, take, drop, rules, arith, length-drop, subst, sym}
-use Rattle.std.proofs.KnownBytes.{Appends-kept}
-use Rattle.std.proofs.lemmas.List.{take_all}
-use Rattle.std.proofs.lemmas.Result.{err_from_is_err_and}
+use Rattle.std.proofs.{KnownBytes.Appends-kept, lemmas.List.take_all, lemmas.Result.err_from_is_err_and}
 use Rattle.loc_io.specs.Causes.{Rose}
 use Rattle.loc_io.proofs.Appending.{Wrote, in_time_after, in_time_by, wrote-more}
 use Rattle.loc_io.proofs.sink.write_all.Goals as goal

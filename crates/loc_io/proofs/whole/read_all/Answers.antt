@@ -1,6 +1,5 @@
 use Rattle.std.proofs.Common.{◌≡◌, ◌++◌, take, rules, arith, refl, ◌∙◌}
-use Rattle.std.proofs.lemmas.List.{with_items_is}
-use Rattle.std.proofs.lemmas.Result.{err_from_is_err_and}
+use Rattle.std.proofs.{lemmas.List.with_items_is, lemmas.Result.err_from_is_err_and}
 use Rattle.loc_io.proofs.Reading.{reads_more, reads_end, reads_long, reads_no_memory}
 use Rattle.loc_io.proofs.whole.read_all.Goals as goal
 

@@ -4,9 +4,8 @@ use Rattle.std.specs.Prelude.{codes}
 use Rattle.loc_spec_plane.specs.Points.{Edge}
 use Rattle.loc_spec_text.specs.Points.{ended}
 use Rattle.loc_geom.specs.declared.kinds.Meeting.{Meeting}
-use Rattle.loc_course.specs.declared.line.Part.{Part}
+use Rattle.loc_course.specs.{declared.line.Part.Part, Lines.line_text, Lines.part_text}
 use Rattle.loc_course.specs.declared.line.Part.TheVariants as p
-use Rattle.loc_course.specs.Lines.{line_text, part_text}
 use Rattle.loc_maps.specs.LineTexts.{conflict_text, meeting_text}
 use Rattle.loc_maps.proofs.lines.conflict_line.Goals as goal
 

@@ -1,8 +1,7 @@
 use Rattle.std.proofs.lemmas.Result.{err_from_is_err_and}
 use Rattle.loc_spec_text.specs.Bytes.{Text}
 use Rattle.loc_csvform.specs.Layer.{layer_of}
-use Rattle.loc_course.specs.Courses.{Course}
-use Rattle.loc_course.specs.Following.{moment}
+use Rattle.loc_course.specs.{Courses.Course, Following.moment}
 use Rattle.loc_course.proofs.Going.{goes_further}
 use Rattle.loc_maps.specs.MapCourses.{read_in}
 use Rattle.loc_maps.proofs.maps.read_features_file.Goals as goal

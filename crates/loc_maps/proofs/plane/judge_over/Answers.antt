@@ -1,7 +1,6 @@
 use Rattle.std.proofs.lemmas.Result.{IfOk-weaker}
 use Rattle.loc_course.specs.Following.{lacks}
-use Rattle.loc_maps.specs.Located.{table_in}
-use Rattle.loc_maps.specs.MapCourses.{covers_course}
+use Rattle.loc_maps.specs.{Located.table_in, MapCourses.covers_course}
 use Rattle.loc_maps.proofs.Judged.{behind_swept}
 use Rattle.loc_maps.proofs.plane.judge_over.Goals as goal
 

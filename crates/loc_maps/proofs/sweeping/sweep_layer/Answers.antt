@@ -1,10 +1,6 @@
-use Rattle.std.proofs.Common.{Some, sym, subst}
-use Rattle.std.proofs.lemmas.Result.{err_from_is_err_and}
-use Rattle.loc_course.specs.Following.{Follows, lacks}
-use Rattle.loc_course.specs.Stops.{stopped}
-use Rattle.loc_course.specs.declared.stop.Stop.{Stop}
-use Rattle.loc_maps.specs.Located.{edges_of}
-use Rattle.loc_maps.specs.MapCourses.{apart_course, pieces_course}
+use Rattle.std.proofs.{Common.Some, Common.sym, Common.subst, lemmas.Result.err_from_is_err_and}
+use Rattle.loc_course.specs.{Following.Follows, Following.lacks, Stops.stopped, declared.stop.Stop.Stop}
+use Rattle.loc_maps.specs.{Located.edges_of, MapCourses.apart_course, MapCourses.pieces_course}
 use Rattle.loc_maps.proofs.Judged.{on_made, on_swept}
 use Rattle.loc_maps.proofs.sweeping.sweep_layer.Goals as goal
 

@@ -1,10 +1,8 @@
 use Rattle.std.proofs.Common.{sym, subst}
 use Rattle.loc_edges.specs.Conflicts.{table_edges}
 use Rattle.loc_edges.proofs.EdgeLists.{edges_apart}
-use Rattle.loc_course.specs.Courses.{Course}
-use Rattle.loc_course.specs.Following.{Follows, lacks}
-use Rattle.loc_maps.proofs.Judged.{on_apart, on_conflict}
-use Rattle.loc_maps.proofs.Shown.{shown}
+use Rattle.loc_course.specs.{Courses.Course, Following.Follows, Following.lacks}
+use Rattle.loc_maps.proofs.{Judged.on_apart, Judged.on_conflict, Shown.shown}
 use Rattle.loc_maps.proofs.sweeping.sweep_table.Goals as goal
 
 pub returns-in-Ok-clause-goes_on : goal.returns-in-Ok-clause-goes_on

@@ -1,7 +1,6 @@
 use Rattle.std.proofs.Common.{ℕ, ◌∙◌, sym, ap, map, subst}
 use Rattle.std.specs.List.Sorted.{IsPermutation}
-use Rattle.std.proofs.lemmas.List.Sorted.{IsPermutation-map}
-use Rattle.std.proofs.lemmas.Result.{IfOk-weaker}
+use Rattle.std.proofs.{lemmas.List.Sorted.IsPermutation-map, lemmas.Result.IfOk-weaker}
 use Rattle.loc_spec_plane.specs.Points.{Point}
 use Rattle.loc_node.proofs.finder.along_curve.Goals as goal
 

@@ -2,8 +2,7 @@ use Rattle.std.proofs.Common.{◌∙◌}
 use Rattle.std.proofs.lemmas.List.Filters.{dedup_is}
 use Rattle.loc_spec_plane.specs.Points.{same_point}
 use Rattle.loc_laws_order.proofs.Tests.{same_point_decides}
-use Rattle.loc_laws_noding.proofs.Orders.{points_by_before}
-use Rattle.loc_laws_noding.proofs.SortedSet.{sorted_set-dedup}
+use Rattle.loc_laws_noding.proofs.{Orders.points_by_before, SortedSet.sorted_set-dedup}
 use Rattle.loc_node.proofs.finder.sort_points.Goals as goal
 
 pub returns : goal.returns

@@ -1,8 +1,6 @@
 use Rattle.std.proofs.Common.{◌≡◌, List, ◌∙◌}
 use Rattle.std.proofs.lemmas.Result.{IfOk-weaker}
-use Rattle.loc_spec_plane.specs.Points.{edge_before}
-use Rattle.loc_spec_plane.specs.Lists.{sorted_set}
-use Rattle.loc_spec_plane.specs.Rings.{Rings}
+use Rattle.loc_spec_plane.specs.{Points.edge_before, Lists.sorted_set, Rings.Rings}
 use Rattle.loc_spec_plane.specs.Tables.{layer_corners, pieces_of, whole}
 use Rattle.loc_edges.specs.Tagged.{segments_in}
 use Rattle.loc_node.proofs.noding.corners_of.Goals as goal

@@ -1,11 +1,7 @@
 use Rattle.std.proofs.Common.{◌≡◌, ℕ, ◌<◌, ◌≤◌, [], length, get_or, sym, ◌∙◌, ap, subst, Result, Ok, Err}
 use Rattle.std.specs.Prelude.{All, IfOk, IfErr, IsTrue, not}
-use Rattle.std.proofs.lemmas.Bool.{not_from_false}
-use Rattle.std.proofs.lemmas.List.{length-map}
-use Rattle.std.proofs.lemmas.Result.{IfOk-weaker}
-use Rattle.loc_spec_plane.specs.Points.{Point, touch}
-use Rattle.loc_spec_plane.specs.Covers.{feature_count}
-use Rattle.loc_spec_plane.specs.Rings.{touches, covers}
+use Rattle.std.proofs.{lemmas.Bool.not_from_false, lemmas.List.length-map, lemmas.Result.IfOk-weaker}
+use Rattle.loc_spec_plane.specs.{Points.Point, Points.touch, Covers.feature_count, Rings.touches, Rings.covers}
 use Rattle.loc_spec_plane.specs.Tables.{IsTable, AllEnds, AllEven, cut_at, edge, layer_corners, noded_table_of, piece_count, touches_by_marks, covers_by_marks}
 use Rattle.loc_laws_repeats.specs.Repeats.{IsFirstTwice}
 use Rattle.loc_laws_noding.proofs.Noded.{cutting_noded, never_touch}

@@ -1,19 +1,13 @@
 use Rattle.std.proofs.Common.{ℕ, ◌<◌, length, sym, ◌∙◌, ap, subst, arith}
-use Rattle.std.specs.Prelude.{All}
-use Rattle.std.specs.List.Sorted.{IsSortedBy}
-use Rattle.loc_spec_plane.specs.Points.{Edge, before, edge_before}
-use Rattle.loc_spec_plane.specs.Lists.{is_rising, sorted_set}
+use Rattle.std.specs.{Prelude.All, List.Sorted.IsSortedBy}
+use Rattle.loc_spec_plane.specs.{Points.Edge, Points.before, Points.edge_before, Lists.is_rising, Lists.sorted_set}
 use Rattle.loc_spec_plane.specs.Tables.{cut_at, layer_corners, piece_count}
 use Rattle.loc_laws_noding.proofs.Layers.{corners_rise}
-use Rattle.loc_edges.specs.Layers.{layer_rings}
-use Rattle.loc_edges.specs.Tagged.{segments_in}
-use Rattle.loc_edges.proofs.Ordered.{few_of_layer}
-use Rattle.loc_edges.proofs.SmallLayers.{few_written_points}
+use Rattle.loc_edges.specs.{Layers.layer_rings, Tagged.segments_in}
+use Rattle.loc_edges.proofs.{Ordered.few_of_layer, SmallLayers.few_written_points}
 use Rattle.loc_node.specs.Pieces.{IsRefused, cut_tagged, piece_before}
-use Rattle.loc_node.proofs.Cutting.{few_pieces, many_pieces}
+use Rattle.loc_node.proofs.{Cutting.few_pieces, Cutting.many_pieces, Refusals.shown, Twice.twice_of_layer}
 use Rattle.loc_node.proofs.NodedLists.{are_of_layer, as_many, features_low, placed_fit, placed_lists, placed_rise}
-use Rattle.loc_node.proofs.Refusals.{shown}
-use Rattle.loc_node.proofs.Twice.{twice_of_layer}
 use Rattle.loc_laws_repeats.specs.Repeats.{IsFirstTwice}
 use Rattle.loc_node.proofs.noding.noded_table.Goals as goal
 

@@ -1,7 +1,6 @@
 use Rattle.std.proofs.Common.{◌≡◌, ℕ, take, ◌+◌, ◌-◌, ◌++◌, length, get_or, sym, ◌∙◌, ap, ap₂, subst, arith}
 use Rattle.std.proofs.lemmas.List.{take_all}
-use Rattle.loc_spec_plane.specs.Points.{Edge}
-use Rattle.loc_spec_plane.specs.Tables.{cut_at}
+use Rattle.loc_spec_plane.specs.{Points.Edge, Tables.cut_at}
 use Rattle.loc_laws_order.proofs.TableOrder.{origin_point}
 use Rattle.loc_edges.specs.Tagged.{tagged_by}
 use Rattle.loc_node.specs.Pieces.{IsRefused, cut_tagged, placed_from}

@@ -1,6 +1,5 @@
 use Rattle.std.proofs.Common.{◌≡◌, ℕ, ◌-◌, ◌<◌, ◌≤◌, get_or, length, take}
-use Rattle.loc_spec_plane.specs.Points.{Edge}
-use Rattle.loc_spec_plane.specs.Tables.{cut_at}
+use Rattle.loc_spec_plane.specs.{Points.Edge, Tables.cut_at}
 use Rattle.loc_node.specs.Pieces.{cut_tagged, placed_from}
 use Rattle.loc_spec_text.specs.Limits.{most_pieces}
 use Rattle.loc_node.proofs.pieces.cut_all.Given as goal

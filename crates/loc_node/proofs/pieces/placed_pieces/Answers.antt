@@ -3,8 +3,7 @@ use Rattle.std.specs.List.Sorted.{IsPermutation}
 use Rattle.std.proofs.lemmas.List.Sorted.{length_permutation}
 use Rattle.loc_spec_plane.specs.Tables.{cut_at}
 use Rattle.loc_node.specs.Pieces.{IsRefused, cut_tagged, placed_from}
-use Rattle.loc_node.proofs.Placed.{by_before}
-use Rattle.loc_node.proofs.Refusals.{shown}
+use Rattle.loc_node.proofs.{Placed.by_before, Refusals.shown}
 use Rattle.loc_node.proofs.pieces.placed_pieces.Goals as goal
 
 pub returns-in_err-pieces-clause-refused : goal.returns-in_err-pieces-clause-refused

@@ -8,8 +8,7 @@ use Rattle.loc_edges.specs.Tagged.{segments_in}
 use Rattle.loc_edges.proofs.EdgeRows.{edges_left, edges_more}
 use Rattle.loc_edges.proofs.Tagged.{in_order as edges_in_order}
 use Rattle.loc_node.specs.Pieces.{first_with}
-use Rattle.loc_node.proofs.PieceOrder.{by_edge_first}
-use Rattle.loc_node.proofs.Placed.{by_cmp, first_is}
+use Rattle.loc_node.proofs.{PieceOrder.by_edge_first, Placed.by_cmp, Placed.first_is}
 use Rattle.loc_node.proofs.pieces.sources.Goals as goal
 use Rattle.loc_node.proofs.pieces.sources.Goals.{then-not-is_again+in_ok-push, else-not-is_again}
 

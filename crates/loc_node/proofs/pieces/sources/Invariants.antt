@@ -1,6 +1,5 @@
 use Rattle.std.proofs.Common.{◌≡◌, List, map, take}
-use Rattle.std.specs.List.{dedup}
-use Rattle.std.specs.List.Sorted.{IsPermutation}
+use Rattle.std.specs.{List.dedup, List.Sorted.IsPermutation}
 use Rattle.loc_spec_plane.specs.Points.{Edge, same_edge}
 use Rattle.loc_edges.specs.Tagged.{segments_in}
 use Rattle.loc_node.specs.Pieces.{cut_tagged, first_with, placed_from}

@@ -1,6 +1,5 @@
 use Rattle.std.proofs.Common.{◌+◌, ◌-◌, ◌/◌, ◌<◌, length, sym, ◌∙◌, ap, arith}
-use Rattle.std.proofs.lemmas.Bool.{both_ways, false_from_ne_true}
-use Rattle.std.proofs.lemmas.List.{get_or_default}
+use Rattle.std.proofs.{lemmas.Bool.both_ways, lemmas.Bool.false_from_ne_true, lemmas.List.get_or_default}
 use Rattle.loc_node.specs.Ways.{way_before}
 use Rattle.loc_node.proofs.Along.{earlier_before}
 use Rattle.loc_node.proofs.ways.first_from.Goals as goal

@@ -1,7 +1,6 @@
 use Rattle.std.proofs.Common.{◌∷◌, ◌++◌, [], map, take, sym, ◌∙◌, ap, arith, to_z-of_z, ℤ}
 use Rattle.std.specs.Int.{w128}
-use Rattle.std.proofs.lemmas.Int.{ints}
-use Rattle.std.proofs.lemmas.List.{map_more}
+use Rattle.std.proofs.{lemmas.Int.ints, lemmas.List.map_more}
 use borrow.Author.Differences.{fits_in}
 use Rattle.loc_spec_plane.specs.Points.{Point}
 use Rattle.loc_laws_noding.specs.Search.{number_along}

@@ -1,5 +1,4 @@
-use Rattle.std.specs.Prelude.{All}
-use Rattle.std.specs.List.Sorted.{IsPermutation}
+use Rattle.std.specs.{Prelude.All, List.Sorted.IsPermutation}
 use Rattle.loc_node.specs.Ways.{WayOrder, points_along}
 use Rattle.loc_node.proofs.ways.ways_of.Given as goal
 

@@ -1,7 +1,6 @@
 use Rattle.std.proofs.lemmas.Result.{err_from_is_err_and}
 use Rattle.loc_spec_text.specs.Bytes.{Text}
-use Rattle.loc_course.specs.Courses.{Course}
-use Rattle.loc_course.specs.Following.{moment}
+use Rattle.loc_course.specs.{Courses.Course, Following.moment}
 use Rattle.loc_course.proofs.Going.{goes_further}
 use Rattle.loc_trapdag.specs.Orders.{order_of}
 use Rattle.loc_orders.specs.OrderCourses.{order_in}

@@ -1,5 +1,4 @@
-use Rattle.std.proofs.Common.{ap, arith}
-use Rattle.std.proofs.lemmas.List.Sums.{sum_by_more_le}
+use Rattle.std.proofs.{Common.ap, Common.arith, lemmas.List.Sums.sum_by_more_le}
 use Rattle.loc_rings.specs.Layers.{layer_points, point_count}
 use Rattle.loc_parts.proofs.copying.copy_layer.Goals as goal
 

@@ -2,8 +2,7 @@ use Rattle.std.proofs.Common.{◌≡◌, ◌++◌, ◌∷◌, [], length, take, 
 use Rattle.std.proofs.lemmas.List.{take_more}
 use Rattle.loc_spec_text.specs.Reading.{all_rings}
 use Rattle.loc_rings.specs.Values.{with_ring}
-use Rattle.loc_rings.proofs.Cuts.{with_ring-last}
-use Rattle.loc_rings.proofs.Lone.{own_rings, range_more}
+use Rattle.loc_rings.proofs.{Cuts.with_ring-last, Lone.own_rings, Lone.range_more}
 use Rattle.loc_parts.proofs.Copied.{few_rings}
 use Rattle.loc_parts.proofs.copying.copy_polygon.Goals as goal
 

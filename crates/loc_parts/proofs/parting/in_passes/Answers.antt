@@ -1,9 +1,7 @@
 use Rattle.std.proofs.Common.{◌≡◌, ℕ, ◌≤◌, List, [], ◌∷◌, length, ap, sym, ◌∙◌, subst, arith}
 use Rattle.loc_spec_plane.specs.Lists.{numbers}
 use Rattle.loc_rings.specs.Values.{Feature}
-use Rattle.loc_parts.specs.Parts.{IsPartedBut, IsRestOf}
-use Rattle.loc_parts.specs.declared.parts.Left.{Left}
-use Rattle.loc_parts.specs.declared.parts.Part.{Part}
+use Rattle.loc_parts.specs.{Parts.IsPartedBut, Parts.IsRestOf, declared.parts.Left.Left, declared.parts.Part.Part}
 use Rattle.loc_parts.proofs.Settled.{at_first, at_last, once_last, rest_numbered, rest_of_all}
 use Rattle.loc_parts.proofs.parting.in_passes.Goals as goal
 use Rattle.loc_parts.proofs.parting.in_passes.Goals.{else-loop-turn-test, then-loop-turn-test+in_ok-later+then-kept-len}

@@ -1,8 +1,6 @@
 use Rattle.std.proofs.Common.{◌≡◌, List, [], ◌∷◌, ◌++◌, length, ap, sym, ◌∙◌, subst, arith}
 use Rattle.loc_spec_plane.specs.Lists.{numbers}
-use Rattle.loc_parts.specs.Parts.{IsPartedBut}
-use Rattle.loc_parts.specs.declared.parts.Left.{Left}
-use Rattle.loc_parts.specs.declared.parts.Part.{Part}
+use Rattle.loc_parts.specs.{Parts.IsPartedBut, declared.parts.Left.Left, declared.parts.Part.Part}
 use Rattle.loc_parts.proofs.Settled.{as_part, at_first, at_last, more_parts, once_last, rest_of_all}
 use Rattle.loc_parts.proofs.parting.one_part.Goals as goal
 

@@ -2,8 +2,7 @@ use Rattle.std.proofs.Common.{◌≡◌, ℕ, not, ◌∷◌, length, ap, sym, �
 use Rattle.std.specs.List.{list_any, sum_by}
 use Rattle.loc_spec_plane.specs.Lists.{is_in}
 use Rattle.loc_rings.specs.Flags.{unflagged}
-use Rattle.loc_parts.proofs.Flagged.{chosen-length}
-use Rattle.loc_parts.proofs.Settled.{but_told, in_three, sum_three}
+use Rattle.loc_parts.proofs.{Flagged.chosen-length, Settled.but_told, Settled.in_three, Settled.sum_three}
 use Rattle.loc_parts.proofs.parting.pass.Goals as goal
 
 pub parted-requires-2-clause-as_many : goal.parted-requires-2-clause-as_many

@@ -1,7 +1,6 @@
 use Rattle.std.proofs.Common.{refl, sym, subst}
 use Rattle.std.specs.Prelude.{List}
-use Rattle.loc_parts.specs.Parts.{IsPartedBut}
-use Rattle.loc_parts.specs.declared.parts.Left.{Left}
+use Rattle.loc_parts.specs.{Parts.IsPartedBut, declared.parts.Left.Left}
 use Rattle.loc_parts.proofs.Settled.{as_left, more_left}
 use Rattle.loc_parts.proofs.placing.leave.Goals as goal
 

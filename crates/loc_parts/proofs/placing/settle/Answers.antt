@@ -1,7 +1,6 @@
 use Rattle.std.proofs.Common.{refl, sym, subst}
 use Rattle.std.specs.Prelude.{List}
-use Rattle.loc_parts.specs.Parts.{IsPartedBut}
-use Rattle.loc_parts.specs.declared.parts.Part.{Part}
+use Rattle.loc_parts.specs.{Parts.IsPartedBut, declared.parts.Part.Part}
 use Rattle.loc_parts.proofs.Settled.{as_part, more_parts}
 use Rattle.loc_parts.proofs.placing.settle.Goals as goal
 

@@ -1,8 +1,6 @@
 -- The node of the root has one number.
 use Rattle.std.proofs.Common.{sym, subst, ◌∙◌}
-use Rattle.loc_pool.specs.declared.Link.{Link}
-use Rattle.loc_pool.specs.Maps.{links}
-use Rattle.loc_pool.specs.Rows.{IsPlace}
+use Rattle.loc_pool.specs.{declared.Link.Link, Maps.links, Rows.IsPlace}
 use Rattle.loc_rb.proofs.OneChange.{some-link}
 use Rattle.loc_persist.proofs.Places.{place-once}
 use Rattle.loc_persist.proofs.present.root_after.Goals as goal

@@ -1,7 +1,6 @@
 -- In place, or as a stamp.
 use Rattle.std.proofs.Common.{refl, sym, ap, subst}
-use Rattle.loc_pool.specs.Maps.{Map}
-use Rattle.loc_pool.specs.Rows.{Row}
+use Rattle.loc_pool.specs.{Maps.Map, Rows.Row}
 use Rattle.loc_persist.specs.Written.{IsWritten}
 use Rattle.loc_persist.proofs.Writing.{written-child, written-stamp, free-of}
 use Rattle.loc_persist.proofs.present.write.Goals as goal

@@ -1,7 +1,6 @@
 use Rattle.std.proofs.Common.{◌≡◌, ◌+◌, ◌-◌, ◌/◌, true, length, subst, arith}
 use Rattle.std.proofs.lemmas.Bool.{and_from, lt-ltb}
-use Rattle.loc_spec_plane.specs.Points.{before}
-use Rattle.loc_spec_plane.specs.Tables.{corner}
+use Rattle.loc_spec_plane.specs.{Points.before, Tables.corner}
 use Rattle.loc_place.proofs.Behind.{before_earlier, before_later, stands_behind}
 use Rattle.loc_place.proofs.Halving.{no_more, step_halves, step_doubles}
 use Rattle.loc_place.proofs.corners.search_corners.Goals as goal

@@ -1,6 +1,5 @@
 use Rattle.std.proofs.Common.{◌≡◌, ◌+◌, ◌-◌, ◌*◌, ◌^◌, ◌<◌, ◌≤◌, true, length}
-use Rattle.loc_spec_plane.specs.Points.{before}
-use Rattle.loc_spec_plane.specs.Tables.{corner}
+use Rattle.loc_spec_plane.specs.{Points.before, Tables.corner}
 use Rattle.loc_place.proofs.corners.search_corners.Given as goal
 
 -- the corner before the low end comes before p, p comes before the corner at the high end, and each step halved what is left

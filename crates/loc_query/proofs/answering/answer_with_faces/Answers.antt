@@ -1,16 +1,11 @@
 use Rattle.std.proofs.Common.{ℕ, Ok, Option, subst}
 use Rattle.std.specs.Prelude.{codes}
-use Rattle.loc_spec_text.specs.Points.{ended}
-use Rattle.loc_batch.specs.Answering.{answer_by}
-use Rattle.loc_batch.specs.PointLines.{is_point_line}
+use Rattle.loc_spec_text.specs.{Points.ended, Limits.most_text}
+use Rattle.loc_batch.specs.{Answering.answer_by, PointLines.is_point_line}
 use Rattle.loc_answering.specs.ByLine.{by_line}
-use Rattle.loc_course.specs.Courses.{answers}
-use Rattle.loc_course.specs.Following.{Follows, moment}
-use Rattle.loc_course.specs.Stops.{end_of, source}
-use Rattle.loc_spec_text.specs.Limits.{most_text}
+use Rattle.loc_course.specs.{Courses.answers, Following.Follows, Following.moment, Stops.end_of, Stops.source}
 use Rattle.loc_place.specs.Found.{place_at}
-use Rattle.loc_query.specs.Chosen.{index_of}
-use Rattle.loc_query.specs.QueryCourses.{steps_by}
+use Rattle.loc_query.specs.{Chosen.index_of, QueryCourses.steps_by}
 use Rattle.loc_faces.proofs.Computed.{shown_same}
 use Rattle.loc_course.proofs.Going.{lacks_end}
 use Rattle.loc_query.proofs.answering.answer_with_faces.Goals as goal

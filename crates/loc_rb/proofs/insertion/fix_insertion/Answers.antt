@@ -1,11 +1,8 @@
 -- Two levels up at each red uncle; a black node above, the root or a rotation ends it.
 use Rattle.std.proofs.Common.{ℕ, List, arith}
 use Rattle.loc_pool.specs.declared.Turn.TheVariants.{Left}
-use Rattle.loc_rb.specs.Balance.{IsBlackTop}
-use Rattle.loc_rb.specs.Steps.{RedViolation, IsRedTop}
-use Rattle.loc_rb.proofs.OneChange.{has-row, no-entries}
-use Rattle.loc_rb.proofs.Balanced.{red-shape}
-use Rattle.loc_rb.proofs.Recolouring.{within-colours}
+use Rattle.loc_rb.specs.{Balance.IsBlackTop, Steps.RedViolation, Steps.IsRedTop}
+use Rattle.loc_rb.proofs.{OneChange.has-row, OneChange.no-entries, Balanced.red-shape, Recolouring.within-colours}
 use Rattle.loc_rb.proofs.Counts.{within-trans, within-more, within-none}
 use Rattle.loc_rb.proofs.InsertionSteps.{violation-live, violation-under-black, violation-under-root, violation-pair, violation-moved-up, pair-live, pair-uncle-spot, red-live, violation-at-root, uncle-fits, uncle-tested}
 use Rattle.loc_rb.proofs.insertion.fix_insertion.Goals as goal

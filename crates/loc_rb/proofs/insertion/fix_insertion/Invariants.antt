@@ -1,7 +1,6 @@
 -- The red violation stands higher each time, and no change was made.
 use Rattle.std.proofs.Common.{List, ℕ, length, ◌≤◌}
-use Rattle.loc_rb.specs.Nodes.{Within}
-use Rattle.loc_rb.specs.Steps.{RedViolation}
+use Rattle.loc_rb.specs.{Nodes.Within, Steps.RedViolation}
 use Rattle.loc_rb.proofs.insertion.fix_insertion.Given as goal
 
 abbrev pub invariant-up : goal.invariant-up

@@ -1,7 +1,6 @@
 -- The pair is made straight, and its upper node rises.
 use Rattle.std.proofs.Common.{ap, length, length-append, ◌∷◌, [], arith}
-use Rattle.loc_rb.proofs.InsertionSteps.{pair-rotation, pair-rotated}
-use Rattle.loc_rb.proofs.Counts.{within-trans}
+use Rattle.loc_rb.proofs.{InsertionSteps.pair-rotation, InsertionSteps.pair-rotated, Counts.within-trans}
 use Rattle.loc_rb.proofs.insertion.rotate_grandparent.Goals as goal
 
 pub straighten-middle-requires-clause-place : goal.straighten-middle-requires-clause-place

@@ -1,6 +1,5 @@
 -- A path is no longer than its tree is deep.
-use Rattle.loc_rb.proofs.Descent.{bounded, at-most-42}
-use Rattle.loc_rb.proofs.Successor.{leads-bounded, gap-bounded}
+use Rattle.loc_rb.proofs.{Descent.bounded, Descent.at-most-42, Successor.leads-bounded, Successor.gap-bounded}
 use Rattle.loc_rb.proofs.laws.paths_are_short.Goals as goal
 
 pub returns-clause-tree : goal.returns-clause-tree

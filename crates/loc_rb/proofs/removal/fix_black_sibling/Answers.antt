@@ -1,8 +1,7 @@
 -- By the colours of the sibling's children.
 use Rattle.std.proofs.Common.{sym, ◌∙◌, true≢false, arith, refl}
-use Rattle.loc_rb.proofs.ReadCalls.{child-is, node-has-row}
+use Rattle.loc_rb.proofs.{ReadCalls.child-is, ReadCalls.node-has-row, Counts.within-more, Counts.within-none}
 use Rattle.loc_rb.proofs.RemovalSteps.{other-fits, far-fits, sibling-fits, siblings-read, no-sibling}
-use Rattle.loc_rb.proofs.Counts.{within-more, within-none}
 use Rattle.loc_rb.proofs.removal.fix_black_sibling.Goals as goal
 
 pub child-requires : goal.child-requires

@@ -1,11 +1,8 @@
 -- One level up at a time until a sibling mends it; past the root nothing is lacking.
 use Rattle.std.proofs.Common.{◌≡◌, ℕ, List, refl, sym, ◌∙◌, true, false, not, IsTrue, arith}
 use Rattle.loc_pool.specs.declared.Colour.TheVariants.{Red, Black}
-use Rattle.loc_rb.specs.Balance.{IsBlackTop}
-use Rattle.loc_rb.specs.Places.{Holds}
-use Rattle.loc_rb.specs.Steps.{LacksBlack, IsRedTop}
-use Rattle.loc_rb.proofs.OneChange.{no-entries}
-use Rattle.loc_rb.proofs.Counts.{within-trans, within-more, within-none}
+use Rattle.loc_rb.specs.{Balance.IsBlackTop, Places.Holds, Steps.LacksBlack, Steps.IsRedTop}
+use Rattle.loc_rb.proofs.{OneChange.no-entries, Counts.within-trans, Counts.within-more, Counts.within-none}
 use Rattle.loc_rb.proofs.RemovalSteps.{uneven, other-fits, uneven-tested, lacks-root}
 use Rattle.loc_rb.proofs.removal.fix_removal.Goals as goal
 

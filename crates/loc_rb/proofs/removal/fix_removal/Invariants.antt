@@ -1,7 +1,6 @@
 -- The tree that lacks a black node stands higher each time, and no change was made.
 use Rattle.std.proofs.Common.{List, ℕ, length, ◌≤◌}
-use Rattle.loc_rb.specs.Nodes.{Within}
-use Rattle.loc_rb.specs.Steps.{LacksBlack}
+use Rattle.loc_rb.specs.{Nodes.Within, Steps.LacksBlack}
 use Rattle.loc_rb.proofs.removal.fix_removal.Given as goal
 
 abbrev pub invariant-up : goal.invariant-up

@@ -1,9 +1,7 @@
 -- One left child further at a time.
 use Rattle.std.proofs.Common.{List, sym, ap, ◌∙◌, arith, append-nil, append_assoc, [], ◌∷◌, ◌++◌, length, length-append}
 use Rattle.loc_pool.specs.declared.Turn.TheVariants.{Left}
-use Rattle.loc_rb.specs.Trees.{Frame, Tree}
-use Rattle.loc_rb.specs.Steps.{LeftmostPath}
-use Rattle.loc_rb.specs.Balance.{depth}
+use Rattle.loc_rb.specs.{Trees.Frame, Trees.Tree, Steps.LeftmostPath, Balance.depth}
 use Rattle.loc_rb.proofs.ReadCalls.{node-has-row, child-is}
 use Rattle.loc_rb.proofs.Descent.{leftmost-start, leftmost-step, leftmost-end, sided, sided-fits, depth-under}
 use Rattle.loc_rb.proofs.removal.minimum.Goals as goal

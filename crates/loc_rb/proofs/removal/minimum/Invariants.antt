@@ -1,11 +1,7 @@
 -- The path goes down left sides; it and the tree at its end have at most 43 nodes.
 use Rattle.std.proofs.Common.{◌≡◌, List, length, ◌≤◌, ◌+◌, ◌-◌, ◌++◌, Some}
-use Rattle.loc_pool.specs.declared.Link.{Link}
-use Rattle.loc_pool.specs.declared.Turn.{Turn}
-use Rattle.loc_rb.specs.Trees.{Frame, Tree, top}
-use Rattle.loc_rb.specs.Balance.{depth}
-use Rattle.loc_rb.specs.Places.{Spot}
-use Rattle.loc_rb.specs.Steps.{LeftmostPath}
+use Rattle.loc_pool.specs.{declared.Link.Link, declared.Turn.Turn}
+use Rattle.loc_rb.specs.{Trees.Frame, Trees.Tree, Trees.top, Balance.depth, Places.Spot, Steps.LeftmostPath}
 use Rattle.loc_rb.proofs.removal.minimum.Given as goal
 
 abbrev pub invariant-down : goal.invariant-down

@@ -1,8 +1,7 @@
 -- The left child, or else the right one.
 use Rattle.std.proofs.Common.{sym, ◌∙◌}
 use Rattle.loc_pool.specs.declared.Turn.TheVariants.{Left, Right}
-use Rattle.loc_rb.proofs.ReadCalls.{child-is, node-has-row}
-use Rattle.loc_rb.proofs.SplicingOut.{remaining-none}
+use Rattle.loc_rb.proofs.{ReadCalls.child-is, ReadCalls.node-has-row, SplicingOut.remaining-none}
 use Rattle.loc_rb.proofs.removal.only_child.Goals as goal
 
 pub child-requires : goal.child-requires

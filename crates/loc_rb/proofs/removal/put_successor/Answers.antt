@@ -2,9 +2,7 @@
 use Rattle.std.proofs.Common.{inl, inr, sym, ap, ◌∙◌, refl, arith, [], ◌∷◌, length, length-append}
 use Rattle.loc_pool.specs.declared.Turn.TheVariants.{Left, Right}
 use Rattle.loc_rb.specs.Trees.{node}
-use Rattle.loc_rb.proofs.Trees.{fits-end}
-use Rattle.loc_rb.proofs.ReadCalls.{child-is}
-use Rattle.loc_rb.proofs.Descent.{no-tree}
+use Rattle.loc_rb.proofs.{Trees.fits-end, ReadCalls.child-is, Descent.no-tree}
 use Rattle.loc_rb.proofs.Successor.{leads-short, leads-row, right-start, right-spot, right-short, cut-back, back-node, next-found, successor-put, one-child, splice-short}
 use Rattle.loc_rb.proofs.removal.put_successor.Goals as goal
 

@@ -1,8 +1,6 @@
 -- The sibling becomes red; a red node above becomes black.
 use Rattle.std.proofs.Common.{true≢false, sym}
-use Rattle.loc_rb.proofs.OneChange.{has-row}
-use Rattle.loc_rb.proofs.Recolouring.{colours-live, within-colours}
-use Rattle.loc_rb.proofs.Counts.{within-trans}
+use Rattle.loc_rb.proofs.{OneChange.has-row, Recolouring.colours-live, Recolouring.within-colours, Counts.within-trans}
 use Rattle.loc_rb.proofs.RemovalSteps.{at-live, sibling-live, sibling-red-under-black, sibling-red-under-red}
 use Rattle.loc_rb.proofs.removal.recolour_sibling.Goals as goal
 

@@ -2,8 +2,7 @@
 use Rattle.std.proofs.Common.{refl, arith}
 use Rattle.loc_pool.specs.declared.Turn.TheVariants.{Left, Right}
 use Rattle.loc_rb.specs.Trees.{leaf}
-use Rattle.loc_rb.proofs.ReadCalls.{node-has-row}
-use Rattle.loc_rb.proofs.Counts.{within-trans}
+use Rattle.loc_rb.proofs.{ReadCalls.node-has-row, Counts.within-trans}
 use Rattle.loc_rb.proofs.NewNode.{side-fits, new-bare, can-take, left-taken, new-placed, within-makes, within-changes}
 use Rattle.loc_rb.proofs.removal.replace_node.Goals as goal
 

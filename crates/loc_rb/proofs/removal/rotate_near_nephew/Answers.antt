@@ -1,8 +1,5 @@
 -- The near nephew rises twice.
-use Rattle.loc_rb.proofs.OneChange.{has-row}
-use Rattle.loc_rb.proofs.ReadCalls.{colour-is}
-use Rattle.loc_rb.proofs.Balanced.{red-shape}
-use Rattle.loc_rb.proofs.ItemLists.{replaced-up}
+use Rattle.loc_rb.proofs.{OneChange.has-row, ReadCalls.colour-is, Balanced.red-shape, ItemLists.replaced-up}
 use Rattle.loc_rb.proofs.Counts.{within-trans}
 use Rattle.loc_rb.proofs.RemovalSteps.{at-live, sibling-fits, nephew-rotation, nephew-second, nephew-rotated}
 use Rattle.loc_rb.proofs.removal.rotate_near_nephew.Goals as goal

@@ -1,6 +1,5 @@
 -- The red sibling rises.
-use Rattle.loc_rb.proofs.Balanced.{red-shape}
-use Rattle.loc_rb.proofs.RemovalSteps.{red-sibling-rotation, red-sibling-rotated}
+use Rattle.loc_rb.proofs.{Balanced.red-shape, RemovalSteps.red-sibling-rotation, RemovalSteps.red-sibling-rotated}
 use Rattle.loc_rb.proofs.removal.rotate_red_sibling.Goals as goal
 
 pub rotate-requires-clause-place : goal.rotate-requires-clause-place

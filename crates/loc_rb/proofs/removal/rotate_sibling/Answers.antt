@@ -1,8 +1,5 @@
 -- The sibling rises, and its far child becomes black.
-use Rattle.loc_rb.proofs.OneChange.{has-row}
-use Rattle.loc_rb.proofs.ReadCalls.{colour-is}
-use Rattle.loc_rb.proofs.Recolouring.{within-colours}
-use Rattle.loc_rb.proofs.Counts.{within-trans}
+use Rattle.loc_rb.proofs.{OneChange.has-row, ReadCalls.colour-is, Recolouring.within-colours, Counts.within-trans}
 use Rattle.loc_rb.proofs.RemovalSteps.{at-live, sibling-fits, sibling-rotation, sibling-rotated, far-risen-live}
 use Rattle.loc_rb.proofs.removal.rotate_sibling.Goals as goal
 

@@ -1,9 +1,7 @@
 -- The child is hung in the place; where both were black, a black node is lacking there.
 use Rattle.std.proofs.Common.{sym, ◌∙◌, arith}
 use Rattle.loc_pool.specs.declared.Turn.TheVariants.{Left}
-use Rattle.loc_rb.proofs.ReadCalls.{node-has-row}
-use Rattle.loc_rb.proofs.Recolouring.{within-colours}
-use Rattle.loc_rb.proofs.Counts.{within-trans, within-more}
+use Rattle.loc_rb.proofs.{ReadCalls.node-has-row, Recolouring.within-colours, Counts.within-trans, Counts.within-more}
 use Rattle.loc_rb.proofs.SplicingOut.{spliced-fits, spliced, can-splice, splice-red, splice-child-live, splice-red-child, splice-lacks}
 use Rattle.loc_rb.proofs.removal.splice_out.Goals as goal
 

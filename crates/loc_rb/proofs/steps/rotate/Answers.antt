@@ -1,9 +1,6 @@
 -- A rotation is three changes and two colours: the node is lowered, the child raised, and hung in the node's place.
 use Rattle.std.proofs.Common.{arith}
-use Rattle.loc_rb.proofs.OneChange.{length-carried}
-use Rattle.loc_rb.proofs.ReadCalls.{node-has-row}
-use Rattle.loc_rb.proofs.Counts.{within-trans}
-use Rattle.loc_rb.proofs.NewNode.{within-changes}
+use Rattle.loc_rb.proofs.{OneChange.length-carried, ReadCalls.node-has-row, Counts.within-trans, NewNode.within-changes}
 use Rattle.loc_rb.proofs.Rotations.{popped-rotation, child-fits, inner-is, can-lower, lowered, can-raise, raised, rotated, turned-live, same-turn}
 use Rattle.loc_rb.proofs.steps.rotate.Goals as goal
 

@@ -1,7 +1,6 @@
 -- At the root the root is put; else the last entry is changed and goes back on the path.
 use Rattle.std.proofs.Common.{List, [], ◌∷◌, length, sym, ap, ◌∙◌, subst, arith, length-append}
-use Rattle.loc_pool.specs.declared.Link.{Link}
-use Rattle.loc_pool.specs.declared.Turn.{Turn}
+use Rattle.loc_pool.specs.{declared.Link.Link, declared.Turn.Turn}
 use Rattle.loc_rb.specs.Steps.{Replaced}
 use Rattle.loc_rb.proofs.OneChange.{can-change, top-live, popped, root-put, length-carried, no-entries, transplanted}
 use Rattle.loc_rb.proofs.steps.transplant.Goals as goal

@@ -1,4 +1,4 @@
-use Rattle.std.proofs.Common.{[], ◌∷◌, ◌∙◌, ap, sym, arith, slice_range}
+use Rattle.std.proofs.Common.{[], ◌∷◌, ◌∙◌, ap, sym, arith}
 use Rattle.loc_spec_text.specs.Reading.{all_rings}
 use Rattle.loc_rings.specs.Values.{with_ring}
 use Rattle.loc_rings.proofs.Lone.{range_more}
@@ -6,7 +6,6 @@ use Rattle.loc_rings.proofs.alone.copied.Goals as goal
 
 pub loop-n-preserved : goal.loop-n-preserved
 loop-n-preserved c =
-    c.in_ok-add.ensures.ok
-    ∙ (ap (λ rings. with_ring rings c.in_ok-from_slice.field-0.items) c.loop-n.invariant
-    ∙ (ap (λ ring. with_ring (slice_range (all_rings c.args.rings.now) c.args.first c.loop-n.n ∷ []) ring) c.in_ok-from_slice.ensures.items
-    ∙ ap (λ rings. rings ∷ []) (sym (range_more (all_rings c.args.rings.now) c.args.first c.loop-n.n c.ring.result.now (omega arith) c.ring.ensures.value))))
+    c.in_ok-add_copy.ensures
+    ∙ (ap (λ rings. with_ring rings c.ring.result.now) c.loop-n.invariant
+    ∙ ap (λ rings. rings ∷ []) (sym (range_more (all_rings c.args.rings.now) c.args.first c.loop-n.n c.ring.result.now (omega arith) c.ring.ensures.value)))

@@ -1,7 +1,6 @@
 use Rattle.std.proofs.Common.{◌≡◌, ◌≤◌, ◌+◌, drop, length}
 use Rattle.std.specs.List.{sum_by}
-use Rattle.loc_spec_text.specs.Limits.{most_points}
-use Rattle.loc_spec_text.specs.Reading.{all_rings}
+use Rattle.loc_spec_text.specs.{Limits.most_points, Reading.all_rings}
 use Rattle.loc_rings.proofs.layers.points_with.Given as goal
 
 abbrev pub invariant-loop-n : goal.invariant-loop-n

@@ -1,9 +1,7 @@
 -- A walk that ends at the item or at a missing child.
 use Rattle.std.proofs.Common.{◌≡◌, ℕ, List, sym, subst, ap, arith, length, length-append, Option, [], ◌∷◌}
-use Rattle.loc_pool.specs.declared.Link.{Link}
-use Rattle.loc_pool.specs.declared.Turn.{Turn}
-use Rattle.loc_rb.specs.Nodes.{Nodes}
-use Rattle.loc_rb.specs.Places.{Walk}
+use Rattle.loc_pool.specs.{declared.Link.Link, declared.Turn.Turn}
+use Rattle.loc_rb.specs.{Nodes.Nodes, Places.Walk}
 use Rattle.loc_rb.proofs.Walks.{walk-start, walk-row, walk-step, walk-short, walk-gap, walk-node}
 use Rattle.loc_persist.specs.Meaning.{present_nodes}
 use Rattle.loc_persist.proofs.Trees.{present-row, present-child}

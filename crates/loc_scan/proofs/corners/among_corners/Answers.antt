@@ -1,5 +1,4 @@
-use Rattle.std.proofs.Common.{length, arith}
-use Rattle.std.proofs.lemmas.Bool.{and_from, lt-ltb}
+use Rattle.std.proofs.{Common.length, Common.arith, lemmas.Bool.and_from, lemmas.Bool.lt-ltb}
 use Rattle.loc_place.proofs.Behind.{before_later, stands_behind}
 use Rattle.loc_scan.proofs.corners.among_corners.Goals as goal
 

@@ -1,6 +1,5 @@
 use Rattle.std.proofs.Common.{◌≡◌, ℕ, ◌+◌, ◌<◌, true}
-use Rattle.loc_spec_plane.specs.Points.{before}
-use Rattle.loc_spec_plane.specs.Tables.{corner}
+use Rattle.loc_spec_plane.specs.{Points.before, Tables.corner}
 use Rattle.loc_scan.proofs.corners.among_corners.Given as goal
 
 -- the corners looked at come before p, and each took one step

@@ -1,5 +1,4 @@
-use Rattle.std.proofs.Common.{below_more, arith}
-use Rattle.std.proofs.lemmas.Bool.{not-true}
+use Rattle.std.proofs.{Common.below_more, Common.arith, lemmas.Bool.not-true}
 use Rattle.loc_place.proofs.Highest.{highest_rises, highest_stays}
 use Rattle.loc_scan.proofs.edges.among_edges.Goals as goal
 use Rattle.loc_scan.proofs.edges.among_edges.Goals.{in-Under, in-Neither}

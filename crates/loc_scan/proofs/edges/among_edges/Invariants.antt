@@ -1,6 +1,5 @@
 use Rattle.std.proofs.Common.{◌≡◌, ℕ, ◌+◌, ◌<◌, ◌≤◌, false}
-use Rattle.loc_spec_plane.specs.Points.{lies_on}
-use Rattle.loc_spec_plane.specs.Tables.{edge}
+use Rattle.loc_spec_plane.specs.{Points.lies_on, Tables.edge}
 use Rattle.loc_place.proofs.Highest.{IsHighestAmong}
 use Rattle.loc_scan.proofs.edges.among_edges.Given as goal
 

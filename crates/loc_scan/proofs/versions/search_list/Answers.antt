@@ -1,11 +1,7 @@
 use Rattle.std.proofs.Common.{◌≡◌, ◌∙◌, ◌<◌, ◌+◌, ◌-◌, ◌/◌, true, length, get_or, subst, arith}
 use Rattle.std.proofs.lemmas.Bool.{and_from, lt-ltb}
-use Rattle.loc_spec_plane.specs.declared.Place.TheVariants.{Border}
-use Rattle.loc_spec_plane.specs.Places.{IsPlace}
-use Rattle.loc_spec_plane.specs.Points.{is_below}
-use Rattle.loc_spec_plane.specs.Tables.{edge}
-use Rattle.loc_place.proofs.Cornerless.{lies_on_is}
-use Rattle.loc_place.proofs.Listed.{listed_alive, listed_few, in_area}
+use Rattle.loc_spec_plane.specs.{declared.Place.TheVariants.Border, Places.IsPlace, Points.is_below, Tables.edge}
+use Rattle.loc_place.proofs.{Cornerless.lies_on_is, Listed.listed_alive, Listed.listed_few, Listed.in_area}
 use Rattle.loc_scan.proofs.versions.search_list.Goals as goal
 
 pub side-requires : goal.side-requires

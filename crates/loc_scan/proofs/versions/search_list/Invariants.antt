@@ -1,6 +1,5 @@
 use Rattle.std.proofs.Common.{◌≡◌, ◌+◌, ◌-◌, ◌<◌, ◌≤◌, true, length, get_or}
-use Rattle.loc_spec_plane.specs.Points.{is_above, is_below}
-use Rattle.loc_spec_plane.specs.Tables.{edge}
+use Rattle.loc_spec_plane.specs.{Points.is_above, Points.is_below, Tables.edge}
 use Rattle.loc_scan.proofs.versions.search_list.Given as goal
 
 -- p is above the edge before the low end and below the edge at the high end, and each edge left out took a step at most

@@ -1,8 +1,7 @@
 use Rattle.std.proofs.Common.{◌≡◌, ◌+◌, ◌++◌, [], ◌∷◌, true, refl, rules, sym, ◌∙◌, ap, subst}
 use Rattle.std.specs.List.{list_all}
 use Rattle.loc_laws_any.specs.Boxes.{is_boxed}
-use Rattle.loc_spans.specs.Around.{is_some}
-use Rattle.loc_spans.specs.Boxes.{AreBoxes, Kept}
+use Rattle.loc_spans.specs.{Around.is_some, Boxes.AreBoxes, Boxes.Kept}
 use Rattle.loc_spans.proofs.Adding.{no_box, one_box}
 use Rattle.loc_spans.proofs.boxes.add_box.Goals as goal
 

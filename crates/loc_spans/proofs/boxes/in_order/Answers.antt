@@ -1,9 +1,7 @@
 use Rattle.std.proofs.Common.{rules, map, sym, ◌∙◌, ap, subst}
 use Rattle.std.proofs.lemmas.List.Sorted.{answers_always}
-use Rattle.loc_spans.specs.Rows.{BeginInOrder}
-use Rattle.loc_spans.specs.Boxes.{Kept}
-use Rattle.loc_spans.proofs.Adding.{boxed_again, sorted_moments}
-use Rattle.loc_spans.proofs.Ordered.{begin_in_order}
+use Rattle.loc_spans.specs.{Rows.BeginInOrder, Boxes.Kept}
+use Rattle.loc_spans.proofs.{Adding.boxed_again, Adding.sorted_moments, Ordered.begin_in_order}
 use Rattle.loc_spans.proofs.boxes.in_order.Goals as goal
 
 pub of_sorted-requires : goal.of_sorted-requires

@@ -1,6 +1,5 @@
-use Rattle.std.proofs.Common.{get_or, refl, arith}
+use Rattle.std.proofs.{Common.get_or, Common.refl, Common.arith, lemmas.Result.err_from_is_err_and}
 use Rattle.std.specs.List.{flat_map}
-use Rattle.std.proofs.lemmas.Result.{err_from_is_err_and}
 use Rattle.loc_spec_text.specs.Spans.{numbered}
 use Rattle.loc_page.proofs.Pages.{goes_end, goes_more, goes_next, stop}
 use Rattle.loc_stab.proofs.beside.write_each.Goals as goal

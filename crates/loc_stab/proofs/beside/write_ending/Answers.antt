@@ -1,8 +1,7 @@
 use Rattle.std.proofs.Common.{◌≤◌, ℕ, not, ap, length, arith, refl, filter}
 use Rattle.std.specs.List.{flat_map}
 use Rattle.std.specs.Prelude.{◌==◌}
-use Rattle.std.proofs.lemmas.Result.{err_from_is_err_and}
-use Rattle.std.proofs.lemmas.List.Filters.{length-filter_both}
+use Rattle.std.proofs.{lemmas.Result.err_from_is_err_and, lemmas.List.Filters.length-filter_both}
 use Rattle.std.proofs.lemmas.List.FromFn.{length-range_with_len}
 use Rattle.loc_spec_plane.specs.Tables.{Table, hi_of, edge_numbers}
 use Rattle.loc_spec_text.specs.Spans.{numbered}

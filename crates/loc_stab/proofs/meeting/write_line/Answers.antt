@@ -1,12 +1,10 @@
 use Rattle.std.proofs.Common.{◌∙◌, ap, sym, subst, length, arith}
 use Rattle.std.specs.List.{flat_map}
-use Rattle.loc_place.specs.declared.corners.Standing.{Standing}
-use Rattle.loc_place.specs.declared.corners.Standing.TheVariants.{Behind}
+use Rattle.loc_place.specs.{declared.corners.Standing.Standing, declared.corners.Standing.TheVariants.Behind}
 use Rattle.loc_place.specs.Standing.{IsStanding}
 use Rattle.loc_spec_text.specs.Spans.{numbered}
 use Rattle.loc_treeidx.proofs.Standing.{version_behind}
-use Rattle.loc_stab.proofs.Ranges.{put_nothing}
-use Rattle.loc_stab.proofs.Standings.{run_none, version_on}
+use Rattle.loc_stab.proofs.{Ranges.put_nothing, Standings.run_none, Standings.version_on}
 use Rattle.loc_stab.proofs.meeting.write_line.Goals as goal
 
 pub write_alive-requires-clause-alive : goal.write_alive-requires-clause-alive

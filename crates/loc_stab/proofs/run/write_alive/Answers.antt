@@ -1,6 +1,5 @@
 use Rattle.std.proofs.Common.{◌≡◌, ℕ, ◌-◌, List, [], length, get_or, ap, subst, arith}
-use Rattle.std.specs.Prelude.{IfOk}
-use Rattle.std.specs.List.{flat_map}
+use Rattle.std.specs.{Prelude.IfOk, List.flat_map}
 use Rattle.loc_page.proofs.Pages.{put_same}
 use Rattle.loc_spec_text.specs.Spans.{numbered}
 use Rattle.loc_place.specs.Steps.{alive_count}

@@ -1,10 +1,7 @@
-use Rattle.std.proofs.Common.{subst}
-use Rattle.std.proofs.lemmas.Bool.{not-true}
+use Rattle.std.proofs.{Common.subst, lemmas.Bool.not-true}
 use Rattle.loc_spec_plane.specs.Lists.{is_in}
-use Rattle.loc_status.specs.Lists.{IsInserted}
-use Rattle.loc_status.specs.Meaning.{Inserts}
-use Rattle.loc_sweep.proofs.Chains.{inserted, inserted_neighbours}
-use Rattle.loc_sweep.proofs.EdgesComing.{hit_touches}
+use Rattle.loc_status.specs.{Lists.IsInserted, Meaning.Inserts}
+use Rattle.loc_sweep.proofs.{Chains.inserted, Chains.inserted_neighbours, EdgesComing.hit_touches}
 use Rattle.loc_sweep.proofs.coming.come.Goals as goal
 
 pub test_both-requires-clause-below_in_range : goal.test_both-requires-clause-below_in_range

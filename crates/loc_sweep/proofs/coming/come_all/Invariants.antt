@@ -1,7 +1,6 @@
 use Rattle.std.proofs.Common.{◌≤◌}
 use Rattle.loc_sweep.specs.Course.{LiesAbove}
-use Rattle.loc_sweep.proofs.EdgesComing.{IsComing}
-use Rattle.loc_sweep.proofs.Noting.{AreNoted}
+use Rattle.loc_sweep.proofs.{EdgesComing.IsComing, Noting.AreNoted}
 use Rattle.loc_sweep.proofs.coming.come_all.Given as goal
 
 abbrev pub invariant-loop-edge : goal.invariant-loop-edge

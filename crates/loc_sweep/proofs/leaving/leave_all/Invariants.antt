@@ -1,7 +1,6 @@
 use Rattle.std.proofs.Common.{take}
 use Rattle.std.specs.Prelude.{IfSome}
-use Rattle.loc_sweep.proofs.BesideCorner.{IsLastGone}
-use Rattle.loc_sweep.proofs.EdgesLeaving.{IsLeaving}
+use Rattle.loc_sweep.proofs.{BesideCorner.IsLastGone, EdgesLeaving.IsLeaving}
 use Rattle.loc_sweep.proofs.leaving.leave_all.Given as goal
 
 abbrev pub invariant-loop-edge : goal.invariant-loop-edge

@@ -1,7 +1,6 @@
 use Rattle.std.proofs.Common.{◌≡◌, ◌∙◌, ap, subst, min, max}
 use Rattle.loc_spec_plane.specs.Tables.{edge}
-use Rattle.loc_geom.specs.Answers.{IsMeeting}
-use Rattle.loc_geom.specs.declared.kinds.Meeting.TheVariants.{Apart}
+use Rattle.loc_geom.specs.{Answers.IsMeeting, declared.kinds.Meeting.TheVariants.Apart}
 use Rattle.loc_sweep.proofs.Pairs.{apart_in_order, in_conflict, meeting_conflicts}
 use Rattle.loc_sweep.proofs.neighbours.test.Goals as goal
 

@@ -1,6 +1,5 @@
 use Rattle.std.proofs.Common.{◌≡◌, List, ◌++◌, ◌∷◌, [], ◌∙◌, ap, subst}
-use Rattle.loc_spec_plane.specs.Points.{is_above}
-use Rattle.loc_spec_plane.specs.Tables.{corner, edge}
+use Rattle.loc_spec_plane.specs.{Points.is_above, Tables.corner, Tables.edge}
 use Rattle.loc_laws_order.specs.Laws.{last_that}
 use Rattle.loc_sweep.specs.Course.{LiesAbove}
 use Rattle.loc_sweep.proofs.notes.note_floor.Goals as goal

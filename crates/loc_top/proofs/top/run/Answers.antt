@@ -1,12 +1,8 @@
 use Rattle.std.proofs.Common.{ap, map, string_bytes}
 use Rattle.std.specs.Prelude.{option_map}
 use Rattle.loc_words.specs.Words.{build, command_of, edges, upgrade, verify}
-use Rattle.loc_indexed.specs.Building.{build_course}
-use Rattle.loc_indexed.specs.IndexedCourses.{ask_course}
-use Rattle.loc_indexed.specs.Verifying.{verify_course}
-use Rattle.loc_indexed.proofs.BuildRows.{builds}
-use Rattle.loc_indexed.proofs.Outcomes.{asks}
-use Rattle.loc_indexed.proofs.VerifyRows.{verifies}
+use Rattle.loc_indexed.specs.{Building.build_course, IndexedCourses.ask_course, Verifying.verify_course}
+use Rattle.loc_indexed.proofs.{BuildRows.builds, Outcomes.asks, VerifyRows.verifies}
 use Rattle.loc_query.specs.QueryCourses.{query_course}
 use Rattle.loc_query.proofs.Headlines.{headline}
 use Rattle.loc_features.specs.FeatureCourses.{features_course}
@@ -18,8 +14,7 @@ use Rattle.loc_groups.proofs.Dissolved.{dissolves}
 use Rattle.loc_reach.specs.SpanCourses.{stab_course}
 use Rattle.loc_reach.proofs.Stabbed.{stabs}
 use Rattle.loc_upgrade.specs.UpgradeCourses.{edges_course, upgrade_course}
-use Rattle.loc_upgrade.proofs.EdgesTold.{tells}
-use Rattle.loc_upgrade.proofs.Upgraded.{upgrades}
+use Rattle.loc_upgrade.proofs.{EdgesTold.tells, Upgraded.upgrades}
 use Rattle.loc_top.specs.Run.{course_by, file_of}
 use Rattle.loc_top.proofs.Runs.{beside_of, ended_of, files_of, range, refuses_words, sentences_hold, sentences_of}
 use Rattle.loc_top.proofs.top.run.Goals as goal

@@ -1,6 +1,5 @@
 use Rattle.std.proofs.Common.{◌+◌, ◌-◌, ◌*◌, ◌^◌, min, take, get_or, sym, ◌∙◌, ap}
-use Rattle.std.specs.Char.{is_ascii_digit}
-use Rattle.std.specs.Str.Parse.{digits_value}
+use Rattle.std.specs.{Char.is_ascii_digit, Str.Parse.digits_value}
 use Rattle.std.proofs.lemmas.Int.Digits.{digits_value_more}
 use Rattle.loc_trapdag.proofs.Digits.{member_passes, digit_is, cap_more}
 use Rattle.loc_trapdag.proofs.reading.capped_value.Goals as goal

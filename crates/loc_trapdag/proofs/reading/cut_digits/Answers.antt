@@ -1,6 +1,5 @@
-use Rattle.std.proofs.Common.{arith}
+use Rattle.std.proofs.{Common.arith, lemmas.List.Sums.prefix_len-le-length}
 use Rattle.std.specs.Char.{is_ascii_digit}
-use Rattle.std.proofs.lemmas.List.Sums.{prefix_len-le-length}
 use Rattle.loc_spec_text.specs.Bytes.{is_white}
 use Rattle.loc_trapdag.proofs.reading.cut_digits.Goals as goal
 

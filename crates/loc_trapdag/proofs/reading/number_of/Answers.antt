@@ -1,6 +1,5 @@
 use Rattle.std.proofs.Common.{◌≡◌, List, ℕ, true, subst, sym}
-use Rattle.std.specs.Char.{is_ascii_digit}
-use Rattle.std.specs.List.{list_all}
+use Rattle.std.specs.{Char.is_ascii_digit, List.list_all}
 use Rattle.loc_spec_text.specs.Bytes.{without_front}
 use Rattle.loc_trapdag.proofs.Digits.{all_taken}
 use Rattle.loc_trapdag.proofs.reading.number_of.Goals as goal

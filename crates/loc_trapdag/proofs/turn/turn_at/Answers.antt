@@ -1,7 +1,6 @@
 use Rattle.std.proofs.Common.{◌≡◌, ◌&&◌, true, length, subst, sym, ap₂, arith}
 use Rattle.std.proofs.lemmas.Bool.{lt-ltb}
-use Rattle.loc_spec_plane.specs.Points.{before}
-use Rattle.loc_spec_plane.specs.Tables.{corner}
+use Rattle.loc_spec_plane.specs.{Points.before, Tables.corner}
 use Rattle.loc_laws_traps.proofs.Points.{border_law}
 use Rattle.loc_trapdag.proofs.Descent.{edge_real, edge_is, lower_comes, upper_comes, before_some, behind_some, goes_before, goes_behind, goes_above, goes_below}
 use Rattle.loc_trapdag.proofs.turn.turn_at.Goals as goal

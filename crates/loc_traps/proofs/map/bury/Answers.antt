@@ -1,7 +1,6 @@
 use Rattle.std.proofs.Common.{◌≡◌, ◌<◌, true, false, length, not, ◌&&◌, ◌∙◌, ap, arith}
 use Rattle.std.proofs.lemmas.List.{length-set}
-use Rattle.loc_traps.specs.Meaning.{live_of}
-use Rattle.loc_traps.specs.Splits.{split_of}
+use Rattle.loc_traps.specs.{Meaning.live_of, Splits.split_of}
 use Rattle.loc_traps.proofs.Burying.{count_less, bury_more, not_before}
 use Rattle.loc_traps.proofs.map.bury.Goals as goal
 

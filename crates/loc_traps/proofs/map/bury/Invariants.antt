@@ -1,6 +1,5 @@
 use Rattle.std.proofs.Common.{◌≡◌, ℕ, ◌+◌, not, ◌&&◌, length, take}
-use Rattle.loc_traps.specs.Meaning.{live_of, live_count}
-use Rattle.loc_traps.specs.Splits.{is_cut_by}
+use Rattle.loc_traps.specs.{Meaning.live_of, Meaning.live_count, Splits.is_cut_by}
 use Rattle.loc_traps.proofs.map.bury.Given as goal
 
 -- the rows of the splits so far are live no longer

@@ -1,5 +1,4 @@
-use Rattle.std.proofs.Common.{arith}
-use Rattle.std.proofs.lemmas.Grind.{common_steps}
+use Rattle.std.proofs.{Common.arith, lemmas.Grind.common_steps}
 use Rattle.loc_traps.proofs.map.put_rows.Goals as goal
 
 pub returns-clause-rows : goal.returns-clause-rows

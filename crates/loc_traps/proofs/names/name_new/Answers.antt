@@ -1,8 +1,7 @@
 use Rattle.std.proofs.Common.{◌≡◌, ℕ, ◌-◌, ◌≤◌, ◌++◌, List, length, take, replicate, sym, refl, ◌∙◌, ap, subst, arith}
 use Rattle.std.specs.Prelude.{Option, None, if◌then◌else◌, is_ok, vec_len, Bool}
 use Rattle.loc_laws_traps.specs.Maps.{Renames}
-use Rattle.loc_traps.specs.Meaning.{row_of, named_of}
-use Rattle.loc_traps.specs.Names.{is_kind}
+use Rattle.loc_traps.specs.{Meaning.row_of, Meaning.named_of, Names.is_kind}
 use Rattle.loc_traps.proofs.Burying.{grown, written_back, renames_from}
 use Rattle.loc_traps.proofs.names.name_new.Goals as goal
 

@@ -1,8 +1,7 @@
 use Rattle.std.proofs.Common.{◌≡◌, ℕ, ◌+◌, ◌<◌, List, length, ap, ◌∙◌, sym, refl, subst, arith}
 use Rattle.std.specs.Prelude.{Option, IfSome}
 use Rattle.loc_laws_traps.specs.Maps.{Renames}
-use Rattle.loc_traps.specs.Meaning.{row_of, named_of}
-use Rattle.loc_traps.specs.Names.{is_kind, starts_apart}
+use Rattle.loc_traps.specs.{Meaning.row_of, Meaning.named_of, Names.is_kind, Names.starts_apart}
 use Rattle.loc_traps.proofs.Naming.{renames_none, renames_more, renames_same, none_without_left, none_that_begins}
 use Rattle.loc_traps.proofs.names.rename.Goals as goal
 use Rattle.loc_traps.proofs.names.rename.Goals.{in-Some+then-begins_elsewhere, in-Some+else-begins_elsewhere, in_default}

@@ -1,7 +1,6 @@
 use Rattle.std.proofs.Common.{◌≡◌, length}
 use Rattle.loc_laws_traps.specs.Maps.{Renames}
-use Rattle.loc_traps.specs.Meaning.{row_of, named_of}
-use Rattle.loc_traps.specs.Names.{is_kind}
+use Rattle.loc_traps.specs.{Meaning.row_of, Meaning.named_of, Names.is_kind}
 use Rattle.loc_traps.proofs.names.rename.Given as goal
 
 -- the new rows before this one are named

@@ -2,8 +2,7 @@ use Rattle.std.proofs.Common.{◌≡◌, ℕ, ◌+◌, ◌-◌, ◌<◌, List, l
 use Rattle.std.proofs.lemmas.List.{take_more, take_all}
 use Rattle.std.specs.Bool.{then_some}
 use Rattle.loc_laws_traps.specs.Sets.{behind_left}
-use Rattle.loc_traps.specs.Walks.{cut_of, IsNumberedAt, IsNumbered}
-use Rattle.loc_traps.specs.declared.walk.Cut.{Cut}
+use Rattle.loc_traps.specs.{Walks.cut_of, Walks.IsNumberedAt, Walks.IsNumbered, declared.walk.Cut.Cut}
 use Rattle.loc_traps.specs.declared.map.Split.{Split}
 use Rattle.loc_traps.proofs.Numbering.{numbered_none, numbered_at, numbered_more}
 use Rattle.loc_traps.proofs.pieces.splits.Goals as goal

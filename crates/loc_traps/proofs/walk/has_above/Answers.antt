@@ -1,8 +1,7 @@
 -- A corner below an edge or on its line is not above it.
 use Rattle.std.proofs.Common.{◌≡◌, ◌⊎◌, false, inl, inr, sym, subst}
 use Rattle.std.proofs.lemmas.Bool.{both_ways, false_from_ne_true}
-use Rattle.loc_geom.specs.Answers.{IsSide}
-use Rattle.loc_geom.specs.declared.kinds.Side.{Side}
+use Rattle.loc_geom.specs.{Answers.IsSide, declared.kinds.Side.Side}
 use Rattle.loc_geom.specs.declared.kinds.Side.TheVariants.{Below, On}
 use Rattle.loc_laws_order.proofs.Sides.{above-not_below, on-not_above}
 use Rattle.loc_spec_plane.specs.Points.{Edge, Point, is_above, is_below}

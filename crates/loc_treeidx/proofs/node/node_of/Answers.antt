@@ -1,8 +1,7 @@
 use Rattle.std.proofs.Common.{◌-◌}
 use Rattle.loc_spec_plane.specs.Tables.{corner, hi_of}
 use Rattle.loc_status.proofs.Standing.{chain_in_range}
-use Rattle.loc_treeidx.proofs.Descents.{here_row, here_item}
-use Rattle.loc_treeidx.proofs.Hanging.{hanging_left, hanging_right}
+use Rattle.loc_treeidx.proofs.{Descents.here_row, Descents.here_item, Hanging.hanging_left, Hanging.hanging_right}
 use Rattle.loc_treeidx.proofs.Ways.{never_missing, stopped}
 use Rattle.loc_treeidx.proofs.node.node_of.Goals as goal
 

@@ -1,16 +1,13 @@
 use Rattle.std.proofs.Common.{◌≡◌, true, false, not, true≢false, length, sym, ap, ◌∙◌, subst, Some, None}
-use Rattle.loc_spec_plane.specs.Lists.{is_in}
+use Rattle.loc_spec_plane.specs.{Lists.is_in, Places.alive_at, Tables.corner, Tables.edge, Tables.lo_of}
 use Rattle.std.specs.Prelude.{IfSome}
 use Rattle.std.proofs.lemmas.Option.{slice_get_within, get_or_from_slice_get}
 use Rattle.loc_persist.specs.Meaning.{present_nodes}
-use Rattle.loc_spec_plane.specs.Places.{alive_at}
-use Rattle.loc_spec_plane.specs.Tables.{corner, edge, lo_of}
 use Rattle.loc_laws_order.proofs.ListLaws.{is_in-get}
 use Rattle.loc_status.proofs.Beginning.{begins_below}
 use Rattle.loc_status.proofs.Standing.{chain_in_range, member_alive, below_by_placing}
 use Rattle.loc_status.specs.Targets.{begins_above}
-use Rattle.loc_treeidx.proofs.Descents.{above_there}
-use Rattle.loc_treeidx.proofs.Ways.{never_stops, place_of_way, way_end}
+use Rattle.loc_treeidx.proofs.{Descents.above_there, Ways.never_stops, Ways.place_of_way, Ways.way_end}
 use Rattle.loc_treeidx.proofs.places.place_for.Goals as goal
 
 pub walk_to-way-requires-clause-in_range : goal.walk_to-way-requires-clause-in_range

@@ -1,7 +1,6 @@
 use Rattle.std.proofs.Common.{◌≡◌, ◌<◌, ◌∙◌, List, [], sym, subst, arith, length, Option, None, Some}
 use Rattle.std.proofs.lemmas.Bool.{both_ways}
-use Rattle.loc_pool.specs.declared.Link.{Link}
-use Rattle.loc_pool.specs.declared.Turn.{Turn}
+use Rattle.loc_pool.specs.{declared.Link.Link, declared.Turn.Turn}
 use Rattle.loc_pool.specs.declared.Turn.TheVariants.{Left, Right}
 use Rattle.loc_persist.specs.Meaning.{present_nodes}
 use Rattle.loc_treeidx.specs.Gaps.{IsDescent}

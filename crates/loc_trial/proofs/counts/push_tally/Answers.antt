@@ -1,7 +1,6 @@
 use Rattle.std.proofs.Common.{◌≡◌, ◌++◌, arith}
-use Rattle.std.specs.Prelude.{codes}
+use Rattle.std.specs.{Prelude.codes, Fmt.decimal}
 use Rattle.std.proofs.lemmas.Grind.{common_steps}
-use Rattle.std.specs.Fmt.{decimal}
 use Rattle.loc_trial.proofs.counts.push_tally.Goals as goal
 
 pub returns : goal.returns

@@ -1,5 +1,4 @@
-use Rattle.loc_trial.proofs.LayerTexts.{layer_read}
-use Rattle.loc_trial.proofs.Corners.{point_read}
+use Rattle.loc_trial.proofs.{LayerTexts.layer_read, Corners.point_read}
 use Rattle.loc_trial.proofs.laws.generated_law.Goals as goal
 
 pub returns-clause-layers : goal.returns-clause-layers

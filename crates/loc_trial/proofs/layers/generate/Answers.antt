@@ -1,8 +1,7 @@
 use Rattle.std.proofs.Common.{ap, ap₂, ◌∙◌, Err, None, Some}
 use Rattle.loc_spec_text.specs.Points.{ended}
 use Rattle.loc_gen.specs.Layers.{layer_text}
-use Rattle.loc_course.specs.Courses.{unwritten}
-use Rattle.loc_course.specs.Following.{WritesText}
+use Rattle.loc_course.specs.{Courses.unwritten, Following.WritesText}
 use Rattle.loc_trial.specs.TrialCourses.{past_text}
 use Rattle.loc_trial.proofs.Sized.{failed_within, refused_layer, was_past, was_within, wrote_layer}
 use Rattle.loc_trial.proofs.layers.generate.Goals as goal

@@ -3,8 +3,7 @@ use Rattle.loc_io.specs.Streams.{Stream}
 use Rattle.std.proofs.Common.{ap, ◌∙◌, Err, refl, length, arith}
 use Rattle.loc_gen.specs.Layers.{layer_text}
 use Rattle.loc_course.specs.Following.{lacks}
-use Rattle.loc_trial.proofs.LayerTexts.{layer_short}
-use Rattle.loc_trial.proofs.Sized.{on_past, was_past, was_within}
+use Rattle.loc_trial.proofs.{LayerTexts.layer_short, Sized.on_past, Sized.was_past, Sized.was_within}
 use Rattle.loc_trial.proofs.InMemory.{no_fault_of, one_layer, text_is}
 use Rattle.loc_trial.proofs.layers.read_back.Goals as goal
 

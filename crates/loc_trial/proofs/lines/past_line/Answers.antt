@@ -1,6 +1,5 @@
 use Rattle.std.proofs.Common.{◌++◌, ◌∙◌, ap, append-nil}
-use Rattle.std.specs.Prelude.{codes}
-use Rattle.std.specs.Fmt.{decimal}
+use Rattle.std.specs.{Prelude.codes, Fmt.decimal}
 use Rattle.loc_spec_text.specs.Points.{ended}
 use Rattle.loc_batch.proofs.Named.{joined_four}
 use Rattle.loc_trial.proofs.lines.past_line.Goals as goal

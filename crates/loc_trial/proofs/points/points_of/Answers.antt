@@ -1,6 +1,5 @@
 use Rattle.std.proofs.Common.{◌≡◌, ◌+◌, ◌*◌, ◌%◌, ◌++◌, ap, sym, subst, ◌∙◌, arith, rules}
-use Rattle.std.specs.Prelude.{unsigned_abs}
-use Rattle.std.specs.List.{flat_map, range_with_len}
+use Rattle.std.specs.{Prelude.unsigned_abs, List.flat_map, List.range_with_len}
 use Rattle.loc_spec_plane.specs.Points.{Point}
 use Rattle.loc_spec_text.specs.Points.{ended}
 use Rattle.loc_gen.specs.Layers.{start_of}

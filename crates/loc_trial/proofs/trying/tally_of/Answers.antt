@@ -1,16 +1,11 @@
 use Rattle.std.proofs.Common.{◌≡◌, ◌≤◌, ◌+◌, ◌*◌, ◌∙◌, List, None, ap, length, refl, arith}
 use Rattle.std.specs.Prelude.{ℕ}
-use Rattle.std.proofs.lemmas.List.{length-map}
-use Rattle.std.proofs.lemmas.List.FromFn.{length-range_with_len}
-use Rattle.std.proofs.lemmas.List.Sums.{count_by-le-length}
-use Rattle.std.proofs.Math.Nat.{mul-le-mul_right}
+use Rattle.std.proofs.{lemmas.List.length-map, lemmas.List.FromFn.length-range_with_len}
+use Rattle.std.proofs.{lemmas.List.Sums.count_by-le-length, Math.Nat.mul-le-mul_right}
 use Rattle.loc_spec_plane.specs.Lists.{numbers}
-use Rattle.loc_spec_text.specs.Answered.{answered}
-use Rattle.loc_spec_text.specs.Bytes.{ended_lines}
-use Rattle.loc_batch.specs.Answering.{answer_by}
-use Rattle.loc_batch.specs.Batches.{lines_ended, no_tally}
+use Rattle.loc_spec_text.specs.{Answered.answered, Bytes.ended_lines}
+use Rattle.loc_batch.specs.{Answering.answer_by, Batches.lines_ended, Batches.no_tally, Faces.unnumbered}
 use Rattle.loc_io.specs.Streams.{Stream, stream}
-use Rattle.loc_batch.specs.Faces.{unnumbered}
 use Rattle.loc_batch.specs.PointLines.{is_point_line, point_count}
 use Rattle.loc_batch.specs.Streams.{tally_of as tally_of_answers}
 use Rattle.loc_trial.specs.Generated.{point_line}

@@ -1,7 +1,6 @@
 use Rattle.std.proofs.Common.{ap, arith, length, subst, List}
 use Rattle.loc_rings.specs.Values.{Feature}
-use Rattle.loc_course.specs.Following.{Follows, moment}
-use Rattle.loc_course.specs.Stops.{end_of}
+use Rattle.loc_course.specs.{Following.Follows, Following.moment, Stops.end_of}
 use Rattle.loc_maps.specs.MapCourses.{accepted_course, pieces_course}
 use Rattle.loc_trial.specs.TrialCourses.{tried_course}
 use Rattle.loc_trial.proofs.LayerTexts.{few_generated}

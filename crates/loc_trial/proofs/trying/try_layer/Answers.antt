@@ -1,9 +1,7 @@
-use Rattle.std.proofs.Common.{Some, subst}
+use Rattle.std.proofs.{Common.Some, Common.subst, lemmas.Result.err_from_is_err_and}
 use Rattle.std.specs.Prelude.{ℕ}
-use Rattle.std.proofs.lemmas.Result.{err_from_is_err_and}
 use Rattle.loc_spec_asked.specs.declared.Index.{Index}
-use Rattle.loc_course.specs.Following.{Follows, moment}
-use Rattle.loc_course.specs.Stops.{end_of, stopped}
+use Rattle.loc_course.specs.{Following.Follows, Following.moment, Stops.end_of, Stops.stopped}
 use Rattle.loc_maps.specs.MapCourses.{accepted_course, pieces_course}
 use Rattle.loc_query.specs.Chosen.{index_of, nodes_of}
 use Rattle.loc_trial.specs.TrialCourses.{tried_course}

@@ -1,5 +1,4 @@
-use Rattle.loc_upgrade.proofs.Along.{edges_plain, edges_search_nothing}
-use Rattle.loc_upgrade.proofs.EdgesTold.{tells}
+use Rattle.loc_upgrade.proofs.{Along.edges_plain, Along.edges_search_nothing, EdgesTold.tells}
 use Rattle.loc_upgrade.proofs.laws.edges_law.Goals as goal
 
 pub returns-clause-tells : goal.returns-clause-tells

@@ -1,5 +1,4 @@
-use Rattle.std.proofs.Common.{ap}
-use Rattle.std.proofs.lemmas.Result.{err_from_is_err_and}
+use Rattle.std.proofs.{Common.ap, lemmas.Result.err_from_is_err_and}
 use Rattle.loc_page.proofs.Pages.{both, put_same, stop}
 use Rattle.loc_spec_text.specs.Points.{position_text}
 use Rattle.loc_upgrade.proofs.Putting.{pair_is}

@@ -1,6 +1,5 @@
 use Rattle.std.proofs.lemmas.Result.{err_from_is_err_and}
-use Rattle.loc_upgrade.proofs.Along.{listing}
-use Rattle.loc_upgrade.proofs.Making.{not_listed}
+use Rattle.loc_upgrade.proofs.{Along.listing, Making.not_listed}
 use Rattle.loc_upgrade.proofs.listing.edges.Goals as goal
 
 pub returns-in_err-held-clause-follows : goal.returns-in_err-held-clause-follows

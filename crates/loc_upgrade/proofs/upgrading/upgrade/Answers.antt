@@ -1,7 +1,5 @@
-use Rattle.std.proofs.Common.{None, refl}
-use Rattle.std.proofs.lemmas.Result.{err_from_is_err_and}
-use Rattle.loc_io.specs.Meaning.{Meaning}
-use Rattle.loc_io.specs.Streams.{stream}
+use Rattle.std.proofs.{Common.None, Common.refl, lemmas.Result.err_from_is_err_and}
+use Rattle.loc_io.specs.{Meaning.Meaning, Streams.stream}
 use Rattle.loc_spec_index.specs.IndexFile.{bytes_of}
 use Rattle.loc_course.specs.Following.{Moment, makes_by, moment}
 use Rattle.loc_course.proofs.Told.{exactly_it}

@@ -1,7 +1,6 @@
 use Rattle.std.proofs.Common.{◌≡◌, ℕ, ◌<◌, ◌≤◌, List, Option, get_or, sym, ◌∙◌, ap, subst, arith}
 use Rattle.std.specs.Prelude.{◌⊎◌, None, Some}
-use Rattle.loc_spec_plane.specs.Rings.{Rings}
-use Rattle.loc_spec_plane.specs.Lists.{is_in}
+use Rattle.loc_spec_plane.specs.{Rings.Rings, Lists.is_in}
 use Rattle.loc_valid.specs.declared.hits.Fault.{Fault}
 use Rattle.loc_valid.specs.declared.hits.Fault.TheVariants.{Nested, Outside}
 use Rattle.loc_valid.specs.Hits.{IsLeast, misplaced_in, outside_in}

@@ -1,7 +1,6 @@
 use Rattle.std.proofs.Common.{◌≡◌, ◌++◌, ◌-◌, ◌<◌, [], length, get_or, map, ◌∙◌, ap, arith}
 use Rattle.loc_spec_plane.specs.Lists.{numbers}
-use Rattle.loc_valid.proofs.RingCounts.{ring_count}
-use Rattle.loc_valid.proofs.RingHomes.{homes_all, homes_more}
+use Rattle.loc_valid.proofs.{RingCounts.ring_count, RingHomes.homes_all, RingHomes.homes_more}
 use Rattle.loc_valid.proofs.homes.homes_of.Goals as goal
 
 pub loop-n-preserved : goal.loop-n-preserved

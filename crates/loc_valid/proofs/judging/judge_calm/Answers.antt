@@ -1,8 +1,7 @@
 use Rattle.std.proofs.Common.{◌≡◌, ◌+◌, List, length, sym, ◌∙◌, ap, subst, arith}
 use Rattle.std.specs.Prelude.{None, Some, find, option_map}
 use Rattle.std.proofs.lemmas.Result.{IfErr-weaker}
-use Rattle.loc_spec_plane.specs.Points.{Point}
-use Rattle.loc_spec_plane.specs.Rings.{Rings}
+use Rattle.loc_spec_plane.specs.{Points.Point, Rings.Rings}
 use Rattle.loc_spec_plane.specs.Tables.{Table, corner, corner_numbers, edge, edge_numbers}
 use Rattle.loc_spec_valid.specs.Breaches.{IsBreachOf, feature_rings, first_pair, is_pinch, is_twice, pinch, ring_numbers}
 use Rattle.loc_faces.specs.Subdivision.{face_at, next_at}

@@ -1,9 +1,8 @@
 use Rattle.std.proofs.Common.{◌≡◌, ℕ, ◌<◌, ◌≤◌, length, get_or, Ok, Err, arith}
 use Rattle.std.proofs.lemmas.List.Sorted.{searched}
 use Rattle.loc_laws_order.proofs.TableOrder.{rises_weakly}
-use Rattle.loc_valid.proofs.InLists.{strictly}
+use Rattle.loc_valid.proofs.{InLists.strictly, lists.first_from.Goals.In-Ok, lists.first_from.Goals.In-Err}
 use Rattle.loc_valid.proofs.lists.first_from.Goals as goal
-use Rattle.loc_valid.proofs.lists.first_from.Goals.{In-Ok, In-Err}
 
 found : (c : In-Ok) → (c.in-Ok.at < length c.args.list.now) × (get_or c.args.list.now c.in-Ok.at 0 ≡ c.args.n)
 found c = searched c.args.list.now c.args.n (Ok c.in-Ok.at) c.in-Ok.ensures.position (rises_weakly c.args.list.now c.requires.rises)

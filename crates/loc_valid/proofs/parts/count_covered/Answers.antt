@@ -1,8 +1,6 @@
 use Rattle.std.proofs.Common.{◌≡◌, ◌-◌, false, get_or, length, ap, ◌∙◌, arith}
-use Rattle.std.specs.Prelude.{count_by}
-use Rattle.std.specs.List.{range_with_len}
-use Rattle.loc_valid.proofs.Covered.{count_more}
-use Rattle.loc_valid.proofs.PinchEnds.{one_if}
+use Rattle.std.specs.{Prelude.count_by, List.range_with_len}
+use Rattle.loc_valid.proofs.{Covered.count_more, PinchEnds.one_if}
 use Rattle.loc_valid.proofs.parts.count_covered.Goals as goal
 use Rattle.loc_valid.proofs.parts.count_covered.Goals.{then-covered-face, else-covered-face}
 

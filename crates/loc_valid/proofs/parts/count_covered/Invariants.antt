@@ -1,6 +1,5 @@
 use Rattle.std.proofs.Common.{◌≡◌, ◌-◌, ◌≤◌, false, get_or}
-use Rattle.std.specs.Prelude.{count_by}
-use Rattle.std.specs.List.{range_with_len}
+use Rattle.std.specs.{Prelude.count_by, List.range_with_len}
 use Rattle.loc_valid.proofs.parts.count_covered.Given as goal
 
 abbrev pub invariant-loop-face : goal.invariant-loop-face

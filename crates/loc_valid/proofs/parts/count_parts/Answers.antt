@@ -1,13 +1,9 @@
 use Rattle.std.proofs.Common.{◌≡◌, Bool, false, ◌&&◌, ◌-◌, ◌*◌, List, length, get_or, ◌∙◌, ap, ap₂, arith}
 use Rattle.std.specs.Prelude.{◌==◌, count_by}
 use Rattle.std.specs.List.{list_any, range_with_len}
-use Rattle.std.proofs.lemmas.List.FromFn.{length-range_with_len}
-use Rattle.std.proofs.lemmas.List.Sums.{count_by-le-length}
-use Rattle.loc_spec_plane.specs.Lists.{is_in, numbers}
-use Rattle.loc_spec_plane.specs.Tables.{edge_numbers}
-use Rattle.loc_spec_plane.specs.HalfEdges.{half_edge_count}
-use Rattle.loc_spec_plane.specs.Covers.{cover_above}
-use Rattle.loc_spec_plane.specs.Faces.{face_count, leads_face}
+use Rattle.std.proofs.{lemmas.List.FromFn.length-range_with_len, lemmas.List.Sums.count_by-le-length}
+use Rattle.loc_spec_plane.specs.{Lists.is_in, Lists.numbers, Tables.edge_numbers, HalfEdges.half_edge_count}
+use Rattle.loc_spec_plane.specs.{Covers.cover_above, Faces.face_count, Faces.leads_face}
 use Rattle.loc_spec_valid.specs.Breaches.{part_count}
 use Rattle.loc_place.specs.Planar.{IsPlanar}
 use Rattle.loc_half.specs.HalfEdgeLists.{next_in}

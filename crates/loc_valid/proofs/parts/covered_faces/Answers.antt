@@ -1,7 +1,6 @@
 use Rattle.std.proofs.Common.{◌≡◌, ℕ, Bool, true, ◌+◌, ◌*◌, sym, ◌∙◌, ap, subst, arith}
 use Rattle.std.proofs.Math.ListN.{set}
-use Rattle.loc_spec_plane.specs.Lists.{is_in}
-use Rattle.loc_spec_plane.specs.Covers.{cover_above}
+use Rattle.loc_spec_plane.specs.{Lists.is_in, Covers.cover_above}
 use Rattle.loc_faces.specs.FaceLists.{face_in}
 use Rattle.loc_valid.proofs.Covered.{AreNoted, note_more, note_same}
 use Rattle.loc_valid.proofs.parts.covered_faces.Goals as goal

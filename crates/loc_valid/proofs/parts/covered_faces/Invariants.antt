@@ -1,8 +1,7 @@
 use Rattle.std.proofs.Common.{◌≡◌, ℕ, ◌*◌, ◌<◌, false, ◌&&◌, length, get_or}
 use Rattle.std.specs.Prelude.{◌==◌}
 use Rattle.std.specs.List.{list_any}
-use Rattle.loc_spec_plane.specs.Lists.{is_in, numbers}
-use Rattle.loc_spec_plane.specs.Covers.{cover_above}
+use Rattle.loc_spec_plane.specs.{Lists.is_in, Lists.numbers, Covers.cover_above}
 use Rattle.loc_faces.specs.FaceLists.{face_in}
 use Rattle.loc_valid.proofs.parts.covered_faces.Given as goal
 

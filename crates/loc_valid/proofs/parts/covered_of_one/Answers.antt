@@ -1,6 +1,5 @@
-use Rattle.std.proofs.Common.{sym, subst}
+use Rattle.std.proofs.{Common.sym, Common.subst, lemmas.Result.err_from_is_err_and}
 use Rattle.std.specs.Prelude.{IfErr}
-use Rattle.std.proofs.lemmas.Result.{err_from_is_err_and}
 use Rattle.loc_valid.specs.Judged.{IsNoMemory}
 use Rattle.loc_valid.proofs.parts.covered_of_one.Goals as goal
 

@@ -3,8 +3,7 @@ use Rattle.loc_spec_plane.specs.Covers.{cover_above}
 use Rattle.loc_laws_valid.specs.Laws.{ring_of}
 use Rattle.loc_valid.specs.Hits.{IsLeastOf, misplaced_in}
 use Rattle.loc_valid.proofs.Firsts.{misplaced_here, list_rises, ring_fits, ring_is, some_mark}
-use Rattle.loc_valid.proofs.Minima.{edge_more}
-use Rattle.loc_valid.proofs.RingHomes.{as_many_homes}
+use Rattle.loc_valid.proofs.{Minima.edge_more, RingHomes.as_many_homes}
 use Rattle.loc_valid.proofs.passes.first_misplaced.Goals as goal
 
 pub ring_at-ring-requires-clause-some : goal.ring_at-ring-requires-clause-some

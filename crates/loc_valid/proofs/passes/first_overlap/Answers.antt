@@ -1,15 +1,12 @@
 use Rattle.std.proofs.Common.{◌≡◌, ℕ, ◌+◌, ◌<◌, [], length, get_or, sym, ◌∙◌, ap, subst, arith}
-use Rattle.std.proofs.lemmas.List.{get_or_default}
-use Rattle.std.proofs.lemmas.Option.{get_or_from_slice_get}
+use Rattle.std.proofs.{lemmas.List.get_or_default, lemmas.Option.get_or_from_slice_get}
 use Rattle.loc_spec_plane.specs.Covers.{cover_above}
 use Rattle.loc_spec_valid.specs.Breaches.{polygon_of}
 use Rattle.loc_laws_valid.specs.Laws.{ring_of}
-use Rattle.loc_valid.specs.declared.least.Least.{Least}
-use Rattle.loc_valid.specs.declared.least.Least.TheVariants.{Zero}
+use Rattle.loc_valid.specs.{declared.least.Least.Least, declared.least.Least.TheVariants.Zero}
 use Rattle.loc_valid.specs.Hits.{IsLeast, IsLeastOf, other_than, overlap_in}
 use Rattle.loc_valid.proofs.Firsts.{overlap_here, ring_fits, ring_is, some_mark}
-use Rattle.loc_valid.proofs.Minima.{edge_more}
-use Rattle.loc_valid.proofs.OddLists.{by_polygons, homes_climb}
+use Rattle.loc_valid.proofs.{Minima.edge_more, OddLists.by_polygons, OddLists.homes_climb}
 use Rattle.loc_valid.proofs.RingHomes.{as_many_homes, home_is}
 use Rattle.loc_valid.proofs.passes.first_overlap.Goals as goal
 

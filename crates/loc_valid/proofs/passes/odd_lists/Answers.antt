@@ -2,8 +2,7 @@ use Rattle.std.proofs.Common.{◌≡◌, ◌+◌, ◌<◌, true, [], List, lengt
 use Rattle.std.specs.Prelude.{All, ◌==◌, nat_lt}
 use Rattle.std.proofs.lemmas.Option.{get_or_from_slice_get}
 use Rattle.loc_spec_plane.specs.Lists.{is_rising, odd_many}
-use Rattle.loc_valid.specs.declared.least.Least.{Least}
-use Rattle.loc_valid.specs.Hits.{AreLeast, AreOddLists}
+use Rattle.loc_valid.specs.{declared.least.Least.Least, Hits.AreLeast, Hits.AreOddLists}
 use Rattle.loc_valid.proofs.OddLists.{list_more, members_climb}
 use Rattle.loc_valid.proofs.passes.odd_lists.Goals as goal
 

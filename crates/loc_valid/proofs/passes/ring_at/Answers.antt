@@ -1,9 +1,7 @@
 use Rattle.std.proofs.Common.{◌≡◌, ◌<◌, true, false, List, [], length, get_or, refl, sym, subst}
 use Rattle.std.specs.Prelude.{◌==◌}
 use Rattle.std.specs.List.{list_any}
-use Rattle.std.proofs.lemmas.Bool.{eq-eqb}
-use Rattle.std.proofs.lemmas.List.Folds.{list_any_at}
-use Rattle.std.proofs.lemmas.Option.{get_or_from_slice_get}
+use Rattle.std.proofs.{lemmas.Bool.eq-eqb, lemmas.List.Folds.list_any_at, lemmas.Option.get_or_from_slice_get}
 use Rattle.loc_spec_plane.specs.declared.Mark.{Mark}
 use Rattle.loc_valid.proofs.passes.ring_at.Goals as goal
 

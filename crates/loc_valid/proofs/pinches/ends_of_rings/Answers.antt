@@ -1,7 +1,5 @@
 use Rattle.std.proofs.Common.{◌++◌, ◌∷◌, [], get_or, sym, ◌∙◌, ap, ap₂, arith}
-use Rattle.std.proofs.lemmas.List.{append-nil}
-use Rattle.std.proofs.lemmas.List.Concat.{flat_map-append}
-use Rattle.std.proofs.lemmas.Option.{get_or_from_slice_get}
+use Rattle.std.proofs.{lemmas.List.append-nil, lemmas.List.Concat.flat_map-append, lemmas.Option.get_or_from_slice_get}
 use Rattle.loc_spec_plane.specs.Lists.{numbers}
 use Rattle.loc_half.proofs.Corners.{range_more}
 use Rattle.loc_valid.specs.Pinches.{ends_by, ring_ends_of}

@@ -1,8 +1,7 @@
 use Rattle.std.proofs.Common.{◌-◌, ◌∙◌, get_or, sym}
 use Rattle.std.proofs.lemmas.Bool.{both_ways}
 use Rattle.loc_valid.specs.Pinches.{same_pair}
-use Rattle.loc_valid.proofs.PairOrder.{same_pair_decides}
-use Rattle.loc_valid.proofs.Thrice.{found, more, none}
+use Rattle.loc_valid.proofs.{PairOrder.same_pair_decides, Thrice.found, Thrice.more, Thrice.none}
 use Rattle.loc_valid.proofs.pinches.first_thrice.Goals as goal
 
 pub returns-then-eq : goal.returns-then-eq

@@ -1,14 +1,12 @@
 use Rattle.std.proofs.Common.{◌≡◌, ◌<◌, ◌≤◌, List, [], ◌∷◌, length, map, sym, ◌∙◌, ap, subst}
-use Rattle.std.specs.Prelude.{find, option_map}
-use Rattle.std.specs.List.{flat_map}
+use Rattle.std.specs.{Prelude.find, Prelude.option_map, List.flat_map}
 use Rattle.std.proofs.lemmas.List.{length-map}
 use Rattle.loc_spec_plane.specs.Rings.{Ring, Rings}
 use Rattle.loc_spec_plane.specs.Tables.{Table, cut_at, edge, edge_numbers, layer_corners, noded_table_of, piece_count, table_by}
 use Rattle.loc_spec_valid.specs.Breaches.{feature_rings, is_twice, ring_table}
 use Rattle.loc_laws_repeats.specs.Repeats.{IsFirstTwice}
 use Rattle.loc_laws_valid.specs.Laws.{ring_pieces}
-use Rattle.loc_laws_valid.proofs.OneRing.{all_segments}
-use Rattle.loc_laws_valid.proofs.Twice.{twice_by_pieces}
+use Rattle.loc_laws_valid.proofs.{OneRing.all_segments, Twice.twice_by_pieces}
 use Rattle.loc_rings.specs.Values.{unnamed}
 use Rattle.loc_edges.specs.Layers.{layer_rings}
 use Rattle.loc_node.specs.Pieces.{layer_pieces}

@@ -1,6 +1,5 @@
 use Rattle.std.proofs.Common.{arith, ◌<◌, ◌≢◌, None, sym, subst, inl, inr, get_or}
-use Rattle.std.proofs.lemmas.Result.{IfOk-from_err}
-use Rattle.std.proofs.lemmas.Bool.{cases_eq, true≢false}
+use Rattle.std.proofs.{lemmas.Result.IfOk-from_err, lemmas.Bool.cases_eq, lemmas.Bool.true≢false}
 use Rattle.loc_verify.specs.Following.{IsNext}
 use Rattle.loc_verify.proofs.FollowingLists.{lists_right}
 use Rattle.loc_verify.proofs.covers.all_follow.Goals as goal

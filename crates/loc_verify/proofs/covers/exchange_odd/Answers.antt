@@ -1,5 +1,4 @@
-use Rattle.std.proofs.Common.{refl, subst}
-use Rattle.std.proofs.lemmas.List.{take_all}
+use Rattle.std.proofs.{Common.refl, Common.subst, lemmas.List.take_all}
 use Rattle.loc_cover.proofs.Exchanging.{IsExchangedBy, exchanged_more, exchanged_same}
 use Rattle.loc_verify.proofs.covers.exchange_odd.Goals as goal
 use Rattle.loc_verify.proofs.covers.exchange_odd.Goals.{then-mark+in_ok-exchange, else-mark}

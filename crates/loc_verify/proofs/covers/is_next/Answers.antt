@@ -1,10 +1,8 @@
 use Rattle.std.proofs.Common.{◌∙◌, List, ℕ, [], get_or, sym, subst}
 use Rattle.std.specs.Prelude.{nat_lt}
 use Rattle.std.proofs.lemmas.Option.{get_or_from_slice_get}
-use Rattle.loc_spec_plane.specs.declared.Mark.{Mark}
-use Rattle.loc_spec_plane.specs.Lists.{exactly_one, is_in, IsRisingListOf}
-use Rattle.loc_cover.specs.Exchanges.{is_marked_odd}
-use Rattle.loc_cover.specs.Legends.{list_over}
+use Rattle.loc_spec_plane.specs.{declared.Mark.Mark, Lists.exactly_one, Lists.is_in, Lists.IsRisingListOf}
+use Rattle.loc_cover.specs.{Exchanges.is_marked_odd, Legends.list_over}
 use Rattle.loc_verify.proofs.covers.is_next.Goals as goal
 
 pub returns : goal.returns

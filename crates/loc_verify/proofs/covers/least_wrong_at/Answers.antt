@@ -1,8 +1,6 @@
 use Rattle.std.proofs.Common.{◌≡◌, ◌+◌, ◌<◌, ◌∙◌, sym, ap, subst, take, get_or, arith}
-use Rattle.std.proofs.lemmas.Bool.{both_ways}
-use Rattle.std.proofs.lemmas.List.{take_all, take_more}
-use Rattle.loc_spec_plane.specs.Tables.{lo_of}
-use Rattle.loc_spec_plane.specs.Covers.{cover_above}
+use Rattle.std.proofs.{lemmas.Bool.both_ways, lemmas.List.take_all, lemmas.List.take_more}
+use Rattle.loc_spec_plane.specs.{Tables.lo_of, Covers.cover_above}
 use Rattle.loc_cover.specs.Legends.{list_above}
 use Rattle.loc_verify.specs.Least.{AreCoversBefore, IsLeastWith}
 use Rattle.loc_verify.proofs.Wrong.{IsLeastAmong, among_all, among_more, among_other, before_more, below_is, member_at, there_at}

@@ -1,6 +1,5 @@
 use Rattle.std.proofs.Common.{ℕ, ◌≡◌, take, Some}
-use Rattle.loc_spec_plane.specs.Tables.{lo_of}
-use Rattle.loc_spec_plane.specs.Covers.{cover_above}
+use Rattle.loc_spec_plane.specs.{Tables.lo_of, Covers.cover_above}
 use Rattle.loc_cover.specs.Legends.{list_above}
 use Rattle.loc_verify.proofs.Wrong.{IsBefore, IsLeastAmong}
 use Rattle.loc_verify.proofs.covers.least_wrong_at.Given as goal

@@ -1,8 +1,7 @@
 use Rattle.std.proofs.Common.{◌≡◌, ◌+◌, ◌-◌, ◌++◌, ◌∷◌, [], sym, ◌∙◌, ap, subst, arith}
 use Rattle.std.specs.List.{range_with_len}
 use Rattle.std.proofs.lemmas.Option.{get_or_from_slice_get}
-use Rattle.loc_spec_plane.specs.Lists.{exactly_one, odd_many}
-use Rattle.loc_spec_plane.specs.Tables.{has_odd}
+use Rattle.loc_spec_plane.specs.{Lists.exactly_one, Lists.odd_many, Tables.has_odd}
 use Rattle.loc_laws_order.proofs.Kept.{range_more}
 use Rattle.loc_cover.specs.Exchanges.{is_marked_odd}
 use Rattle.loc_verify.specs.Least.{is_odd_in}

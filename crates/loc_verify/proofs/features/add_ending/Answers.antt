@@ -1,8 +1,6 @@
 use Rattle.std.proofs.Common.{◌<◌, [], ◌==◌, length, get_or, sym, ◌∙◌, ap, subst}
-use Rattle.std.proofs.lemmas.List.{take_all, take_more}
-use Rattle.std.proofs.lemmas.Option.{get_or_from_slice_get}
-use Rattle.loc_spec_plane.specs.Lists.{exactly_one, odd_many}
-use Rattle.loc_spec_plane.specs.Tables.{edge_numbers, has_odd, hi_of}
+use Rattle.std.proofs.{lemmas.List.take_all, lemmas.List.take_more, lemmas.Option.get_or_from_slice_get}
+use Rattle.loc_spec_plane.specs.{Lists.exactly_one, Lists.odd_many, Tables.edge_numbers, Tables.has_odd, Tables.hi_of}
 use Rattle.loc_cover.specs.Exchanges.{is_marked_odd}
 use Rattle.loc_cover.proofs.Gathered.{below_count}
 use Rattle.loc_verify.specs.Least.{is_odd_in}

@@ -1,6 +1,5 @@
 use Rattle.std.proofs.Common.{◌<◌, sym, subst, arith}
-use Rattle.std.specs.Prelude.{Some, None}
-use Rattle.std.specs.List.Sorted.{IsNonDecreasingBy}
+use Rattle.std.specs.{Prelude.Some, Prelude.None, List.Sorted.IsNonDecreasingBy}
 use Rattle.std.proofs.lemmas.Result.{IfOk-from_err}
 use Rattle.loc_verify.specs.Least.{IsLeastOdd}
 use Rattle.loc_verify.proofs.Odd.{even_there, uneven_there}

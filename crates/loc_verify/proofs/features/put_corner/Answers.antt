@@ -1,7 +1,6 @@
 use Rattle.std.proofs.Common.{◌∙◌, ap}
 use Rattle.std.proofs.lemmas.List.Sorted.{IsNonDecreasingBy-from_sort}
-use Rattle.loc_spec_plane.specs.Lists.{exactly_one, odd_many}
-use Rattle.loc_spec_plane.specs.Tables.{edge_numbers, hi_of, lo_of}
+use Rattle.loc_spec_plane.specs.{Lists.exactly_one, Lists.odd_many, Tables.edge_numbers, Tables.hi_of, Tables.lo_of}
 use Rattle.loc_verify.specs.Least.{has_odd_from, is_odd_in}
 use Rattle.loc_verify.proofs.Odd.{odd_either, odd_permuted}
 use Rattle.loc_verify.proofs.features.put_corner.Goals as goal

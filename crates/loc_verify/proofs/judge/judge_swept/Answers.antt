@@ -1,5 +1,4 @@
-use Rattle.std.proofs.Common.{arith}
-use Rattle.std.proofs.lemmas.Result.{IfErr-weaker, on_ok_weaker}
+use Rattle.std.proofs.{Common.arith, lemmas.Result.IfErr-weaker, lemmas.Result.on_ok_weaker}
 use Rattle.loc_file.proofs.Steps.{handed}
 use Rattle.loc_verify.specs.Judged.{IsFaultOf, IsJudged}
 use Rattle.loc_verify.proofs.Ranked.{judged, none_below}

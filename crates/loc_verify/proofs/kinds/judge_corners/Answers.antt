@@ -1,6 +1,5 @@
 use Rattle.std.proofs.Common.{length, subst}
-use Rattle.std.specs.Prelude.{IsTrue, Some}
-use Rattle.std.specs.List.{list_any}
+use Rattle.std.specs.{Prelude.IsTrue, Prelude.Some, List.list_any}
 use Rattle.loc_spec_plane.specs.Tables.{Table, edge_numbers, ends_at}
 use Rattle.loc_verify.specs.Least.{IsLeastFailing}
 use Rattle.loc_verify.proofs.KindLaws.{lone_there}

@@ -1,8 +1,7 @@
 use Rattle.std.proofs.Common.{◌≡◌, ◌∙◌, length, ap, sym, subst}
 use Rattle.std.specs.Prelude.{None, Some}
 use Rattle.std.proofs.lemmas.List.{length-map}
-use Rattle.loc_spec_plane.specs.Tables.{Table}
-use Rattle.loc_spec_plane.specs.Covers.{cover_above}
+use Rattle.loc_spec_plane.specs.{Tables.Table, Covers.cover_above}
 use Rattle.loc_spec_index.specs.Content.{EdgeRow}
 use Rattle.loc_cover.specs.Legends.{list_above}
 use Rattle.loc_laws_index.proofs.FlawKinds.{as_many}

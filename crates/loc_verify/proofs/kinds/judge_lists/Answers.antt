@@ -1,8 +1,7 @@
 use Rattle.std.proofs.Common.{◌∙◌, length, ap, sym, subst}
 use Rattle.std.specs.Prelude.{IsTrue}
 use Rattle.std.proofs.lemmas.List.{length-map}
-use Rattle.loc_spec_plane.specs.Lists.{is_in}
-use Rattle.loc_spec_plane.specs.Tables.{Table}
+use Rattle.loc_spec_plane.specs.{Lists.is_in, Tables.Table}
 use Rattle.loc_spec_index.specs.Content.{EdgeRow}
 use Rattle.loc_verify.specs.Least.{IsLeastFailing}
 use Rattle.loc_verify.proofs.KindLaws.{list_there, lists_right}

@@ -1,7 +1,6 @@
 use Rattle.std.proofs.Common.{◌+◌, ◌≤◌, ◌∙◌, ap, subst, sym, arith, length}
 use Rattle.std.proofs.lemmas.Result.{IfOk-from_err}
-use Rattle.loc_spec_index.specs.declared.NodeRow.{NodeRow}
-use Rattle.loc_spec_index.specs.Nodes.{Left, Right, child}
+use Rattle.loc_spec_index.specs.{declared.NodeRow.NodeRow, Nodes.Left, Nodes.Right, Nodes.child}
 use Rattle.loc_file.proofs.Walked.{child-within}
 use Rattle.loc_verify.proofs.LevelSteps.{children_more, children_same, children_all, children_none}
 use Rattle.loc_verify.proofs.levels.next_level.Goals as goal

@@ -1,5 +1,4 @@
-use Rattle.std.proofs.Common.{subst}
-use Rattle.std.proofs.lemmas.Bool.{not-true}
+use Rattle.std.proofs.{Common.subst, lemmas.Bool.not-true}
 use Rattle.loc_status.specs.Lists.{IsInserted}
 use Rattle.loc_verify.proofs.Apart.{here, none_hit}
 use Rattle.loc_verify.proofs.line.come.Goals as goal

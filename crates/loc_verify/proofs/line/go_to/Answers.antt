@@ -1,5 +1,4 @@
-use Rattle.std.proofs.Common.{arith}
-use Rattle.std.proofs.lemmas.Result.{on_ok_weaker}
+use Rattle.std.proofs.{Common.arith, lemmas.Result.on_ok_weaker}
 use Rattle.loc_spec_plane.specs.Tables.{corner}
 use Rattle.loc_laws_order.proofs.ListLaws.{list_from_chain}
 use Rattle.loc_sweep.proofs.Whole.{before_next}

@@ -1,6 +1,5 @@
 use Rattle.std.proofs.Common.{◌≡◌, ℕ, true, false, not, refl, ap, ◌∙◌, ◌<◌, ◌≢◌, None, sym, subst, inl, inr, get_or, arith}
-use Rattle.std.specs.Prelude.{Option, Some, nat_eq}
-use Rattle.std.specs.Option.{option_eq}
+use Rattle.std.specs.{Prelude.Option, Prelude.Some, Prelude.nat_eq, Option.option_eq}
 use Rattle.std.proofs.lemmas.Option.{get_or_from_slice_get}
 use Rattle.std.proofs.lemmas.Bool.{cases_eq, eq-eqb, eqb-true, true≢false}
 use Rattle.loc_verify.proofs.lists.least_other_floor.Goals as goal

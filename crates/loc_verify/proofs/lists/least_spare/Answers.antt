@@ -1,6 +1,5 @@
 use Rattle.std.proofs.Common.{◌≡◌, ◌<◌, ◌≢◌, ◌∙◌, get_or, length, sym, subst, inl, inr, arith, IsTrue, false}
-use Rattle.std.proofs.lemmas.Result.{IfOk-from_err}
-use Rattle.std.proofs.lemmas.Bool.{cases_eq, true≢false}
+use Rattle.std.proofs.{lemmas.Result.IfOk-from_err, lemmas.Bool.cases_eq, lemmas.Bool.true≢false}
 use Rattle.std.proofs.lemmas.List.{get_or_default}
 use Rattle.loc_spec_plane.specs.Lists.{is_in}
 use Rattle.loc_verify.proofs.lists.least_spare.Goals as goal

@@ -2,8 +2,7 @@ use Rattle.std.proofs.Common.{◌<◌, ◌∙◌, sym, subst, true, arith, ap, l
 use Rattle.std.proofs.lemmas.Result.{IfOk-from_err}
 use Rattle.std.proofs.lemmas.List.{length-set, length-replicate, take_all}
 use Rattle.loc_spec_plane.specs.Lists.{is_in}
-use Rattle.loc_verify.proofs.LevelSteps.{none_set}
-use Rattle.loc_verify.proofs.Named.{named_more}
+use Rattle.loc_verify.proofs.{LevelSteps.none_set, Named.named_more}
 use Rattle.loc_verify.proofs.lists.named_lists.Goals as goal
 
 pub loop-edge-preserved : goal.loop-edge-preserved

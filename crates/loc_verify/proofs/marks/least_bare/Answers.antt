@@ -1,7 +1,6 @@
 use Rattle.std.proofs.Common.{[], sym, ◌∙◌, ap, length, arith, below_more}
 use Rattle.std.specs.Prelude.{◌==◌}
-use Rattle.std.proofs.lemmas.Bool.{both_ways}
-use Rattle.std.proofs.lemmas.Option.{get_or_from_slice_get}
+use Rattle.std.proofs.{lemmas.Bool.both_ways, lemmas.Option.get_or_from_slice_get}
 use Rattle.loc_verify.proofs.Named.{no_items}
 use Rattle.loc_verify.proofs.marks.least_bare.Goals as goal
 

@@ -1,12 +1,10 @@
 use Rattle.std.proofs.Common.{◌≡◌, ◌-◌, ◌+◌, ◌∙◌, ap, subst, sym, arith, [], ◌≤◌, length}
 use Rattle.std.specs.Prelude.{Some}
-use Rattle.std.proofs.lemmas.Option.{slice_get_within}
-use Rattle.std.proofs.lemmas.Bool.{both_ways}
+use Rattle.std.proofs.{lemmas.Option.slice_get_within, lemmas.Bool.both_ways}
 use Rattle.loc_spec_index.specs.declared.NodeRow.{NodeRow}
 use Rattle.loc_spec_index.specs.Nodes.{Left, Right, child, child_of}
 use Rattle.loc_file.proofs.Walked.{child-within}
-use Rattle.loc_verify.specs.Readings.{IsFollowed}
-use Rattle.loc_verify.specs.declared.reading.Followed.TheVariants.{Past}
+use Rattle.loc_verify.specs.{Readings.IsFollowed, declared.reading.Followed.TheVariants.Past}
 use Rattle.loc_verify.proofs.Following.{differs_here, followed_none, goes_on, stopped}
 use Rattle.loc_verify.proofs.reading.+follow.Goals as goal
 

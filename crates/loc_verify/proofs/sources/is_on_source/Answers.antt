@@ -2,8 +2,7 @@ use Rattle.std.proofs.Common.{◌≡◌, true, sym, ◌∙◌, ap, ap₂, rules}
 use Rattle.std.proofs.lemmas.Bool.{both_ways}
 use Rattle.loc_spec_plane.specs.Points.{Edge, before, lies_on, same_point}
 use Rattle.loc_spec_plane.specs.Tables.{corner, edge}
-use Rattle.loc_laws_order.proofs.Sides.{before-differ}
-use Rattle.loc_laws_order.proofs.TableOrder.{corner_before}
+use Rattle.loc_laws_order.proofs.{Sides.before-differ, TableOrder.corner_before}
 use Rattle.loc_verify.proofs.sources.is_on_source.Goals as goal
 
 pub returns-in-None : goal.returns-in-None

@@ -1,9 +1,7 @@
 use Rattle.std.proofs.Common.{◌≡◌, ◌+◌, ◌-◌, ◌≤◌, ◌∙◌, Some, refl, sym, subst, inl, inr, arith}
 use Rattle.std.specs.Prelude.{slice_get}
 use Rattle.std.proofs.lemmas.Bool.{cases_lt, true≢false}
-use Rattle.loc_pool.specs.declared.Link.{Link}
-use Rattle.loc_pool.specs.Maps.{links}
-use Rattle.loc_pool.specs.Rows.{row}
+use Rattle.loc_pool.specs.{declared.Link.Link, Maps.links, Rows.row}
 use Rattle.loc_persist.specs.Numbered.{IsNodeRow}
 use Rattle.loc_spec_index.specs.Nodes.{row_of}
 use Rattle.loc_verify.proofs.versions.has_nodes.Goals as goal

@@ -1,7 +1,5 @@
 use Rattle.std.proofs.Common.{ℕ, ◌≤◌}
-use Rattle.loc_pool.specs.declared.Link.{Link}
-use Rattle.loc_pool.specs.Maps.{links}
-use Rattle.loc_pool.specs.Rows.{row, IsPlace}
+use Rattle.loc_pool.specs.{declared.Link.Link, Maps.links, Rows.row, Rows.IsPlace}
 use Rattle.loc_persist.specs.Numbered.{IsNodeRow}
 use Rattle.loc_spec_index.specs.Nodes.{row_of}
 use Rattle.loc_verify.proofs.versions.has_nodes.Given as goal

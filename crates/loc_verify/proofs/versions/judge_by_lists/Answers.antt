@@ -1,15 +1,11 @@
 use Rattle.std.proofs.Common.{rules, ◌≡◌, ◌<◌, ◌∙◌, subst, ap, arith, length, ◌≢◌, ◌+◌, sym, inl, inr}
-use Rattle.std.proofs.lemmas.Result.{IfOk-from_err}
-use Rattle.std.proofs.lemmas.Bool.{cases_eq}
-use Rattle.loc_spec_index.specs.TrueIndex.{IsTrueVersion}
+use Rattle.std.proofs.{lemmas.Result.IfOk-from_err, lemmas.Bool.cases_eq}
+use Rattle.loc_spec_index.specs.{TrueIndex.IsTrueVersion, Content.table_in}
 use Rattle.loc_sweep.specs.Course.{IsBefore}
-use Rattle.loc_spec_plane.specs.Places.{IsVersion}
-use Rattle.loc_spec_plane.specs.Tables.{Table, NoConflict}
-use Rattle.loc_spec_index.specs.Content.{table_in}
+use Rattle.loc_spec_plane.specs.{Places.IsVersion, Tables.Table, Tables.NoConflict}
 use Rattle.loc_sweep.proofs.Whole.{before_first}
 use Rattle.loc_file.proofs.Steps.{handed}
-use Rattle.loc_verify.specs.declared.fault.VerifyFault.TheVariants.{NoMemory}
-use Rattle.loc_verify.specs.Judged.{IsFaultOf}
+use Rattle.loc_verify.specs.{declared.fault.VerifyFault.TheVariants.NoMemory, Judged.IsFaultOf}
 use Rattle.loc_verify.proofs.Ranked.{least_version}
 use Rattle.loc_verify.proofs.versions.judge_by_lists.Goals as goal
 

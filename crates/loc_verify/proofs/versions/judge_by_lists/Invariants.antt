@@ -1,6 +1,5 @@
 use Rattle.std.proofs.Common.{ℕ, ◌<◌}
-use Rattle.loc_spec_index.specs.Content.{table_in}
-use Rattle.loc_spec_index.specs.TrueIndex.{IsTrueVersion}
+use Rattle.loc_spec_index.specs.{Content.table_in, TrueIndex.IsTrueVersion}
 use Rattle.loc_sweep.specs.Course.{IsBefore}
 use Rattle.loc_verify.proofs.versions.judge_by_lists.Given as goal
 

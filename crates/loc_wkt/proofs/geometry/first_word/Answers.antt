@@ -1,6 +1,5 @@
-use Rattle.std.proofs.Common.{arith}
+use Rattle.std.proofs.{Common.arith, lemmas.List.Sums.prefix_len-le-length}
 use Rattle.std.specs.Char.{is_ascii_alphabetic}
-use Rattle.std.proofs.lemmas.List.Sums.{prefix_len-le-length}
 use Rattle.loc_wkt.proofs.geometry.first_word.Goals as goal
 
 pub split_at-requires : goal.split_at-requires

@@ -1,8 +1,6 @@
 use Rattle.std.proofs.Common.{◌∙◌, ◌^◌, ◌++◌, [], ap, ap₂, subst, arith, length, min}
 use Rattle.std.specs.Prelude.{if◌then◌else◌}
-use Rattle.std.specs.Char.{is_ascii_digit}
-use Rattle.std.specs.List.{list_all}
-use Rattle.std.specs.Str.Parse.{digits_value}
+use Rattle.std.specs.{Char.is_ascii_digit, List.list_all, Str.Parse.digits_value}
 use Rattle.loc_spec_text.specs.Number.{is_negative, unsigned}
 use Rattle.loc_wkt.specs.GridNumbers.{Represents}
 use Rattle.loc_wkt.proofs.GridLemmas.{number_digits, digits_short}

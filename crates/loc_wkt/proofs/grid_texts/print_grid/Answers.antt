@@ -1,6 +1,5 @@
 use Rattle.std.proofs.Common.{◌∙◌, ap, arith, rules, drop, length-drop, subst, w64}
-use Rattle.std.proofs.lemmas.Int.{to_z-of_z}
-use Rattle.std.proofs.lemmas.List.{take_all}
+use Rattle.std.proofs.{lemmas.Int.to_z-of_z, lemmas.List.take_all}
 use Rattle.loc_io.specs.Streams.{TakesAll}
 use Rattle.loc_spec_text.specs.Points.{grid_text}
 use Rattle.loc_wkt.proofs.grid_texts.print_grid.Goals as goal

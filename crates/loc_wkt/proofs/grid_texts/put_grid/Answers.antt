@@ -1,7 +1,6 @@
 use Rattle.std.proofs.Common.{◌/◌, ◌≡◌, ◌∙◌, ◌++◌, ap, arith, rules, sym, w64, to_z, of_z}
-use Rattle.std.specs.Prelude.{pos, int_lt, unsigned_abs}
+use Rattle.std.specs.{Prelude.pos, Prelude.int_lt, Prelude.unsigned_abs, Fmt.decimal}
 use Rattle.std.proofs.lemmas.Int.{to_z-of_z}
-use Rattle.std.specs.Fmt.{decimal}
 use Rattle.loc_spec_text.proofs.NumberLaws.{ten_pos}
 use Rattle.loc_wkt.proofs.GridTexts.{negative_text, put_minus, whole_short}
 use Rattle.loc_wkt.proofs.grid_texts.put_grid.Goals as goal

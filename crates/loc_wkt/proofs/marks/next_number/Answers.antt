@@ -1,8 +1,7 @@
 use Rattle.std.proofs.Common.{sym, ap, ◌∙◌, ◌∷◌, length, rules, arith}
 use Rattle.std.proofs.lemmas.List.{length-drop}
 use Rattle.std.specs.List.{prefix_len}
-use Rattle.loc_spec_text.specs.Bytes.{is_white}
-use Rattle.loc_spec_text.specs.Geometry.{symbol_of, symbols}
+use Rattle.loc_spec_text.specs.{Bytes.is_white, Geometry.symbol_of, Geometry.symbols}
 use Rattle.loc_wkt.proofs.FrontLemmas.{at_none, no_number_first, nothing_first, number_first}
 use Rattle.loc_wkt.specs.Fronts.{number_at}
 use Rattle.loc_wkt.proofs.SymbolLemmas.{skipped}
@@ -27,23 +26,11 @@ returns-clause-found c = let e = skipped c.args.text.now c.skip_white-text.resul
 pub returns-in-Some-clause-shorter : goal.returns-in-Some-clause-shorter
 returns-in-Some-clause-shorter c = omega (arith, c.in-Some.ensures.shorter, ap length c.skip_white-text.ensures, length-drop (prefix_len is_white c.args.text.now) c.args.text.now)
 
-pub returns-in-Some-clause-within : goal.returns-in-Some-clause-within
-returns-in-Some-clause-within c = omega (arith, c.in-Some.ensures.within, ap length c.skip_white-text.ensures, length-drop (prefix_len is_white c.args.text.now) c.args.text.now)
-
 pub returns-in_err-symbol-clause-shorter : goal.returns-in_err-symbol-clause-shorter
 returns-in_err-symbol-clause-shorter c = rw c.from_residual.ensures tt
-
-pub returns-in_err-symbol-clause-within : goal.returns-in_err-symbol-clause-within
-returns-in_err-symbol-clause-within c = rw c.from_residual.ensures tt
 
 pub returns-in_err-number-clause-shorter : goal.returns-in_err-number-clause-shorter
 returns-in_err-number-clause-shorter c = rw c.from_residual-in_err-number.ensures tt
 
-pub returns-in_err-number-clause-within : goal.returns-in_err-number-clause-within
-returns-in_err-number-clause-within c = rw c.from_residual-in_err-number.ensures tt
-
 pub returns-clause-shorter : goal.returns-clause-shorter
 returns-clause-shorter c = omega (arith, c.in_ok-symbol.ensures.shorter, ap length c.skip_white-text.ensures, length-drop (prefix_len is_white c.args.text.now) c.args.text.now)
-
-pub returns-clause-within : goal.returns-clause-within
-returns-clause-within c = omega (arith, ap length c.in_ok-number.ensures.same, c.in_ok-symbol.ensures.within, ap length c.skip_white-text.ensures, length-drop (prefix_len is_white c.args.text.now) c.args.text.now)

@@ -1,15 +1,12 @@
-use Rattle.std.proofs.Common.{rules}
 use Rattle.loc_spec_text.specs.Geometry.{symbols}
-use Rattle.loc_wkt.proofs.FrontLemmas.{at_none}
-use Rattle.loc_wkt.proofs.TagLemmas.{half_pair, no_pair, pair_front}
-use Rattle.loc_wkt.specs.NumberTexts.{text_of}
+use Rattle.loc_wkt.proofs.{FrontLemmas.at_none, TagLemmas.half_pair, TagLemmas.no_pair, TagLemmas.pair_front}
 use Rattle.loc_wkt.proofs.points.next_pair.Goals as goal
 
-pub returns-in_err-x-clause-found : goal.returns-in_err-x-clause-found
-returns-in_err-x-clause-found c = at_none _ _ _ c.from_residual.ensures (no_pair (symbols c.args.text.now) (search rules))
+pub returns-in_err-x : goal.returns-in_err-x
+returns-in_err-x c = at_none _ _ _ c.from_residual.ensures (no_pair (symbols c.args.text.now) c.in_err-x.ensures)
 
-pub returns-in_err-y-clause-found : goal.returns-in_err-y-clause-found
-returns-in_err-y-clause-found c = at_none _ _ _ c.from_residual-in_err-y.ensures (half_pair (symbols c.args.text.now) (symbols c.in_ok-x.rest.now) (text_of c.in_ok-x.x) (search rules) (search rules))
+pub returns-in_err-y : goal.returns-in_err-y
+returns-in_err-y c = let x = c.in_ok-x.ensures in at_none _ _ _ c.from_residual-in_err-y.ensures (half_pair (symbols c.args.text.now) (symbols c.in_ok-x.rest.now) x.0 x.1 c.in_err-y.ensures)
 
-pub returns-clause-found : goal.returns-clause-found
-returns-clause-found c = pair_front (symbols c.args.text.now) (symbols c.in_ok-x.rest.now) (symbols c.in_ok-y.rest.now) (text_of c.in_ok-x.x) (text_of c.in_ok-y.y) (search rules) (search rules)
+pub returns : goal.returns
+returns c = let x = c.in_ok-x.ensures in let y = c.in_ok-y.ensures in ((x.0, y.0), pair_front (symbols c.args.text.now) (symbols c.in_ok-x.rest.now) (symbols c.in_ok-y.rest.now) x.0 y.0 x.1 y.1, x.2, y.2)

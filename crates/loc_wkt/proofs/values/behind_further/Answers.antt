@@ -1,7 +1,6 @@
 use Rattle.std.proofs.Common.{rules}
 use Rattle.loc_spec_text.specs.Geometry.{symbols}
-use Rattle.loc_wkt.proofs.FrontLemmas.{at_none}
-use Rattle.loc_wkt.proofs.PassLemmas.{none_further, one_further, two_further}
+use Rattle.loc_wkt.proofs.{FrontLemmas.at_none, PassLemmas.none_further, PassLemmas.one_further, PassLemmas.two_further}
 use Rattle.loc_wkt.proofs.values.behind_further.Goals as goal
 
 pub returns-in_err-rest-clause-read : goal.returns-in_err-rest-clause-read

@@ -1,7 +1,6 @@
 use Rattle.std.proofs.Common.{◌∙◌, ap}
 use Rattle.clap.specs.Words.{app_of, with_rule}
-use Rattle.loc_words.specs.Apps.{option_rule}
-use Rattle.loc_words.specs.Words.{option_of}
+use Rattle.loc_words.specs.{Apps.option_rule, Words.option_of}
 use Rattle.loc_words.proofs.Made.{one_rule}
 use Rattle.loc_words.proofs.parser.add_options.Goals as goal
 

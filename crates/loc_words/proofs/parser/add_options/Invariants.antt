@@ -1,7 +1,6 @@
 use Rattle.std.proofs.Common.{◌≡◌, map, take}
 use Rattle.clap.specs.Words.{app_of}
-use Rattle.loc_words.specs.Apps.{option_rule, with_rules}
-use Rattle.loc_words.specs.Words.{option_of}
+use Rattle.loc_words.specs.{Apps.option_rule, Apps.with_rules, Words.option_of}
 use Rattle.loc_words.proofs.parser.add_options.Given as goal
 
 abbrev pub invariant-loop-option : goal.invariant-loop-option

@@ -1,9 +1,7 @@
 use Rattle.std.proofs.Common.{◌≡◌, ◌∙◌, ap, map, string_bytes, subst, sym, true}
 use Rattle.std.proofs.lemmas.List.{length-map}
 use Rattle.clap.specs.Words.{is_simple_and_free}
-use Rattle.loc_words.specs.Apps.{Parses}
-use Rattle.loc_words.specs.Tested.{are_tested}
-use Rattle.loc_words.specs.Words.{row_of}
+use Rattle.loc_words.specs.{Apps.Parses, Tested.are_tested, Words.row_of}
 use Rattle.loc_words.proofs.Whole.{untested, parsed, simple}
 use Rattle.loc_words.proofs.parser.read_row.Goals as goal
 

@@ -1,5 +1,4 @@
-use Rattle.std.proofs.Common.{ap, map}
-use Rattle.std.proofs.lemmas.Bool.{and_parts}
+use Rattle.std.proofs.{Common.ap, Common.map, lemmas.Bool.and_parts}
 use Rattle.clap.specs.Words.{app_of, is_simple}
 use Rattle.loc_words.specs.Apps.{entry_of}
 use Rattle.loc_words.proofs.parser.read_words.Goals as goal

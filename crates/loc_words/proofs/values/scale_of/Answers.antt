@@ -1,5 +1,4 @@
-use Rattle.std.proofs.Common.{refl, sym}
-use Rattle.std.proofs.lemmas.Bool.{le-leb}
+use Rattle.std.proofs.{Common.refl, Common.sym, lemmas.Bool.le-leb}
 use Rattle.loc_words.proofs.values.scale_of.Goals as goal
 
 pub returns-in-Some-clause-value : goal.returns-in-Some-clause-value

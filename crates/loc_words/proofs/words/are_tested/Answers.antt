@@ -1,9 +1,7 @@
 use Rattle.std.proofs.Common.{◌-◌, ◌≡◌, ◌∙◌, ap, sym, true, map, string_bytes, take, drop, length, nat_le, take_all, length-drop, arith}
 use Rattle.std.specs.List.{list_all}
-use Rattle.std.proofs.lemmas.Bool.{le-leb}
-use Rattle.std.proofs.lemmas.List.{take-map, drop-map, length-map}
-use Rattle.loc_words.specs.Rows.{is_value}
-use Rattle.loc_words.specs.Tested.{is_tested}
+use Rattle.std.proofs.{lemmas.Bool.le-leb, lemmas.List.take-map, lemmas.List.drop-map, lemmas.List.length-map}
+use Rattle.loc_words.specs.{Rows.is_value, Tested.is_tested}
 use Rattle.loc_words.proofs.words.are_tested.Goals as goal
 
 pub returns-then-are_values : goal.returns-then-are_values

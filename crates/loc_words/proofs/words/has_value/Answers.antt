@@ -1,8 +1,7 @@
 use Rattle.std.proofs.Common.{◌∙◌, ap, sym, lit<, ◌≡◌}
 use Rattle.std.specs.List.{after_first}
 use Rattle.std.proofs.lemmas.Str.Pattern.{split_once_first}
-use Rattle.loc_words.specs.Rows.{is_equals, is_value}
-use Rattle.loc_words.specs.Tested.{has_value}
+use Rattle.loc_words.specs.{Rows.is_equals, Rows.is_value, Tested.has_value}
 use Rattle.loc_words.proofs.Cuts.{any-passes, none-passes}
 use Rattle.loc_words.proofs.words.has_value.Goals as goal
 

@@ -1,6 +1,5 @@
 use Rattle.std.proofs.lemmas.Result.{err_from_is_err_and}
-use Rattle.loc_page.proofs.Files.{broken, not-over}
-use Rattle.loc_page.proofs.Growing.{page-cut, page-whole}
+use Rattle.loc_page.proofs.{Files.broken, Files.not-over, Growing.page-cut, Growing.page-whole}
 use Rattle.loc_write.proofs.by_rows.write_rows.Goals as goal
 
 pub returns-in_err-flush : goal.returns-in_err-flush

@@ -1,6 +1,5 @@
 use Rattle.std.proofs.Common.{ℕ, ◌<◌}
-use Rattle.loc_spec_plane.specs.Points.{IsGridPoint}
-use Rattle.loc_spec_plane.specs.Tables.{corner}
+use Rattle.loc_spec_plane.specs.{Points.IsGridPoint, Tables.corner}
 use Rattle.loc_write.proofs.facts.corners_on_grid.Given as goal
 
 abbrev pub invariant-loop-number : goal.invariant-loop-number

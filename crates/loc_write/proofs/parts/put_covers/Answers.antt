@@ -1,5 +1,4 @@
-use Rattle.std.proofs.Common.{refl, arith}
-use Rattle.std.proofs.lemmas.Result.{err_from_is_err_and}
+use Rattle.std.proofs.{Common.refl, Common.arith, lemmas.Result.err_from_is_err_and}
 use Rattle.loc_page.proofs.Growing.{goes-more, goes-stop, goes-end}
 use Rattle.loc_write.specs.Bytes.{cover_bytes}
 use Rattle.loc_write.proofs.Lists.{cut-row, cut-end}

@@ -1,8 +1,7 @@
 use Rattle.std.proofs.Common.{◌∙◌, arith}
 use Rattle.std.proofs.lemmas.Result.{err_from_is_err_and}
 use Rattle.loc_page.proofs.Growing.{goes-more, goes-stop, goes-end}
-use Rattle.loc_write.specs.Bytes.{edge_bytes}
-use Rattle.loc_write.specs.Written.{edge_rows}
+use Rattle.loc_write.specs.{Bytes.edge_bytes, Written.edge_rows}
 use Rattle.loc_write.proofs.Lists.{cut-end, length-edges, cut-edge}
 use Rattle.loc_write.proofs.parts.put_edges.Goals as goal
 

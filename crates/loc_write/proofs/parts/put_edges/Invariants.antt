@@ -1,8 +1,7 @@
 use Rattle.std.proofs.Common.{◌≡◌, true, drop}
 use Rattle.std.specs.List.{flat_map}
 use Rattle.loc_page.proofs.Growing.{Goes}
-use Rattle.loc_write.specs.Bytes.{edge_bytes}
-use Rattle.loc_write.specs.Written.{edge_rows}
+use Rattle.loc_write.specs.{Bytes.edge_bytes, Written.edge_rows}
 use Rattle.loc_write.proofs.parts.put_edges.Given as goal
 
 abbrev pub invariant-loop-edge : goal.invariant-loop-edge

@@ -1,5 +1,4 @@
-use Rattle.std.proofs.Common.{arith}
-use Rattle.std.proofs.lemmas.Result.{err_from_is_err_and}
+use Rattle.std.proofs.{Common.arith, lemmas.Result.err_from_is_err_and}
 use Rattle.loc_page.proofs.Growing.{goes-more, goes-stop, goes-end}
 use Rattle.loc_write.proofs.Lists.{cut-marks, cut-marks-end}
 use Rattle.loc_write.proofs.parts.put_marks.Goals as goal

@@ -2,8 +2,7 @@ use Rattle.std.proofs.Common.{◌∙◌, ap, arith}
 use Rattle.std.proofs.lemmas.Result.{err_from_is_err_and}
 use Rattle.loc_page.proofs.Growing.{goes-more, goes-stop, goes-end}
 use Rattle.loc_write.specs.Bytes.{node_bytes}
-use Rattle.loc_write.proofs.Lists.{cut-at, cut-end}
-use Rattle.loc_write.proofs.Numbering.{row-is}
+use Rattle.loc_write.proofs.{Lists.cut-at, Lists.cut-end, Numbering.row-is}
 use Rattle.loc_write.proofs.parts.put_nodes.Goals as goal
 
 pub returns-in_err-put-clause-put : goal.returns-in_err-put-clause-put

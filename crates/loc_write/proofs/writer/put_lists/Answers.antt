@@ -1,5 +1,4 @@
-use Rattle.std.proofs.Common.{arith}
-use Rattle.std.proofs.lemmas.Result.{err_from_is_err_and}
+use Rattle.std.proofs.{Common.arith, lemmas.Result.err_from_is_err_and}
 use Rattle.loc_page.proofs.Growing.{both, stop}
 use Rattle.loc_write.proofs.Ranges.{floor-within}
 use Rattle.loc_write.proofs.writer.put_lists.Goals as goal

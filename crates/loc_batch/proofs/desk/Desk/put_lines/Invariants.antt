@@ -1,9 +1,6 @@
 use Rattle.std.proofs.Common.{◌≡◌, ◌≤◌, ◌+◌, ◌*◌, ◌++◌, length}
-use Rattle.loc_spec_text.specs.Answered.{answered}
-use Rattle.loc_spec_text.specs.Bytes.{ended_lines, unfinished}
-use Rattle.loc_batch.specs.Told.{told_by}
-use Rattle.loc_batch.specs.Kept.{IsUnbroken}
-use Rattle.loc_batch.specs.PointLines.{point_count}
+use Rattle.loc_spec_text.specs.{Answered.answered, Bytes.ended_lines, Bytes.unfinished}
+use Rattle.loc_batch.specs.{Told.told_by, Kept.IsUnbroken, PointLines.point_count}
 use Rattle.loc_batch.proofs.Lines.{GoesLines}
 use Rattle.loc_batch.proofs.desk.Desk.put_lines.Given as goal
 

@@ -1,7 +1,6 @@
 use Rattle.std.proofs.Common.{[], ◌∙◌, sym, ap, refl}
 use Rattle.loc_io.proofs.Appending.{appends-none}
-use Rattle.loc_batch.proofs.Cutting.{split_cons}
-use Rattle.loc_batch.proofs.Lines.{last_none, last_some}
+use Rattle.loc_batch.proofs.{Cutting.split_cons, Lines.last_none, Lines.last_some}
 use Rattle.loc_batch.proofs.desk.Desk.write_last.Goals as goal
 
 pub returns-then-is_empty-clause-answers : goal.returns-then-is_empty-clause-answers

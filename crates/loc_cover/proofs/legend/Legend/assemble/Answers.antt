@@ -1,8 +1,6 @@
 use Rattle.std.proofs.Common.{◌≡◌, ℕ, ◌<◌, [], length, get_or, refl, sym, ◌∙◌, subst, arith}
 use Rattle.std.specs.Prelude.{All, IsTrue, nat_lt}
-use Rattle.loc_spec_plane.specs.Lists.{IsRisingListOf, is_rising}
-use Rattle.loc_spec_plane.specs.Tables.{edge_numbers, has}
-use Rattle.loc_spec_plane.specs.Covers.{has_at}
+use Rattle.loc_spec_plane.specs.{Lists.IsRisingListOf, Lists.is_rising, Tables.edge_numbers, Tables.has, Covers.has_at}
 use Rattle.loc_laws_rays.proofs.Members.{feature_below}
 use Rattle.loc_cover.specs.Legends.{AreLists}
 use Rattle.loc_cover.proofs.Sound.{each_row, floor_there, marked_there, named_by, none_named}

@@ -1,7 +1,6 @@
 use Rattle.std.proofs.Common.{◌≡◌, ◌<◌, Some, length, sym, ◌∙◌, ap, subst, arith}
 use Rattle.std.specs.Prelude.{slice_get}
-use Rattle.std.proofs.lemmas.List.{get_or_read}
-use Rattle.std.proofs.lemmas.Option.{slice_get-get_or}
+use Rattle.std.proofs.{lemmas.List.get_or_read, lemmas.Option.slice_get-get_or}
 use Rattle.loc_cover.specs.Legends.{LegendRows}
 use Rattle.loc_cover.proofs.legend.Legend.cover_of.Goals as goal
 

@@ -1,5 +1,4 @@
-use Rattle.std.proofs.Common.{length, ap, arith}
-use Rattle.std.proofs.lemmas.List.{length-map}
+use Rattle.std.proofs.{Common.length, Common.ap, Common.arith, lemmas.List.length-map}
 use Rattle.loc_cover.proofs.legend.Legend.make.Goals as goal
 
 pub with_ids-requires-clause-features : goal.with_ids-requires-clause-features

@@ -1,6 +1,5 @@
 use Rattle.std.proofs.Common.{◌≡◌, ◌<◌, ◌≤◌, ◌∙◌, ℕ, Vec, Global, length, map, ap, sym, subst}
-use Rattle.std.specs.Prelude.{IfOk}
-use Rattle.std.specs.List.{All}
+use Rattle.std.specs.{Prelude.IfOk, List.All}
 use Rattle.std.proofs.lemmas.List.{length-map}
 use Rattle.loc_spec_plane.specs.Covers.{feature_count}
 use Rattle.loc_spec_text.specs.Limits.{most_features}

@@ -1,9 +1,7 @@
 use Rattle.std.proofs.Common.{◌≡◌, ◌<◌, ◌≤◌, ◌^◌, length, get_or, sym, ◌∙◌, ap, subst, arith, None}
 use Rattle.std.specs.Prelude.{All, IfSome}
 use Rattle.std.proofs.lemmas.List.{get_or_default, length-map}
-use Rattle.loc_spec_plane.specs.Tables.{corner}
-use Rattle.loc_spec_plane.specs.Places.{IsFloor, IsJustBelow}
-use Rattle.loc_spec_plane.specs.Covers.{feature_count}
+use Rattle.loc_spec_plane.specs.{Tables.corner, Places.IsFloor, Places.IsJustBelow, Covers.feature_count}
 use Rattle.loc_cover.specs.Legends.{AreLists}
 use Rattle.loc_cover.proofs.Sound.{are_lists, covers_named, floor_in_range}
 use Rattle.loc_cover.proofs.legend.Legend.with_ids.Goals as goal

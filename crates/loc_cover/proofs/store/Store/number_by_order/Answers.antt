@@ -1,8 +1,7 @@
 use Rattle.std.proofs.Common.{◌≡◌, ◌<◌, ◌≤◌, false, [], ◌∷◌, length, get_or, map, refl, sym, ◌∙◌, ap, subst, inl, inr, arith}
 use Rattle.std.proofs.lemmas.List.{get_or_push, length-append}
 use Rattle.std.specs.Prelude.{sum_by}
-use Rattle.loc_spec_plane.specs.Lists.{sorted_set}
-use Rattle.loc_spec_plane.specs.Covers.{list_before}
+use Rattle.loc_spec_plane.specs.{Lists.sorted_set, Covers.list_before}
 use Rattle.loc_spec_text.specs.Limits.{most_members}
 use Rattle.loc_cover.specs.Stores.{StoreRows, IsStore, is_among, lists_of}
 use Rattle.loc_cover.proofs.Stored.{entry_past, is_new, number_is}

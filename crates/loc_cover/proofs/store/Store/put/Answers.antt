@@ -1,12 +1,9 @@
 use Rattle.std.proofs.Common.{◌≡◌, ℕ, ◌+◌, ◌≤◌, ◌++◌, ◌∷◌, [], false, Bor, List, length, map, sym, ◌∙◌, ap, subst, arith}
-use Rattle.std.specs.BTreeMap.{insert_entry}
-use Rattle.std.specs.Cmp.Lexicographic.{slice_cmp}
-use Rattle.std.specs.Ordering.{nat_cmp}
+use Rattle.std.specs.{BTreeMap.insert_entry, Cmp.Lexicographic.slice_cmp, Ordering.nat_cmp}
 use Rattle.std.proofs.lemmas.List.{length-map, map_push}
 use Rattle.loc_spec_text.specs.Limits.{most_members}
 use Rattle.loc_cover.specs.Stores.{AreShort, StoreRows, IsStore, is_among}
-use Rattle.loc_cover.proofs.ShortLists.{short_kept}
-use Rattle.loc_cover.proofs.Stored.{entry_stands, few_rows, stored}
+use Rattle.loc_cover.proofs.{ShortLists.short_kept, Stored.entry_stands, Stored.few_rows, Stored.stored}
 use Rattle.loc_cover.proofs.store.Store.put.Goals as goal
 
 pub invariant_of-self : goal.invariant_of-self

@@ -2,8 +2,7 @@ use Rattle.std.proofs.Common.{◌<◌, ℕ, List, length, filter, sym, ◌∙◌
 use Rattle.std.specs.Prelude.{All, nat_lt}
 use Rattle.std.proofs.lemmas.List.Elements.{All-filter}
 use Rattle.loc_spec_plane.specs.Lists.{is_in, IsRisingListOf}
-use Rattle.loc_dissolve.specs.Grouping.{IsGroupRow}
-use Rattle.loc_dissolve.specs.Keeping.{odd_features}
+use Rattle.loc_dissolve.specs.{Grouping.IsGroupRow, Keeping.odd_features}
 use Rattle.loc_dissolve.proofs.crossing.Crossing.note.Goals as goal
 
 pub put_groups-requires-2 : goal.put_groups-requires-2

@@ -1,7 +1,6 @@
-use Rattle.std.proofs.Common.{ap}
+use Rattle.std.proofs.{Common.ap, lemmas.Result.err_from_is_err_and}
 use Rattle.loc_dissolve.specs.Writing.{closed_text}
 use Rattle.loc_dissolve.proofs.Written.{ring_is}
-use Rattle.std.proofs.lemmas.Result.{err_from_is_err_and}
 use Rattle.loc_page.proofs.Pages.{both, put_same, stop}
 use Rattle.loc_dissolve.proofs.texts.RingWritten.put.Goals as goal
 

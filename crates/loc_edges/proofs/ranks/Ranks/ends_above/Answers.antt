@@ -1,7 +1,6 @@
 use Rattle.std.proofs.Common.{◌≡◌, ◌∙◌, Bool, ap, subst}
 use Rattle.std.specs.Prelude.{if◌then◌else◌}
-use Rattle.loc_spec_plane.specs.Points.{Edge, same_point, is_above}
-use Rattle.loc_spec_plane.specs.Places.{lower}
+use Rattle.loc_spec_plane.specs.{Points.Edge, Points.same_point, Points.is_above, Places.lower}
 use Rattle.loc_spec_plane.specs.Tables.{edge, hi_of}
 use Rattle.loc_laws_order.proofs.TableOrder.{same_corner}
 use Rattle.loc_edges.proofs.ranks.Ranks.ends_above.Goals as goal

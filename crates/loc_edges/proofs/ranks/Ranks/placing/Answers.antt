@@ -1,8 +1,7 @@
 use Rattle.std.proofs.Common.{◌≡◌, Bool, true, length, ◌<◌, ◌∙◌, ap, subst}
 use Rattle.std.proofs.lemmas.Bool.{and_parts, ltb-true}
 use Rattle.loc_spec_plane.specs.Points.{Edge, Point, is_on, is_above, is_below}
-use Rattle.loc_spec_plane.specs.Places.{alive, is_edge}
-use Rattle.loc_spec_plane.specs.Tables.{edge}
+use Rattle.loc_spec_plane.specs.{Places.alive, Places.is_edge, Tables.edge}
 use Rattle.loc_laws_order.proofs.TableOrder.{edge_up, different}
 use Rattle.loc_edges.specs.Placing.{hits, deciding_end}
 use Rattle.loc_edges.proofs.Hits.{on-hits, above-misses, below-misses, hits-touch}

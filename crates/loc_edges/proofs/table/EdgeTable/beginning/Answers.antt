@@ -1,7 +1,6 @@
 use Rattle.std.proofs.Common.{◌+◌, ◌≤◌, length, ap, subst, arith}
 use Rattle.loc_spec_plane.specs.Tables.{Table}
-use Rattle.loc_edges.specs.Ending.{IsBeginning}
-use Rattle.loc_edges.specs.Parts.{table_with}
+use Rattle.loc_edges.specs.{Ending.IsBeginning, Parts.table_with}
 use Rattle.loc_edges.proofs.Firsts.{beginning_is, first_at}
 use Rattle.loc_edges.proofs.table.EdgeTable.beginning.Goals as goal
 

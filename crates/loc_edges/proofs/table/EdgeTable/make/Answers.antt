@@ -1,24 +1,17 @@
 use Rattle.std.proofs.Common.{◌≡◌, ℕ, ◌≤◌, List, [], length, map, get_or, sym, ◌∙◌, ap, subst, arith}
-use Rattle.std.specs.Prelude.{All, IfOk}
-use Rattle.std.specs.List.Sorted.{IsSortedBy}
+use Rattle.std.specs.{Prelude.All, Prelude.IfOk, List.Sorted.IsSortedBy}
 use Rattle.loc_spec_plane.specs.Points.{Point, Edge, before, edge_before}
-use Rattle.loc_spec_plane.specs.Lists.{is_rising, sorted_set}
+use Rattle.loc_spec_plane.specs.{Lists.is_rising, Lists.sorted_set, Covers.feature_count}
 use Rattle.loc_spec_plane.specs.Tables.{AllEnds, AllEven, table_by, table_of, layer_corners, number_of, pieces_of, whole, touches_by_marks, covers_by_marks}
-use Rattle.loc_laws_noding.proofs.Layers.{corners_rise}
-use Rattle.loc_laws_noding.proofs.Noded.{cutting_whole}
-use Rattle.loc_laws_noding.proofs.Sources.{plain_sources}
+use Rattle.loc_laws_noding.proofs.{Layers.corners_rise, Noded.cutting_whole, Sources.plain_sources}
 use Rattle.loc_laws_noding.proofs.Tables.{all_ends, all_even}
 use Rattle.loc_edges.specs.Layers.{AreOfLayer, layer_rings}
 use Rattle.loc_edges.specs.Tagged.{features_of, segments_in, tagged_from}
-use Rattle.loc_edges.proofs.Even.{closed_even}
-use Rattle.loc_edges.proofs.Ordered.{few_of_layer}
+use Rattle.loc_edges.proofs.{Even.closed_even, Ordered.few_of_layer}
 use Rattle.loc_edges.proofs.RingMarks.{touches_is, covers_is, table_of-features}
-use Rattle.loc_edges.proofs.SmallLayers.{few_written_points}
-use Rattle.loc_edges.proofs.Tagged.{tagged_pieces-whole}
-use Rattle.loc_spec_plane.specs.Covers.{feature_count}
+use Rattle.loc_edges.proofs.{SmallLayers.few_written_points, Tagged.tagged_pieces-whole}
 use Rattle.loc_spec_plane.specs.Rings.{Rings, touches, covers}
-use Rattle.std.proofs.lemmas.List.{length-map}
-use Rattle.std.proofs.lemmas.Result.{IfOk-weaker}
+use Rattle.std.proofs.{lemmas.List.length-map, lemmas.Result.IfOk-weaker}
 use Rattle.loc_rings.specs.Values.{IsRing, rings_of}
 use Rattle.loc_edges.proofs.table.EdgeTable.make.Goals as goal
 use Rattle.loc_edges.proofs.table.EdgeTable.make.Goals.{After-deref-4, After-of_marks, In_ok-ends}

@@ -1,15 +1,9 @@
 use Rattle.std.proofs.Common.{◌≡◌, ℕ, List, sym, ◌∙◌, subst}
 use Rattle.std.specs.Option.{option_map_or}
 use Rattle.std.proofs.lemmas.Result.{IfOk-weaker}
-use Rattle.loc_spec_plane.specs.Points.{Edge}
-use Rattle.loc_spec_plane.specs.Rings.{Rings}
-use Rattle.loc_spec_plane.specs.Tables.{IsTable, pieces_of, table_by}
+use Rattle.loc_spec_plane.specs.{Points.Edge, Rings.Rings, Tables.IsTable, Tables.pieces_of, Tables.table_by}
 use Rattle.loc_laws_noding.proofs.Tables.{is_table}
-use Rattle.loc_edges.specs.Kept.{AreEdges}
-use Rattle.loc_edges.specs.Layers.{AreOfLayer}
-use Rattle.loc_edges.specs.Parts.{table_with}
-use Rattle.loc_edges.specs.Small.{IsSmallTable}
-use Rattle.loc_edges.specs.Tagged.{marks_in}
+use Rattle.loc_edges.specs.{Kept.AreEdges, Layers.AreOfLayer, Parts.table_with, Small.IsSmallTable, Tagged.marks_in}
 use Rattle.loc_edges.proofs.Ordered.{table_is, table_is-edges, table_is-small}
 use Rattle.loc_edges.proofs.table.EdgeTable.of_marks.Goals as goal
 use Rattle.loc_edges.proofs.table.EdgeTable.of_marks.Goals.{Start}

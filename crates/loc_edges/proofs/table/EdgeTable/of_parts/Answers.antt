@@ -1,14 +1,9 @@
 use Rattle.std.proofs.Common.{◌≡◌, ℕ, ◌<◌, ◌≤◌, List, length, map, sym, ◌∙◌, ap, subst, arith}
-use Rattle.std.specs.Prelude.{All, IsTrue}
-use Rattle.loc_spec_plane.specs.Covers.{feature_count}
+use Rattle.std.specs.{Prelude.All, Prelude.IsTrue, List.Sorted.IsNonDecreasingBy}
+use Rattle.loc_spec_plane.specs.{Covers.feature_count, declared.Mark.Mark, Lists.is_rising, Lists.numbers}
 use Rattle.std.proofs.lemmas.Result.{IfOk-weaker}
-use Rattle.loc_spec_plane.specs.declared.Mark.{Mark}
-use Rattle.loc_spec_plane.specs.Lists.{is_rising, numbers}
-use Rattle.loc_spec_plane.specs.Points.{Point, before}
-use Rattle.loc_spec_plane.specs.Tables.{IsTable}
-use Rattle.std.specs.List.Sorted.{IsNonDecreasingBy}
-use Rattle.loc_edges.specs.Ending.{row_of}
-use Rattle.loc_edges.specs.Kept.{AreEdges}
+use Rattle.loc_spec_plane.specs.{Points.Point, Points.before, Tables.IsTable}
+use Rattle.loc_edges.specs.{Ending.row_of, Kept.AreEdges}
 use Rattle.loc_edges.specs.Parts.{GoesUpBelow, edge_of_pair, table_of_parts, table_with}
 use Rattle.loc_edges.proofs.PartRows.{parts-features, marked_edges_rise, parts-is_table, edges-are}
 use Rattle.loc_edges.proofs.table.EdgeTable.of_parts.Goals as goal

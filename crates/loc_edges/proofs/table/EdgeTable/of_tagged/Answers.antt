@@ -1,8 +1,6 @@
 use Rattle.std.proofs.Common.{◌≡◌, List}
 use Rattle.std.proofs.lemmas.Result.{IfOk-weaker}
-use Rattle.loc_spec_plane.specs.Points.{Edge}
-use Rattle.loc_spec_plane.specs.Rings.{Rings}
-use Rattle.loc_spec_plane.specs.Tables.{table_by}
+use Rattle.loc_spec_plane.specs.{Points.Edge, Rings.Rings, Tables.table_by}
 use Rattle.loc_edges.specs.Layers.{AreOfLayer}
 use Rattle.loc_edges.proofs.table.EdgeTable.of_tagged.Goals as goal
 

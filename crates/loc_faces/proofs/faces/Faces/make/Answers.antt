@@ -1,14 +1,9 @@
 use Rattle.std.proofs.Common.{◌≡◌, ℕ, ◌+◌, ◌<◌, ◌≤◌, true, false, List, length, get_or, map, sym, ◌∙◌, ap, subst, arith}
-use Rattle.loc_spec_plane.specs.Lists.{numbers}
-use Rattle.loc_spec_plane.specs.HalfEdges.{half_edge_count}
-use Rattle.loc_spec_plane.specs.Faces.{hangs}
+use Rattle.loc_spec_plane.specs.{Lists.numbers, HalfEdges.half_edge_count, Faces.hangs}
 use Rattle.loc_half.specs.HalfEdgeLists.{next_in}
-use Rattle.loc_faces.specs.Boundaries.{inner_leaders}
+use Rattle.loc_faces.specs.{Boundaries.inner_leaders, FaceLists.AreFaces}
 use Rattle.loc_faces.specs.Cycles.{AreHanging, AreLeast, AreNumbered, face_by}
-use Rattle.loc_faces.specs.FaceLists.{AreFaces}
-use Rattle.loc_faces.proofs.Nested.{face_over}
-use Rattle.loc_faces.proofs.Numbering.{listed_few}
-use Rattle.loc_faces.proofs.Made.{faces_are, faces_below}
+use Rattle.loc_faces.proofs.{Nested.face_over, Numbering.listed_few, Made.faces_are, Made.faces_below}
 use Rattle.loc_faces.proofs.faces.Faces.make.Goals as goal
 
 pub overflow_cast-count : goal.overflow_cast-count

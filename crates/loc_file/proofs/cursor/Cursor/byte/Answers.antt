@@ -1,6 +1,5 @@
 use Rattle.std.proofs.Common.{refl}
-use Rattle.loc_file.proofs.Steps.{handed}
-use Rattle.loc_file.proofs.Fields.{byte-short, byte-wrong}
+use Rattle.loc_file.proofs.{Steps.handed, Fields.byte-short, Fields.byte-wrong}
 use Rattle.loc_file.proofs.cursor.Cursor.byte.Goals as goal
 
 pub returns-in_err-held-clause-err : goal.returns-in_err-held-clause-err

@@ -1,6 +1,5 @@
 use Rattle.std.proofs.Common.{arith}
-use Rattle.loc_laws_index.proofs.FileFacts.{facts}
-use Rattle.loc_laws_index.proofs.AgreeTable.{most-small}
+use Rattle.loc_laws_index.proofs.{FileFacts.facts, AgreeTable.most-small}
 use Rattle.loc_file.proofs.held.Held.nodes.Goals as goal
 
 pub overflow_cast-result : goal.overflow_cast-result

@@ -1,6 +1,5 @@
 use Rattle.std.proofs.Common.{◌≡◌, ◌≤◌, refl, ap, subst}
-use Rattle.loc_io.specs.Causes.{Rose}
-use Rattle.loc_io.specs.Entries.{handed}
+use Rattle.loc_io.specs.{Causes.Rose, Entries.handed}
 use Rattle.loc_io.proofs.file_shelf.FileShelfShelf.take_up.Goals as goal
 
 pub returns-in-Err-clause-shelf : goal.returns-in-Err-clause-shelf

@@ -2,8 +2,7 @@ use Rattle.std.proofs.Common.{◌≡◌, Some, string_bytes, refl, ap, ◌∙◌
 use Rattle.std.specs.Vec.{with_items}
 use Rattle.std.proofs.lemmas.List.{with_items_is}
 use Rattle.loc_io.specs.Files.{Grows}
-use Rattle.loc_io.proofs.Counted.{none_failed}
-use Rattle.loc_io.proofs.Growing.{told_grows, told_keeps}
+use Rattle.loc_io.proofs.{Counted.none_failed, Growing.told_grows, Growing.told_keeps}
 use Rattle.loc_io.proofs.mem_shelf.MemShelfShelf.write.Goals as goal
 
 pub returns-then-append-clause-shelf : goal.returns-then-append-clause-shelf

@@ -1,10 +1,7 @@
 use Rattle.std.proofs.Common.{◌∙◌, ap}
 use Rattle.std.proofs.lemmas.Result.{on_ok_weaker}
-use Rattle.loc_spec_plane.specs.Points.{before}
-use Rattle.loc_spec_plane.specs.Lists.{is_rising}
-use Rattle.loc_spec_plane.specs.Tables.{neighbour_edges}
-use Rattle.loc_laws_noding.proofs.Orders.{points_by_before}
-use Rattle.loc_laws_noding.proofs.SortedSet.{rising-sorted_set}
+use Rattle.loc_spec_plane.specs.{Points.before, Lists.is_rising, Tables.neighbour_edges}
+use Rattle.loc_laws_noding.proofs.{Orders.points_by_before, SortedSet.rising-sorted_set}
 use Rattle.loc_node.proofs.finder.Finder.cut.Goals as goal
 
 pub neighbours-requires : goal.neighbours-requires

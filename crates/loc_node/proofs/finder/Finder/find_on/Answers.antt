@@ -1,8 +1,7 @@
 use Rattle.std.proofs.Common.{◌≡◌, ◌<◌, List, true, filter, get_or, length, sym, ◌∙◌, ap, subst, arith}
 use Rattle.std.specs.List.Sorted.{IsPermutation}
 use Rattle.std.proofs.lemmas.Result.{on_ok_weaker}
-use Rattle.loc_spec_plane.specs.Points.{before, lies_on}
-use Rattle.loc_spec_plane.specs.Lists.{sorted_set}
+use Rattle.loc_spec_plane.specs.{Points.before, Points.lies_on, Lists.sorted_set}
 use Rattle.loc_laws_noding.specs.Search.{is_parallel}
 use Rattle.loc_node.specs.Ways.{WayOrder, points_along}
 use Rattle.loc_node.proofs.Neighbours.{kept_sorted, same_sorted}

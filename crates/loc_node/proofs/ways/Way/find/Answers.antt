@@ -1,7 +1,6 @@
 use Rattle.std.proofs.Common.{◌≡◌, ℕ, ◌<◌, ◌≤◌, true, filter, get_or, length, sym, ◌∙◌, ap, subst, arith, to_z, of_z, to_z-of_z, ℤ}
 use Rattle.std.specs.Int.{w128}
-use Rattle.std.proofs.lemmas.Int.{ints}
-use Rattle.std.proofs.lemmas.Result.{on_ok_weaker}
+use Rattle.std.proofs.{lemmas.Int.ints, lemmas.Result.on_ok_weaker}
 use borrow.Author.Differences.{fits_in}
 use Rattle.loc_spec_plane.specs.Points.{Edge, Point, lies_on}
 use Rattle.loc_laws_noding.specs.Search.{is_parallel, number_along}

@@ -1,5 +1,4 @@
-use Rattle.std.proofs.Common.{refl, append-nil}
-use Rattle.std.proofs.lemmas.Result.{err_from_is_err_and}
+use Rattle.std.proofs.{Common.refl, Common.append-nil, lemmas.Result.err_from_is_err_and}
 use Rattle.loc_page.proofs.file_page.FilePage.flush.Goals as goal
 
 pub returns-clause-put : goal.returns-clause-put

@@ -4,8 +4,7 @@ use Rattle.loc_spec_plane.specs.Lists.{is_in}
 use Rattle.std.specs.List.{sum_by}
 use Rattle.loc_rings.proofs.Flags.{flags-sum}
 use Rattle.loc_rings.specs.Flags.{flagged, unflagged}
-use Rattle.loc_parts.proofs.Flagged.{chosen-length, flags-any}
-use Rattle.loc_parts.proofs.Resting.{rest_chosen}
+use Rattle.loc_parts.proofs.{Flagged.chosen-length, Flagged.flags-any, Resting.rest_chosen}
 use Rattle.loc_parts.proofs.rest.Rest.parted.Goals as goal
 
 pub returns-clause-kept : goal.returns-clause-kept

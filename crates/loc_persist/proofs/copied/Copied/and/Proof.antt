@@ -4,11 +4,10 @@ use denote.RattleType.{owns, Valss}
 use denote.Ref.{shr_vals, shr_Tells}
 use Rattle.loc_persist.specs.contracts.copied.Copied as C
 use Rattle.loc_persist.specs.contracts.copied.Copied.and as f
-use Rattle.loc_persist.proofs.copied.Copied.and.Statement.{statement}
+use Rattle.loc_persist.proofs.{copied.Copied.and.Statement.statement, Marks.Mark, Marks.mark, Marks.mark_made}
 use Rattle.loc_persist.proofs.copied.Copied.and.Code as code
 use Rattle.loc_pool.proofs.Link.TheLaws.{lowers, the_row_laws as LL}
 use Rattle.loc_pool.proofs.Memory.{slot_at}
-use Rattle.loc_persist.proofs.Marks.{Mark, mark, mark_made}
 
 abbrev stayed : Stays f.ended.signature.params f.ended.kept
 stayed = (stay_dropped _ _, (stay_dropped _ _, tt))

@@ -2,9 +2,8 @@
 use Rattle.loc_persist.proofs.Steps.{[], ◌∷◌, refl, proved, ftrue, ‵, raw, ◌$◌, ◌∵◌, !, qed, done, drop, use0, fjoin, suffices, enter, no_more, and_then, returns, agg, alloc_all, pass_all, free_all, look_at, get, sets, nothing, on_entry, Stays, walk_of, says, ends_at}
 use Rattle.loc_persist.specs.contracts.copied.Copied as C
 use Rattle.loc_persist.specs.contracts.copied.Copied.new as f
-use Rattle.loc_persist.proofs.copied.Copied.new.Statement.{statement}
+use Rattle.loc_persist.proofs.{copied.Copied.new.Statement.statement, Marks.Mark, Marks.mark, Marks.mark_made}
 use Rattle.loc_persist.proofs.copied.Copied.new.Code as code
-use Rattle.loc_persist.proofs.Marks.{Mark, mark, mark_made}
 
 abbrev stayed : Stays f.ended.signature.params f.ended.kept
 stayed = tt

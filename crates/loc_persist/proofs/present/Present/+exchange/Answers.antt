@@ -1,9 +1,7 @@
 -- A stamp, or a copy and then the root or the pointer above.
 use Rattle.std.proofs.Common.{◌≡◌, List, [], refl, sym, ap, ◌∙◌, subst, arith, length}
-use Rattle.loc_pool.specs.declared.Link.{Link}
-use Rattle.loc_pool.specs.declared.Turn.{Turn}
-use Rattle.loc_rb.specs.Nodes.{CanChange}
-use Rattle.loc_rb.specs.Exchanges.{Exchanges}
+use Rattle.loc_pool.specs.{declared.Link.Link, declared.Turn.Turn}
+use Rattle.loc_rb.specs.{Nodes.CanChange, Exchanges.Exchanges}
 use Rattle.loc_rb.proofs.OneChange.{no-entries}
 use Rattle.loc_persist.specs.Present.{nodes_at}
 use Rattle.loc_persist.proofs.Keeping.{keeps-trans}

@@ -1,8 +1,6 @@
 -- There is nothing.
 use Rattle.std.proofs.Common.{List, Option, None, sym, subst}
-use Rattle.loc_pool.specs.declared.Link.{Link}
-use Rattle.loc_pool.specs.Maps.{Map}
-use Rattle.loc_pool.specs.Rows.{Row}
+use Rattle.loc_pool.specs.{declared.Link.Link, Maps.Map, Rows.Row}
 use Rattle.loc_persist.specs.Stored.{IsStored}
 use Rattle.loc_persist.proofs.Stores.{stored-none}
 use Rattle.loc_persist.proofs.store.Store.new.Goals as goal

@@ -1,10 +1,8 @@
 -- The root of a sealed version has a row.
 use Rattle.std.proofs.Common.{ap, subst, ◌∙◌}
 use Rattle.std.specs.Prelude.{slice_get}
-use Rattle.loc_persist.specs.Numbered.{IsNumber}
-use Rattle.loc_persist.specs.Stored.{Stored}
-use Rattle.loc_persist.proofs.Prefix.{versions-whole}
-use Rattle.loc_persist.proofs.Stores.{version-root}
+use Rattle.loc_persist.specs.{Numbered.IsNumber, Stored.Stored}
+use Rattle.loc_persist.proofs.{Prefix.versions-whole, Stores.version-root}
 use Rattle.loc_persist.proofs.store.Store.root_number.Goals as goal
 
 pub number_of-requires : goal.number_of-requires

@@ -1,12 +1,9 @@
 -- The newest version becomes a sealed one, with its tree.
 use Rattle.std.proofs.Common.{ℕ, ◌^◌, ◌≤◌, List, length, Option, refl, sym, ap, subst, arith}
-use Rattle.loc_pool.specs.declared.Link.{Link}
+use Rattle.loc_pool.specs.{declared.Link.Link, Rows.no_link}
 use Rattle.loc_rb.specs.Places.{Holds}
-use Rattle.loc_persist.specs.Stored.{Stored, nodes_of, IsStored}
-use Rattle.loc_persist.specs.Viewed.{stored}
-use Rattle.loc_pool.specs.Rows.{no_link}
-use Rattle.loc_persist.proofs.Places.{named-not-default}
-use Rattle.loc_persist.proofs.Stores.{stored-seal}
+use Rattle.loc_persist.specs.{Stored.Stored, Stored.nodes_of, Stored.IsStored, Viewed.stored}
+use Rattle.loc_persist.proofs.{Places.named-not-default, Stores.stored-seal}
 use Rattle.loc_persist.proofs.store.Store.seal.Goals as goal
 
 pub push-requires : goal.push-requires

@@ -1,10 +1,7 @@
 -- The rows as in `exchange`; of the room 45 is taken, as much as a change may take.
 use Rattle.std.proofs.Common.{◌≡◌, ℕ, ◌≤◌, length, take, sym, ap, subst, arith}
-use Rattle.loc_rb.specs.Nodes.{CanChange, Changes}
-use Rattle.loc_rb.specs.Exchanges.{Exchanges}
-use Rattle.loc_persist.specs.Keeping.{KeepsBefore}
-use Rattle.loc_persist.specs.Present.{nodes_at, IsPresent}
-use Rattle.loc_persist.specs.Stored.{Stored, nodes_of}
+use Rattle.loc_rb.specs.{Nodes.CanChange, Nodes.Changes, Exchanges.Exchanges}
+use Rattle.loc_persist.specs.{Keeping.KeepsBefore, Present.nodes_at, Present.IsPresent, Stored.Stored, Stored.nodes_of}
 use Rattle.loc_persist.specs.Viewed.{stored}
 use Rattle.loc_persist.proofs.Stores.{can-of, after_change, stored-change, changes-of}
 use Rattle.loc_persist.proofs.store.StoreLinks.change.Goals as goal

@@ -1,11 +1,9 @@
 -- The row of the pool, in the version that comes after the sealed ones.
 use Rattle.std.proofs.Common.{◌≡◌, length, sym, ap, ◌∙◌, subst}
 use Rattle.loc_pool.specs.Rows.{row, child_at}
-use Rattle.loc_rb.specs.Trees.{child_of}
-use Rattle.loc_rb.specs.Nodes.{HasRow}
+use Rattle.loc_rb.specs.{Trees.child_of, Nodes.HasRow}
 use Rattle.loc_persist.specs.Stored.{Stored, nodes_of}
-use Rattle.loc_persist.proofs.NewestRows.{row-is}
-use Rattle.loc_persist.proofs.Stores.{child-in}
+use Rattle.loc_persist.proofs.{NewestRows.row-is, Stores.child-in}
 use Rattle.loc_persist.proofs.store.StoreLinks.child.Goals as goal
 
 pub child-requires : goal.child-requires

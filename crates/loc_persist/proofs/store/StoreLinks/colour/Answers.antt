@@ -1,8 +1,7 @@
 -- The row of the pool.
 use Rattle.std.proofs.Common.{length, sym, ap, ◌∙◌, subst}
 use Rattle.loc_pool.specs.Rows.{row}
-use Rattle.loc_rb.specs.Trees.{Row}
-use Rattle.loc_rb.specs.Nodes.{HasRow}
+use Rattle.loc_rb.specs.{Trees.Row, Nodes.HasRow}
 use Rattle.loc_persist.specs.Stored.{Stored, nodes_of}
 use Rattle.loc_persist.proofs.NewestRows.{row-is}
 use Rattle.loc_persist.proofs.store.StoreLinks.colour.Goals as goal

@@ -1,10 +1,8 @@
 -- One row more in the pool.
 use Rattle.std.proofs.Common.{◌≤◌, ◌+◌, ◌-◌, sym, ap, subst, arith}
-use Rattle.loc_pool.specs.Maps.{Map}
-use Rattle.loc_pool.specs.Rows.{Row}
+use Rattle.loc_pool.specs.{Maps.Map, Rows.Row}
 use Rattle.loc_rb.specs.Nodes.{Makes}
-use Rattle.loc_persist.specs.Stored.{Stored, nodes_of, IsStored}
-use Rattle.loc_persist.specs.Viewed.{stored}
+use Rattle.loc_persist.specs.{Stored.Stored, Stored.nodes_of, Stored.IsStored, Viewed.stored}
 use Rattle.loc_persist.proofs.Stores.{stored-make, makes-of}
 use Rattle.loc_persist.proofs.store.StoreLinks.make.Goals as goal
 

@@ -1,8 +1,7 @@
 -- The root alone.
 use Rattle.std.proofs.Common.{sym, subst}
 use Rattle.loc_rb.specs.Nodes.{IsLiveOrNone, Roots}
-use Rattle.loc_persist.specs.Stored.{Stored, nodes_of}
-use Rattle.loc_persist.specs.Viewed.{stored}
+use Rattle.loc_persist.specs.{Stored.Stored, Stored.nodes_of, Viewed.stored}
 use Rattle.loc_persist.proofs.Stores.{stored-root, live-has, roots-of}
 use Rattle.loc_persist.proofs.store.StoreLinks.put_root.Goals as goal
 

@@ -1,11 +1,9 @@
 -- One row of the pool.
 use Rattle.std.proofs.Common.{sym, ap, subst}
-use Rattle.loc_pool.specs.Maps.{Map}
-use Rattle.loc_pool.specs.Rows.{Row}
+use Rattle.loc_pool.specs.{Maps.Map, Rows.Row}
 use Rattle.loc_pool.specs.Rows as pool
 use Rattle.loc_rb.specs.Nodes.{IsLive, Colours}
-use Rattle.loc_persist.specs.Stored.{Stored, nodes_of, IsStored}
-use Rattle.loc_persist.specs.Viewed.{stored}
+use Rattle.loc_persist.specs.{Stored.Stored, Stored.nodes_of, Stored.IsStored, Viewed.stored}
 use Rattle.loc_persist.proofs.Stores.{live-has, stored-colour, colours-of}
 use Rattle.loc_persist.proofs.store.StoreLinks.set_colour.Goals as goal
 

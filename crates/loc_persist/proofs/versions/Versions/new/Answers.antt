@@ -1,7 +1,6 @@
 -- There is nothing.
 use Rattle.std.proofs.Common.{false, sym, ap, subst, ◌∙◌}
-use Rattle.loc_persist.specs.Stored.{Stored}
-use Rattle.loc_persist.specs.Meaning.{meaning, IsKept}
+use Rattle.loc_persist.specs.{Stored.Stored, Meaning.meaning, Meaning.IsKept}
 use Rattle.loc_persist.proofs.Meanings.{kept-none, meaning-none}
 use Rattle.loc_persist.proofs.versions.Versions.new.Goals as goal
 

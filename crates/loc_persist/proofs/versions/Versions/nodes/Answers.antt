@@ -1,7 +1,6 @@
 -- The names of the store are the names of the list.
 use Rattle.std.proofs.Common.{subst}
-use Rattle.loc_pool.specs.Maps.{links}
-use Rattle.loc_pool.specs.Rows.{AreNames}
+use Rattle.loc_pool.specs.{Maps.links, Rows.AreNames}
 use Rattle.loc_persist.specs.Meaning.{VersionsMeaning}
 use Rattle.loc_persist.proofs.versions.Versions.nodes.Goals as goal
 

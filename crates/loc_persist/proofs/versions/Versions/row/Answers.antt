@@ -1,10 +1,8 @@
 -- What holds of the rows by their links holds of the rows by number.
 use Rattle.std.proofs.Common.{◌-◌, length, subst}
 use Rattle.loc_pool.proofs.Maps.{has-place}
-use Rattle.loc_persist.specs.Meaning.{VersionsMeaning}
-use Rattle.loc_persist.specs.Numbered.{IsWithin}
-use Rattle.loc_persist.proofs.Bounds.{row-within}
-use Rattle.loc_persist.proofs.Meanings.{facts-of}
+use Rattle.loc_persist.specs.{Meaning.VersionsMeaning, Numbered.IsWithin}
+use Rattle.loc_persist.proofs.{Bounds.row-within, Meanings.facts-of}
 use Rattle.loc_persist.proofs.versions.Versions.row.Goals as goal
 
 pub returns-clause-bounds : goal.returns-clause-bounds

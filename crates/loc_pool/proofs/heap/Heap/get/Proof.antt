@@ -17,17 +17,13 @@ use denote.Ref.{shr_vals, shr_Tells, Bor}
 use denote.Struct.Lending.{lent_at}
 use Rattle.std_alloc.proofs.VecSteps.Shapes.{after}
 use denote.Plain.{uint_vals, uint_Tells}
-use Rattle.loc_pool.specs.Cells.{Cell}
-use Rattle.loc_pool.specs.Ownership.{cells_lent}
-use Rattle.loc_pool.specs.declared.node.Slab.{Slab}
+use Rattle.loc_pool.specs.{Cells.Cell, Ownership.cells_lent, declared.node.Slab.Slab}
 use Rattle.loc_pool.specs.contracts.heap.Heap.{the_row as Hp}
 use Rattle.loc_pool.specs.contracts.node.Slab.{the_row as R}
 use Rattle.loc_pool.specs.contracts.heap.Heap.get as f
-use Rattle.loc_pool.proofs.heap.Address.TheLaws.{lowers}
-use Rattle.loc_pool.proofs.heap.Heap.get.Statement.{statement}
+use Rattle.loc_pool.proofs.{heap.Address.TheLaws.lowers, heap.Heap.get.Statement.statement, Cells.cut-here}
 use Rattle.loc_pool.proofs.heap.Heap.get.Code as code
 use Rattle.std.specs.Prelude.{◌≡◌, Some, slice_get, take, drop as past, ◌+◌}
-use Rattle.loc_pool.proofs.Cells.{cut-here}
 use Rattle.loc_pool.proofs.Memory.{slot_at, cell_seen}
 
 abbrev stayed : Stays f.ended.signature.params f.ended.kept

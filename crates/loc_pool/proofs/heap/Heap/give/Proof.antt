@@ -20,19 +20,16 @@ use Rattle.std.specs.contracts.alloc.Global.{the_row as Z}
 use Rattle.std.proofs.alloc.Global.TheLaws.{the_row_laws as LZ}
 use Rattle.std.specs.contracts.impls.GlobalAllocator.TheImpl.{ghosts}
 use denote.Plain.{uint_Tells}
-use Rattle.loc_pool.specs.Cells.{Cell}
-use Rattle.loc_pool.specs.declared.node.Slab.{Slab}
-use Rattle.loc_pool.specs.Ownership.{cell_own, cells_own}
+use Rattle.loc_pool.specs.{Cells.Cell, declared.node.Slab.Slab, Ownership.cell_own, Ownership.cells_own}
 use Rattle.loc_pool.specs.contracts.heap.Heap.{the_row as Hp}
 use Rattle.loc_pool.specs.contracts.node.Slab.{the_row as R}
 use Rattle.loc_pool.specs.contracts.heap.Address.{the_row as Ad}
 use Rattle.loc_pool.specs.contracts.heap.Heap.give as f
 use Rattle.loc_pool.proofs.heap.Address.TheLaws.{lowers, the_row_laws as LL}
-use Rattle.loc_pool.proofs.heap.Heap.give.Statement.{statement}
+use Rattle.loc_pool.proofs.{heap.Heap.give.Statement.statement, Cells.cut-here}
 use Rattle.loc_pool.proofs.heap.Heap.give.Code as code
 use Rattle.std.specs.Prelude.{◌≡◌, ◌+◌, Some, slice_get, take, drop as past}
 use Rattle.std_alloc.specs.Box.Ownership.{box_owns}
-use Rattle.loc_pool.proofs.Cells.{cut-here}
 use Rattle.loc_pool.proofs.Values.{both, loose_good, loose_in}
 use Rattle.loc_pool.proofs.Memory.{handle, slot_at, cells_cut, says_both}
 

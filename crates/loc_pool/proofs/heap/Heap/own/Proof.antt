@@ -11,22 +11,19 @@ use types.ByLocal.{get_in}
 use denote.RattleType.{owns}
 use denote.Signature.{types_at}
 use Rattle.std.specs.Prelude.{take, drop as past}
-use Rattle.std.proofs.lemmas.List.{take-append-drop}
+use Rattle.std.proofs.{lemmas.List.take-append-drop, raw_atomic.Walks.proved_at}
 use denote.Plain.{uint_Tells}
 use Rattle.core.proofs.alloc.Calls.{Goes-blank}
-use Rattle.std.proofs.raw_atomic.Walks.{proved_at}
 use Rattle.std.specs.contracts.alloc.Global.{the_row as Z}
 use Rattle.std.proofs.alloc.Global.TheLaws.{the_row_laws as LZ}
 use Rattle.std.specs.contracts.impls.GlobalAllocator.TheImpl.{ghosts}
-use Rattle.loc_pool.specs.Cells.{Cell}
-use Rattle.loc_pool.specs.Ownership.{cells_own}
+use Rattle.loc_pool.specs.{Cells.Cell, Ownership.cells_own}
 use Rattle.loc_pool.specs.contracts.heap.Heap.{the_row as Hp}
 use Rattle.loc_pool.specs.contracts.node.Slab.{the_row as R}
 use Rattle.loc_pool.specs.contracts.heap.Address.{the_row as Ad}
 use Rattle.loc_pool.specs.contracts.heap.Heap.own as f
-use Rattle.loc_pool.proofs.heap.Heap.own.Statement.{statement}
+use Rattle.loc_pool.proofs.{heap.Heap.own.Statement.statement, Values.loose_good, Values.loose_out}
 use Rattle.loc_pool.proofs.heap.Heap.own.Code as code
-use Rattle.loc_pool.proofs.Values.{loose_good, loose_out}
 use Rattle.loc_pool.proofs.Memory.{handle, slot_at, cells_glue, address_made}
 
 abbrev stayed : Stays f.ended.signature.params f.ended.kept

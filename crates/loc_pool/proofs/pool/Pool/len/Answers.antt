@@ -1,6 +1,5 @@
 use Rattle.std.proofs.Common.{length, sym, ap, subst, ◌∙◌, arith}
-use Rattle.loc_pool.specs.Maps.{links}
-use Rattle.loc_pool.specs.Rows.{AreNames}
+use Rattle.loc_pool.specs.{Maps.links, Rows.AreNames}
 use Rattle.loc_pool.proofs.Numbered.{names-from, length-made}
 use Rattle.loc_pool.proofs.pool.Pool.len.Goals as goal
 

@@ -1,6 +1,5 @@
 use Rattle.std.proofs.Common.{length, ap, subst, arith}
-use Rattle.loc_pool.specs.Maps.{links}
-use Rattle.loc_pool.specs.Rows.{IsPlace}
+use Rattle.loc_pool.specs.{Maps.links, Rows.IsPlace}
 use Rattle.loc_pool.proofs.Numbered.{link_of, place-made}
 use Rattle.loc_pool.proofs.pool.Pool.link.Goals as goal
 

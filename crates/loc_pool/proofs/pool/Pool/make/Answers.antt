@@ -1,7 +1,5 @@
 use Rattle.std.proofs.Common.{◌+◌, ◌∷◌, [], ◌++◌, length, sym, ap, ◌∙◌, arith, take}
-use Rattle.loc_pool.specs.declared.Link.{Link}
-use Rattle.loc_pool.specs.Maps.{has}
-use Rattle.loc_pool.specs.Cells.{rows_from}
+use Rattle.loc_pool.specs.{declared.Link.Link, Maps.has, Cells.rows_from}
 use Rattle.loc_pool.proofs.Numbered.{link_of, length-made, made-new, made-append}
 use Rattle.loc_pool.proofs.pool.Pool.make.Goals as goal
 

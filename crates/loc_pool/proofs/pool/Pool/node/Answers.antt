@@ -1,7 +1,5 @@
 use Rattle.std.proofs.Common.{◌≡◌, true, sym, ap, ◌∙◌, arith, take}
-use Rattle.loc_pool.specs.Maps.{has}
-use Rattle.loc_pool.specs.Rows.{row}
-use Rattle.loc_pool.specs.Cells.{rows_from}
+use Rattle.loc_pool.specs.{Maps.has, Rows.row, Cells.rows_from}
 use Rattle.loc_pool.proofs.Numbered.{made-within, made-row}
 use Rattle.loc_pool.proofs.pool.Pool.node.Goals as goal
 

@@ -1,6 +1,5 @@
 use Rattle.std.proofs.Common.{ap, subst, ◌∙◌, arith, take}
-use Rattle.loc_pool.specs.Maps.{has, links}
-use Rattle.loc_pool.specs.Rows.{IsPlace}
+use Rattle.loc_pool.specs.{Maps.has, Maps.links, Rows.IsPlace}
 use Rattle.loc_pool.proofs.Numbered.{number-within, length-rows_from, place-made}
 use Rattle.loc_pool.proofs.pool.Pool.number.Goals as goal
 

@@ -1,6 +1,5 @@
 use Rattle.std.proofs.Common.{ap, ◌∙◌}
-use Rattle.loc_pool.specs.Maps.{put}
-use Rattle.loc_pool.specs.Rows.{stamped}
+use Rattle.loc_pool.specs.{Maps.put, Rows.stamped}
 use Rattle.loc_pool.proofs.pool.Pool.stamp.Goals as goal
 
 pub returns : goal.returns

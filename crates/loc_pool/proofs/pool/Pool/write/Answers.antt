@@ -1,7 +1,6 @@
 use Rattle.std.proofs.Common.{◌≡◌, true, sym, ap, ◌∙◌, arith, length, take}
 use Rattle.std.proofs.lemmas.List.{length-set}
-use Rattle.loc_pool.specs.Maps.{has, put}
-use Rattle.loc_pool.specs.Cells.{row_of, rows_from}
+use Rattle.loc_pool.specs.{Maps.has, Maps.put, Cells.row_of, Cells.rows_from}
 use Rattle.loc_pool.proofs.Numbered.{made-within, made-put}
 use Rattle.loc_pool.proofs.pool.Pool.write.Goals as goal
 

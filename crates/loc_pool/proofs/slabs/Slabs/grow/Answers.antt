@@ -1,6 +1,5 @@
 use Rattle.std.proofs.Common.{◌≡◌, ◌∷◌, [], ◌++◌, length, sym, ap, subst, ◌∙◌, arith, cond, is_ok}
-use Rattle.loc_pool.specs.declared.node.Slab.{Slab}
-use Rattle.loc_pool.specs.Cells.{addresses, nodes_of, IsFull}
+use Rattle.loc_pool.specs.{declared.node.Slab.Slab, Cells.addresses, Cells.nodes_of, Cells.IsFull}
 use Rattle.loc_pool.proofs.Cells.{length-addresses, addresses-append, full-append, nodes_of-append, at-end}
 use Rattle.loc_pool.proofs.slabs.Slabs.grow.Goals as goal
 

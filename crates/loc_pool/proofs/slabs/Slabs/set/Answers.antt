@@ -1,7 +1,6 @@
 use Rattle.std.proofs.Common.{◌≡◌, ◌/◌, ◌%◌, ◌∷◌, ◌++◌, suc, length, set, sym, ap, subst, ◌∙◌, arith, take, drop}
 use Rattle.std.proofs.lemmas.List.{set_split, length-set}
-use Rattle.loc_pool.specs.declared.node.Slab.{Slab}
-use Rattle.loc_pool.specs.Cells.{addresses, nodes_of, IsFull}
+use Rattle.loc_pool.specs.{declared.node.Slab.Slab, Cells.addresses, Cells.nodes_of, Cells.IsFull}
 use Rattle.loc_pool.proofs.Cells.{addresses-cut, full-at, full-cut, nodes_of-cut, in-slab, of-slab, slab-within, slab-here, exchanged}
 use Rattle.loc_pool.proofs.slabs.Slabs.set.Goals as goal
 

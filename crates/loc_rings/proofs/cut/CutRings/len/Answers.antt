@@ -1,5 +1,4 @@
-use Rattle.std.proofs.Common.{length, ap, arith}
-use Rattle.std.proofs.lemmas.List.{length-map}
+use Rattle.std.proofs.{Common.length, Common.ap, Common.arith, lemmas.List.length-map}
 use Rattle.loc_rings.proofs.Cuts.{seen-rings}
 use Rattle.loc_rings.proofs.cut.CutRings.len.Goals as goal
 

@@ -1,7 +1,6 @@
 use Rattle.std.proofs.Common.{sym, ap, length, arith}
 use Rattle.std.proofs.lemmas.List.{length-map}
-use Rattle.loc_rings.proofs.Cuts.{seen-rings}
-use Rattle.loc_rings.proofs.RingLists.{ring_at, ring_read}
+use Rattle.loc_rings.proofs.{Cuts.seen-rings, RingLists.ring_at, RingLists.ring_read}
 use Rattle.loc_rings.proofs.cut.CutRings.ring.Goals as goal
 
 pub index-requires : goal.index-requires

@@ -1,5 +1,4 @@
-use Rattle.std.proofs.Common.{arith}
-use Rattle.std.proofs.lemmas.List.{length-map}
+use Rattle.std.proofs.{Common.arith, lemmas.List.length-map}
 use Rattle.loc_rings.proofs.Cuts.{kept-start, seen-start}
 use Rattle.loc_rings.proofs.cut.CutRings.start_polygon.Goals as goal
 

@@ -2,8 +2,7 @@ use Rattle.std.proofs.Common.{◌≡◌, [], ◌∷◌, ◌++◌, length, slice_
 use Rattle.std.specs.List.{sum_by}
 use Rattle.std.proofs.lemmas.List.{append-nil}
 use Rattle.loc_spec_text.specs.Reading.{all_rings}
-use Rattle.loc_rings.specs.Layers.{layer_points, point_count}
-use Rattle.loc_rings.specs.Values.{Feature, unnamed}
+use Rattle.loc_rings.specs.{Layers.layer_points, Layers.point_count, Values.Feature, Values.unnamed}
 use Rattle.loc_rings.proofs.Lone.{own_rings, range_points}
 use Rattle.loc_rings.proofs.layers.Layer.of_polygon.Goals as goal
 

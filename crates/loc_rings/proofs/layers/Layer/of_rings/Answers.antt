@@ -4,10 +4,8 @@ use Rattle.std.proofs.lemmas.List.{length-map, length-take-le}
 use Rattle.std.proofs.lemmas.List.Sums.{sum_by-cons, sum_by-take-le}
 use Rattle.loc_spec_plane.specs.Rings.{Ring}
 use Rattle.loc_spec_text.specs.Reading.{all_rings}
-use Rattle.loc_rings.specs.Layers.{layer_points, point_count}
-use Rattle.loc_rings.specs.Values.{Feature, unnamed}
-use Rattle.loc_rings.proofs.Lone.{lone_more, lone_points}
-use Rattle.loc_rings.proofs.Points.{points_to}
+use Rattle.loc_rings.specs.{Layers.layer_points, Layers.point_count, Values.Feature, Values.unnamed}
+use Rattle.loc_rings.proofs.{Lone.lone_more, Lone.lone_points, Points.points_to}
 use Rattle.loc_rings.proofs.layers.Layer.of_rings.Goals as goal
 
 pub loop-n-init : goal.loop-n-init

@@ -10,12 +10,12 @@ narrowed old new n piece (Err _) le bound was = was
 
 pub returns : goal.returns
 returns c = record {
-  reading = c.write-result.ensures.shelf.reading;
+  reading = c.write.ensures.shelf.reading;
   bound = search rules;
-  made = c.write-result.ensures.shelf.made;
-  file = λ name is. narrowed _ _ c.front-front.result c.args.piece.now c.write-result.result c.front-front.ensures.within c.write-result.ensures.shelf.bound (c.write-result.ensures.shelf.file name is);
-  others = c.write-result.ensures.shelf.others;
-  refused = c.write-result.ensures.shelf.refused;
-  cause = c.write-result.ensures.shelf.cause;
-  late = c.write-result.ensures.shelf.late;
+  made = c.write.ensures.shelf.made;
+  file = λ name is. narrowed _ _ c.front-front.result c.args.piece.now c.write.result c.front-front.ensures.within c.write.ensures.shelf.bound (c.write.ensures.shelf.file name is);
+  others = c.write.ensures.shelf.others;
+  refused = c.write.ensures.shelf.refused;
+  cause = c.write.ensures.shelf.cause;
+  late = c.write.ensures.shelf.late;
 }

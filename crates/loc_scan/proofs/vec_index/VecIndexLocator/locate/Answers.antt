@@ -1,9 +1,7 @@
 use Rattle.std.proofs.Common.{ap, sym, subst}
 use Rattle.std.specs.Prelude.{Ok}
-use Rattle.loc_spec_plane.specs.declared.Place.TheVariants.{Corner}
-use Rattle.loc_spec_plane.specs.Places.{IsListAt}
-use Rattle.loc_place.proofs.FoundPlace.{place_is_found}
-use Rattle.loc_place.proofs.Versions.{version_there}
+use Rattle.loc_spec_plane.specs.{declared.Place.TheVariants.Corner, Places.IsListAt}
+use Rattle.loc_place.proofs.{FoundPlace.place_is_found, Versions.version_there}
 use Rattle.loc_scan.proofs.vec_index.VecIndexLocator.locate.Goals as goal
 
 pub search_list-requires-clause-alive : goal.search_list-requires-clause-alive

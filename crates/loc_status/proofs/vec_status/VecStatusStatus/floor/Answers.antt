@@ -1,12 +1,9 @@
 use Rattle.std.proofs.Common.{◌-◌, ◌<◌, ◌∙◌, ap, sym, subst, length, slice_get}
 use Rattle.std.specs.List.{All}
-use Rattle.loc_spec_plane.specs.Points.{is_above}
-use Rattle.loc_spec_plane.specs.Tables.{corner, edge}
-use Rattle.loc_status.specs.declared.targets.Target.TheVariants.{Corner}
-use Rattle.loc_status.specs.Meaning.{StatusMeaning}
+use Rattle.loc_spec_plane.specs.{Points.is_above, Tables.corner, Tables.edge}
+use Rattle.loc_status.specs.{declared.targets.Target.TheVariants.Corner, Meaning.StatusMeaning}
 use Rattle.loc_status.specs.Targets.{is_passed, IsSearchEnd}
-use Rattle.loc_status.proofs.Ends.{last_found}
-use Rattle.loc_status.proofs.Standing.{chain_in_range, none_above_later}
+use Rattle.loc_status.proofs.{Ends.last_found, Standing.chain_in_range, Standing.none_above_later}
 use Rattle.loc_status.proofs.vec_status.VecStatusStatus.floor.Goals as goal
 
 pub search-requires-clause-in_range : goal.search-requires-clause-in_range

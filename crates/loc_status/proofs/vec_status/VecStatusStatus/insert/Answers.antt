@@ -1,7 +1,6 @@
 use Rattle.std.proofs.Common.{rules, ◌≡◌, ◌+◌, ◌<◌, ◌++◌, ◌∷◌, take, drop, ◌∙◌, ap, refl, sym, subst, length, Some, slice_get}
 use Rattle.std.specs.Prelude.{IsOk, max}
-use Rattle.std.proofs.lemmas.Option.{slice_get-get_or}
-use Rattle.std.proofs.lemmas.List.{take-append-drop}
+use Rattle.std.proofs.{lemmas.Option.slice_get-get_or, lemmas.List.take-append-drop}
 use Rattle.loc_status.specs.Lists.{IsBeside, IsPlaceFor}
 use Rattle.loc_status.proofs.vec_status.VecStatusStatus.insert.Goals as goal
 

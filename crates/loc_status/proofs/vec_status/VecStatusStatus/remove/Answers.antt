@@ -1,6 +1,5 @@
 use Rattle.std.proofs.Common.{◌≡◌, ◌∙◌, ap, refl, sym, subst, Some, slice_get}
-use Rattle.loc_status.specs.Lists.{IsBeside, IsRemoved}
-use Rattle.loc_status.specs.Meaning.{StatusMeaning}
+use Rattle.loc_status.specs.{Lists.IsBeside, Lists.IsRemoved, Meaning.StatusMeaning}
 use Rattle.loc_status.proofs.Ends.{taken_out}
 use Rattle.loc_status.proofs.vec_status.VecStatusStatus.remove.Goals as goal
 

@@ -3,13 +3,10 @@ use Rattle.std.specs.Prelude.{Option, Some, vec_len}
 use Rattle.loc_spec_plane.specs.Tables.{corner, lo_of}
 use Rattle.loc_laws_traps.specs.Sets.{is_inside}
 use Rattle.loc_laws_traps.proofs.Where.{where_law}
-use Rattle.loc_traps.specs.declared.map.Split.{Split}
-use Rattle.loc_traps.specs.Meaning.{MapMeaning, row_of, among}
+use Rattle.loc_traps.specs.{declared.map.Split.Split, Meaning.MapMeaning, Meaning.row_of, Meaning.among}
 use Rattle.loc_traps.specs.Splits.{AreSplits, IsAdded}
-use Rattle.loc_traps.proofs.Burying.{written_back}
-use Rattle.loc_traps.proofs.Coded.{calm_with}
-use Rattle.loc_trapdag.specs.declared.index.Step.{Step}
-use Rattle.loc_trapdag.specs.Graphs.{Graph, IsGraphOf, Marks}
+use Rattle.loc_traps.proofs.{Burying.written_back, Coded.calm_with}
+use Rattle.loc_trapdag.specs.{declared.index.Step.Step, Graphs.Graph, Graphs.IsGraphOf, Graphs.Marks}
 use Rattle.loc_trapdag.proofs.Growing.{graph_more, steps_grown}
 use Rattle.loc_trapdag.proofs.index.TrapIndex.add.Goals as goal
 

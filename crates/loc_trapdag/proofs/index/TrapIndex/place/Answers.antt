@@ -1,8 +1,6 @@
 use Rattle.std.proofs.Common.{refl, sym, ◌∙◌, ap, subst, inl, inr, arith}
 use Rattle.std.specs.Prelude.{Some, None}
-use Rattle.loc_spec_plane.specs.declared.Trap.{Trap}
-use Rattle.loc_spec_plane.specs.declared.Place.TheVariants.{Area}
-use Rattle.loc_spec_plane.specs.Places.{IsPlace}
+use Rattle.loc_spec_plane.specs.{declared.Trap.Trap, declared.Place.TheVariants.Area, Places.IsPlace}
 use Rattle.loc_traps.specs.Meaning.{row_of}
 use Rattle.loc_trapdag.specs.Graphs.{Graph}
 use Rattle.loc_trapdag.proofs.Descent.{step_read, piece_later, leaf_place}

@@ -1,10 +1,8 @@
 use Rattle.std.proofs.Common.{◌≡◌, ℕ, ◌++◌, List, length, take, drop, sym, ◌∙◌, ap, subst, arith}
 use Rattle.std.proofs.Math.Seq.{take-append_seam}
 use Rattle.rand.specs.Shuffle.{shuffled}
-use Rattle.rand_core.specs.Stream.{Stream}
-use Rattle.rand_core.specs.Steps.{stream_of, steps_u32}
-use Rattle.rand_pcg.specs.Lcg.{Lcg}
-use Rattle.rand_pcg.specs.Pcg.{pcg32}
+use Rattle.rand_core.specs.{Stream.Stream, Steps.stream_of, Steps.steps_u32}
+use Rattle.rand_pcg.specs.{Lcg.Lcg, Pcg.pcg32}
 use Rattle.loc_spec_plane.specs.Lists.{numbers}
 use Rattle.loc_trapdag.specs.Orders.{IsOrder}
 use Rattle.loc_trapdag.proofs.Counts.{order_shuffled}

@@ -1,8 +1,7 @@
 use Rattle.std.proofs.Common.{◌-◌, length, ◌∙◌, ap, arith}
 use Rattle.loc_spec_plane.specs.Tables.{lo_of, hi_of}
 use Rattle.loc_traps.specs.Meaning.{MapMeaning, row_of}
-use Rattle.loc_traps.proofs.Rows.{fresh_count}
-use Rattle.loc_traps.proofs.Coded.{fresh_same, numbered_same}
+use Rattle.loc_traps.proofs.{Rows.fresh_count, Coded.fresh_same, Coded.numbered_same}
 use Rattle.loc_traps.proofs.map.Traps.cut_along.Goals as goal
 
 pub returns-clause-ok : goal.returns-clause-ok

@@ -1,11 +1,7 @@
 use Rattle.std.proofs.Common.{◌≡◌, ℕ, ◌-◌, ◌<◌, length, refl, subst, true, false, List, [], ◌∷◌, ◌++◌, ap, ◌∙◌, sym}
-use Rattle.loc_spec_plane.specs.declared.Trap.{Trap}
+use Rattle.loc_spec_plane.specs.{declared.Trap.Trap, Tables.hi_of}
 use Rattle.std.specs.Prelude.{None, Result, Ok, Err, OnOk}
-use Rattle.loc_traps.specs.declared.walk.Start.{Start}
-use Rattle.loc_traps.specs.declared.walk.Cut.{Cut}
-use Rattle.loc_spec_plane.specs.Tables.{hi_of}
-use Rattle.loc_traps.specs.Meaning.{row_of}
-use Rattle.loc_traps.specs.Walks.{IsWalk}
+use Rattle.loc_traps.specs.{declared.walk.Start.Start, declared.walk.Cut.Cut, Meaning.row_of, Walks.IsWalk}
 use Rattle.loc_traps.proofs.Walking.{Walking, left_number}
 use Rattle.loc_traps.proofs.Going.{starts_there, ends_there, corner_there, is_named, found, falls, is_below_there, goes_there}
 use Rattle.loc_traps.proofs.walk.Walk.follow.Goals as goal

@@ -1,15 +1,9 @@
-use Rattle.std.proofs.Common.{length, ap, arith}
+use Rattle.std.proofs.{Common.length, Common.ap, Common.arith, lemmas.Bool.and_parts, lemmas.Bool.ltb-true}
 use Rattle.std.specs.Prelude.{Ok, Some, None}
-use Rattle.std.proofs.lemmas.Bool.{and_parts, ltb-true}
-use Rattle.loc_place.proofs.FoundPlace.{place_is_found}
-use Rattle.loc_spec_plane.specs.Points.{Point}
-use Rattle.loc_spec_plane.specs.Tables.{Table}
-use Rattle.loc_spec_plane.specs.Places.{IsPlace}
-use Rattle.loc_spec_plane.specs.declared.Place.{Place}
+use Rattle.loc_place.proofs.{FoundPlace.place_is_found, SearchBounds.both_within, SearchBounds.within_most}
+use Rattle.loc_spec_plane.specs.{Points.Point, Tables.Table, Places.IsPlace, declared.Place.Place}
 use Rattle.loc_spec_plane.specs.declared.Place.TheVariants.{Corner, Border, Area}
-use Rattle.loc_place.specs.Answers.{IsInRange}
-use Rattle.loc_place.specs.Steps.{alive_count}
-use Rattle.loc_place.proofs.SearchBounds.{both_within, within_most}
+use Rattle.loc_place.specs.{Answers.IsInRange, Steps.alive_count}
 use Rattle.loc_place.proofs.ListCounts.{alive_few}
 use Rattle.loc_treeidx.proofs.tree_index.TreeIndexLocator.locate.Goals as goal
 

@@ -1,14 +1,11 @@
 use Rattle.std.proofs.Common.{◌≡◌, ℕ, ◌<◌, Bool, true, None, ap, sym, subst, length}
 use Rattle.std.specs.List.{All}
 use Rattle.loc_persist.specs.Meaning.{VersionsMeaning, present_nodes}
-use Rattle.loc_spec_plane.specs.Points.{is_above}
-use Rattle.loc_spec_plane.specs.Tables.{corner, edge}
+use Rattle.loc_spec_plane.specs.{Points.is_above, Tables.corner, Tables.edge}
 use Rattle.loc_laws_order.specs.Laws.{last_that}
 use Rattle.loc_status.specs.Lists.{is_chain_at}
-use Rattle.loc_status.proofs.Ends.{last_found}
-use Rattle.loc_status.proofs.Standing.{chain_in_range, none_above_later}
-use Rattle.loc_treeidx.proofs.Descents.{below_there}
-use Rattle.loc_treeidx.proofs.Ways.{never_stops, way_end, way_search}
+use Rattle.loc_status.proofs.{Ends.last_found, Standing.chain_in_range, Standing.none_above_later}
+use Rattle.loc_treeidx.proofs.{Descents.below_there, Ways.never_stops, Ways.way_end, Ways.way_search}
 use Rattle.loc_treeidx.proofs.tree_index.TreeIndexStatus.floor.Goals as goal
 
 pub walk_to-way-requires-clause-in_range : goal.walk_to-way-requires-clause-in_range

@@ -1,6 +1,5 @@
 -- The chain has fewer edges than the table, so there is room for one more.
-use Rattle.std.proofs.Common.{length, ap, arith}
-use Rattle.std.proofs.lemmas.Bool.{not-true}
+use Rattle.std.proofs.{Common.length, Common.ap, Common.arith, lemmas.Bool.not-true}
 use Rattle.loc_spec_plane.specs.Tables.{corner, lo_of}
 use Rattle.loc_persist.specs.Meaning.{VersionsMeaning}
 use Rattle.loc_treeidx.proofs.Changes.{chain_has_room, stands_beside}

@@ -1,9 +1,6 @@
 use Rattle.std.proofs.Common.{◌∙◌, ◌&&◌, [], inl, inr, refl, sym, rules, arith, ap, ap₂, ◌-◌, take, drop, length, length-take}
-use Rattle.std.specs.Char.{is_ascii_digit}
-use Rattle.std.specs.List.{list_all}
-use Rattle.std.specs.Str.Parse.{digits_value}
-use Rattle.std.proofs.lemmas.List.{append-nil, take_rest}
-use Rattle.std.proofs.lemmas.List.Folds.{list_all-append}
+use Rattle.std.specs.{Char.is_ascii_digit, List.list_all, Str.Parse.digits_value}
+use Rattle.std.proofs.{lemmas.List.append-nil, lemmas.List.take_rest, lemmas.List.Folds.list_all-append}
 use Rattle.loc_wkt.proofs.ShortNumbers.{point_front, room_less}
 use Rattle.loc_wkt.proofs.grid_numbers.short.front_of.Goals as goal
 

@@ -1,8 +1,7 @@
 use Rattle.std.proofs.Common.{◌≡◌, ◌∙◌, ◌+◌, ◌-◌, ◌*◌, ◌&&◌, rules, arith, ap, ap₂, length, get_or, true}
 use Rattle.std.specs.Char.{is_ascii_digit}
 use Rattle.std.proofs.lemmas.List.Folds.{list_all_more}
-use Rattle.loc_wkt.proofs.DigitLemmas.{digit_behind}
-use Rattle.loc_wkt.proofs.ShortNumbers.{room_more, room_now}
+use Rattle.loc_wkt.proofs.{DigitLemmas.digit_behind, ShortNumbers.room_more, ShortNumbers.room_now}
 use Rattle.loc_wkt.proofs.grid_numbers.short.leading_digits.Goals as goal
 use Rattle.loc_spec_text.proofs.DigitLaws.{digit_range}
 

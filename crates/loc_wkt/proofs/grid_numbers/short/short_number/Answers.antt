@@ -1,7 +1,6 @@
 use Rattle.std.proofs.Common.{◌≡◌, ◌∙◌, ◌-◌, ◌+◌, ℕ, arith, ap, ap₂, sym, subst, drop, length, true, Some, length-take}
 use Rattle.std.proofs.lemmas.List.{take_rest}
-use Rattle.loc_spec_text.specs.Geometry.{ends_symbol, symbols}
-use Rattle.loc_spec_text.specs.Number.{unsigned}
+use Rattle.loc_spec_text.specs.{Geometry.ends_symbol, Geometry.symbols, Number.unsigned}
 use Rattle.loc_wkt.specs.ShortNumbers.{IsFront}
 use Rattle.loc_wkt.proofs.ShortNumbers.{IsPlain, few_places, front_number, front_symbol, front_widened}
 use Rattle.loc_wkt.proofs.grid_numbers.short.short_number.Goals as goal
@@ -45,6 +44,3 @@ returns-in_err-front-clause-found c = rw c.from_residual.ensures tt
 
 pub returns-in_err-front-clause-shorter : goal.returns-in_err-front-clause-shorter
 returns-in_err-front-clause-shorter c = rw c.from_residual.ensures tt
-
-pub returns-in_err-front-clause-within : goal.returns-in_err-front-clause-within
-returns-in_err-front-clause-within c = rw c.from_residual.ensures tt

@@ -1,7 +1,6 @@
 use Rattle.std.proofs.Common.{rules, arith, ◌≡◌, ◌∙◌, ◌+◌, ◌∷◌, ℕ, List, sym, ap, length, get_or, true, false}
 use Rattle.loc_spec_text.specs.Number.{is_number}
-use Rattle.loc_wkt.specs.TokenList.{longest_to, longest}
-use Rattle.loc_wkt.specs.TokenParts.{completes}
+use Rattle.loc_wkt.specs.{TokenList.longest_to, TokenList.longest, TokenParts.completes}
 use Rattle.loc_wkt.proofs.TokenLongest.{IsRead, read_next, scan_stops, read_whole, longest_to-next}
 use Rattle.loc_wkt.proofs.tokens.lengths.number_length.Goals as goal
 use Rattle.loc_wkt.proofs.tokens.lengths.number_length.Goals.{then-may_end, else-may_end}

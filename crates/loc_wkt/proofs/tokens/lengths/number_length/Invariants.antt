@@ -1,7 +1,6 @@
 use Rattle.std.proofs.Common.{◌≡◌, ℕ, List, ◌++◌, take}
 use Rattle.loc_spec_text.specs.Number.{is_number}
-use Rattle.loc_wkt.specs.TokenList.{longest_to}
-use Rattle.loc_wkt.specs.TokenParts.{completes}
+use Rattle.loc_wkt.specs.{TokenList.longest_to, TokenParts.completes}
 use Rattle.loc_wkt.proofs.tokens.lengths.number_length.Given as goal
 
 abbrev pub invariant-loop-i : goal.invariant-loop-i

@@ -2,8 +2,7 @@ use Rattle.std.proofs.Common.{arith, ◌∙◌}
 use Rattle.std.proofs.lemmas.List.Sums.{prefix_len-le-length}
 use Rattle.std.specs.Char.{is_ascii_alphabetic}
 use Rattle.loc_spec_text.specs.Number.{is_number}
-use Rattle.loc_wkt.proofs.TokenFront.{token_word, token_other}
-use Rattle.loc_wkt.proofs.TokenLongest.{longest-holds}
+use Rattle.loc_wkt.proofs.{TokenFront.token_word, TokenFront.token_other, TokenLongest.longest-holds}
 use Rattle.loc_wkt.proofs.tokens.lengths.token_length.Goals as goal
 
 pub returns-then-word-gt0-clause-within : goal.returns-then-word-gt0-clause-within

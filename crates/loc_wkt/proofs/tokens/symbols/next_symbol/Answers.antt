@@ -1,8 +1,7 @@
 use Rattle.std.proofs.Common.{arith, ◌∙◌, ◌∷◌, sym, ap, ap₂, refl}
 use Rattle.std.proofs.lemmas.List.{take_rest}
 use Rattle.loc_spec_text.specs.Geometry.{symbols, symbol_of}
-use Rattle.loc_wkt.proofs.FirstSymbol.{no_symbol, symbols_behind}
-use Rattle.loc_wkt.proofs.TokenTurns.{turn_starts}
+use Rattle.loc_wkt.proofs.{FirstSymbol.no_symbol, FirstSymbol.symbols_behind, TokenTurns.turn_starts}
 use Rattle.loc_wkt.proofs.tokens.symbols.next_symbol.Goals as goal
 
 pub returns-then-white-text-clause-none : goal.returns-then-white-text-clause-none

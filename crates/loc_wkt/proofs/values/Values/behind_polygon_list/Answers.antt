@@ -1,6 +1,5 @@
 use Rattle.std.proofs.Common.{◌∙◌, refl, rules, []}
-use Rattle.loc_spec_text.specs.Geometry.{symbols}
-use Rattle.loc_spec_text.specs.Reader.{list_at}
+use Rattle.loc_spec_text.specs.{Geometry.symbols, Reader.list_at}
 use Rattle.loc_wkt.specs.Lists.{listed_at, wide_polygon_at}
 use Rattle.loc_wkt.proofs.ListLemmas.{list_empty, list_none, list_open}
 use Rattle.loc_wkt.proofs.PassLemmas.{if_err, if_ok, unread}

@@ -1,10 +1,8 @@
 use Rattle.std.proofs.Common.{◌∙◌, ap, Some, refl, arith}
 use Rattle.loc_spec_text.specs.Geometry.{symbols}
-use Rattle.loc_wkt.specs.Lists.{wide_polygon_at}
-use Rattle.loc_wkt.specs.Passes.{after_polygon}
+use Rattle.loc_wkt.specs.{Lists.wide_polygon_at, Passes.after_polygon}
 use Rattle.loc_wkt.proofs.ListLemmas.{polygon_takes}
-use Rattle.loc_wkt.proofs.LoopLemmas.{list_breaks, list_ends, list_goes_on}
-use Rattle.loc_wkt.proofs.PassLemmas.{less_room}
+use Rattle.loc_wkt.proofs.{LoopLemmas.list_breaks, LoopLemmas.list_ends, LoopLemmas.list_goes_on, PassLemmas.less_room}
 use Rattle.loc_wkt.proofs.values.Values.behind_polygons.Goals as goal
 
 pub returns-in_default-clause-err : goal.returns-in_default-clause-err

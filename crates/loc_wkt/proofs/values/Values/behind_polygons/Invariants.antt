@@ -1,6 +1,5 @@
 use Rattle.std.proofs.Common.{length}
-use Rattle.loc_wkt.specs.Lists.{wide_polygon_at}
-use Rattle.loc_wkt.specs.Passes.{after_polygon}
+use Rattle.loc_wkt.specs.{Lists.wide_polygon_at, Passes.after_polygon}
 use Rattle.loc_wkt.proofs.LoopLemmas.{IsListSoFar}
 use Rattle.loc_wkt.proofs.values.Values.behind_polygons.Given as goal
 

@@ -1,6 +1,5 @@
 use Rattle.std.proofs.Common.{◌∙◌, refl, arith, ap, length, sym}
-use Rattle.loc_spec_text.specs.Geometry.{symbols}
-use Rattle.loc_spec_text.specs.Reader.{wide_point_at}
+use Rattle.loc_spec_text.specs.{Geometry.symbols, Reader.wide_point_at}
 use Rattle.loc_wkt.specs.Lists.{listed_at, wide_ring_at}
 use Rattle.loc_wkt.proofs.ListLemmas.{enclosed_none, enclosed_open}
 use Rattle.loc_wkt.proofs.PassLemmas.{points_keep, points_keep_rings, ring_kept, ring_room, ring_started, unread_handed, not_err}

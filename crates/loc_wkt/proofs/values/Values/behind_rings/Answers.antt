@@ -1,9 +1,7 @@
 use Rattle.std.proofs.Common.{◌∙◌, ap, Some, refl, arith}
 use Rattle.loc_spec_text.specs.Geometry.{symbols}
-use Rattle.loc_wkt.specs.Lists.{wide_ring_at}
-use Rattle.loc_wkt.specs.Passes.{after_ring}
-use Rattle.loc_wkt.proofs.ListLemmas.{ring_takes}
-use Rattle.loc_wkt.proofs.LoopLemmas.{list_breaks, list_ends, list_goes_on}
+use Rattle.loc_wkt.specs.{Lists.wide_ring_at, Passes.after_ring}
+use Rattle.loc_wkt.proofs.{ListLemmas.ring_takes, LoopLemmas.list_breaks, LoopLemmas.list_ends, LoopLemmas.list_goes_on}
 use Rattle.loc_wkt.proofs.PassLemmas.{less_room}
 use Rattle.loc_wkt.proofs.values.Values.behind_rings.Goals as goal
 

@@ -1,4 +1,4 @@
-use Rattle.std.proofs.Common.{rules, arith, refl, ◌∙◌}
+use Rattle.std.proofs.Common.{◌≤◌, rules, arith, refl, subst, sym, ◌∙◌}
 use Rattle.loc_spec_text.specs.Geometry.{symbols, two}
 use Rattle.loc_wkt.specs.NumberTexts.{text_of}
 use Rattle.loc_wkt.proofs.FrontLemmas.{at_none}
@@ -42,3 +42,9 @@ pub returns-in-Some-clause-room : goal.returns-in-Some-clause-room
 returns-in-Some-clause-room c = wide_room c.value-2.new.self c.in_ok-y.rest.now c.in-Some.behind.now
     (point_room c.args.self.now c.value.new.self c.value-2.new.self (text_of c.in_ok-x.x) (text_of c.in_ok-y.y) c.value.ensures.counted c.value-2.ensures.counted
     c.args.text.now c.in_ok-y.rest.now c.requires.room (omega (arith, c.in_ok-x.ensures.shorter, c.in_ok-y.ensures.shorter))) (omega (arith, c.in-Some.ensures.shorter))
+
+pub value-requires-clause-room : goal.value-requires-clause-room
+value-requires-clause-room c = omega (arith, c.requires.room.numbers)
+
+pub value-requires-2-clause-scale : goal.value-requires-2-clause-scale
+value-requires-2-clause-scale c = subst (λ v. v.scale ≤ 15) (sym c.value.ensures.counted) c.requires.room.scale

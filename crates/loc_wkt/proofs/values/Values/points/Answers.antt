@@ -1,11 +1,8 @@
 use Rattle.std.proofs.Common.{◌≡◌, ◌<◌, length, ◌∷◌, ◌++◌, ◌∙◌, ap, Some, [], refl, rules, arith, subst, List, sym, map, None}
 use Rattle.std.specs.List.{fold}
 use Rattle.loc_spec_plane.specs.Points.{Point}
-use Rattle.loc_spec_text.specs.Geometry.{symbols}
-use Rattle.loc_spec_text.specs.Reader.{wide_point_at}
-use Rattle.loc_wkt.specs.Fronts.{goes_on_at}
-use Rattle.loc_wkt.specs.Lists.{IsRead, listed_at}
-use Rattle.loc_wkt.specs.Passes.{after_point, point_or_zero}
+use Rattle.loc_spec_text.specs.{Geometry.symbols, Reader.wide_point_at}
+use Rattle.loc_wkt.specs.{Fronts.goes_on_at, Lists.IsRead, Lists.listed_at, Passes.after_point, Passes.point_or_zero}
 use Rattle.loc_wkt.proofs.LoopLemmas.{ArePointsSoFar, list_stops, points_begin, points_break, points_end, points_go_on}
 use Rattle.loc_wkt.proofs.PassLemmas.{less_room}
 use Rattle.loc_wkt.proofs.values.Values.points.Goals as goal

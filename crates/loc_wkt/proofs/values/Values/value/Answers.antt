@@ -1,7 +1,6 @@
-use Rattle.loc_wkt.specs.Passes.{counted}
+use Rattle.loc_wkt.specs.{Passes.counted, NumberTexts.text_of}
 use Rattle.std.proofs.Common.{◌+◌, ◌∙◌, ap}
 use Rattle.loc_spec_text.specs.Bytes.{or_else}
-use Rattle.loc_wkt.specs.NumberTexts.{text_of}
 use Rattle.loc_wkt.proofs.values.Values.value.Goals as goal
 
 pub returns-clause-counted : goal.returns-clause-counted
