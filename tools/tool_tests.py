@@ -42,6 +42,19 @@ class Rows:
         sys.exit(1 if self.failed else 0)
 
 
+def numbers(about, *usual):
+    """The whole numbers behind the name of a test, with the usual ones where they are left out. The test ends where it is asked for help, or given other words."""
+    given = sys.argv[1:]
+    if given in (["-h"], ["--help"]):
+        print(about.strip())
+        sys.exit()
+    if len(given) > len(usual) or not all(word.isascii() and word.isdecimal() for word in given):
+        most = f"at most {len(usual)} whole number{'s' if len(usual) > 1 else ''}" if usual else "no words"
+        print(f"{Path(sys.argv[0]).name}: it takes {most} (--help tells the words)", file=sys.stderr)
+        sys.exit(2)
+    return [*map(int, given), *usual[len(given):]]
+
+
 def run(tool, *words, given=b"", **how):
     """The status of a tool, and what it writes on standard output and on standard error."""
     streams = {"stdout": subprocess.PIPE, "stderr": subprocess.PIPE, **how}

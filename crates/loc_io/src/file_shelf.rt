@@ -51,12 +51,12 @@ impl<R: Files + Drop> Shelf for FileShelf<R> {
     {
         self.counts.note_call();
         self.trace.note(&[], name.as_bytes());
-        match fs::open(&self.rt, name) {
-            Ok(file) => {
+        match fs::open(&self.rt, name).ok() {
+            Some(file) => {
                 self.reading = Some(file);
                 Ok(())
             }
-            Err(_) => Err(self.counts.read_faults.count_one()),
+            None => Err(self.counts.read_faults.count_one()),
         }
     }
 
@@ -68,13 +68,17 @@ impl<R: Files + Drop> Shelf for FileShelf<R> {
         ensures making { file_in_making self.new ≡ file_in_making self.old }
     {
         self.counts.note_call();
-        if let Some(file) = &mut self.reading {
-            if let Ok(n) = file.read(into) {
+        let taken = match &mut self.reading {
+            Some(file) => file.read(into).ok(),
+            None => None,
+        };
+        match taken {
+            Some(n) => {
                 self.trace.note(&[n as u64], &[]);
-                return Ok(n);
+                Ok(n)
             }
+            None => Err(self.counts.read_faults.count_one()),
         }
-        Err(self.counts.read_faults.count_one())
     }
 
     // The file that is being read stays as it is.
@@ -84,12 +88,12 @@ impl<R: Files + Drop> Shelf for FileShelf<R> {
         ensures making { OnErr result (file_in_making self.new ≡ file_in_making self.old) }
     {
         self.counts.note_call();
-        match fs::create(&self.rt, name) {
-            Ok(file) => {
+        match fs::create(&self.rt, name).ok() {
+            Some(file) => {
                 self.writing = Some(file);
                 Ok(())
             }
-            Err(_) => Err(self.counts.write_faults.count_one()),
+            None => Err(self.counts.write_faults.count_one()),
         }
     }
 
@@ -101,14 +105,14 @@ impl<R: Files + Drop> Shelf for FileShelf<R> {
         ensures reading { file_taken_up self.new ≡ file_taken_up self.old }
     {
         self.counts.note_call();
-        if let Some(file) = &mut self.writing {
-            if let Ok(n) = file.write(piece) {
-                if n > 0 {
-                    return Ok(n);
-                }
-            }
+        let taken = match &mut self.writing {
+            Some(file) => file.write(piece).ok(),
+            None => None,
+        };
+        match taken {
+            Some(n) if n > 0 => Ok(n),
+            _ => Err(self.counts.write_faults.count_one()),
         }
-        Err(self.counts.write_faults.count_one())
     }
 
     // The file is closed where it is dropped. Nothing was held back from it.

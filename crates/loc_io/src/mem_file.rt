@@ -1,5 +1,5 @@
 //! Files that are kept in memory, each a name and its bytes.
-ghost use Rattle.std.specs.Prelude.{◌≡◌, IsTrue, false, OnOk, OnErr, option_map, length, take, drop, [], ◌<◌, ◌≤◌};
+ghost use Rattle.std.specs.Prelude.{◌≡◌, IsTrue, false, OnOk, OnErr, IfSome, Some, option_map, length, take, drop, [], ◌<◌, ◌≤◌};
 ghost use Rattle.std.specs.List.{position};
 ghost use Rattle.loc_io.specs.Files.{file_of, is_named, Puts, Grows, KeepsAll};
 
@@ -29,6 +29,13 @@ pub(crate) fn bytes_of<'a>(files: &'a [MemFile], name: &str) -> Option<&'a [u8]>
         }
     }
     None
+}
+
+// A copy of the bytes of the first file with this name, if there is one and memory was found.
+pub(crate) fn copy_of(alloc: Global, files: &[MemFile], name: &str) -> Option<Vec<u8>>
+    ensures { IfSome result (λ bytes. file_of files.now name.now ≡ Some bytes.items) }
+{
+    bytes_of(files, name)?.to_vec(alloc).ok()
 }
 
 // Puts these bytes under the name, in place of those that are there.

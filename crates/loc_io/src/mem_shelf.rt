@@ -6,7 +6,7 @@ ghost use Rattle.loc_io.specs.Meaning.{PutsFile, IsFresh, TakesUp, Reads, Create
 
 use crate::fail_list::FailList;
 use crate::failed::CallCounts;
-use crate::mem_file::{MemFile, append, bytes_of, copy_front, put};
+use crate::mem_file::{MemFile, append, bytes_of, copy_front, copy_of, put};
 use crate::trace::Trace;
 use crate::{Failed, Shelf};
 use std::alloc::{AllocError, Global};
@@ -80,19 +80,20 @@ impl Shelf for MemShelf {
     {
         self.counts.note_call();
         self.trace.note(&[], name.as_bytes());
-        if self.fail.next_fails() {
-            return Err(self.counts.read_faults.count_one());
+        let found = if self.fail.next_fails() {
+            None
+        } else {
+            copy_of(self.alloc, &self.files, name)
+        };
+        match found {
+            Some(bytes) => {
+                self.rest = bytes;
+                self.at = 0;
+                self.is_open = true;
+                Ok(())
+            }
+            None => Err(self.counts.read_faults.count_one()),
         }
-        let Some(bytes) = bytes_of(&self.files, name) else {
-            return Err(self.counts.read_faults.count_one());
-        };
-        let Ok(copy) = bytes.to_vec(self.alloc) else {
-            return Err(self.counts.read_faults.count_one());
-        };
-        self.rest = copy;
-        self.at = 0;
-        self.is_open = true;
-        Ok(())
     }
 
     fn read(&mut self, into: &mut [u8]) -> Result<usize, Failed>

@@ -2,20 +2,26 @@
 //! behind it, and has to be what the file `stdout` beside src/ has.
 //!
 //! `row NAME` begins a row, over a shelf without files. The steps of `making` and `shapes` make files, those of `playing` and `failing` run words:
-//! behind `|` stands what is left on out, behind `!` what is left on notes. A line without a step, or that begins with `#`, is a remark.
+//! behind `|` stands what is left on out, behind `!` what is left on notes. `ask` asks what no run shows. A line without a step, or that begins
+//! with `#`, is a remark.
 #![tactic(auto)]
 
+mod asked;
 mod escapes;
 mod failing;
 mod hostile;
 mod making;
 mod page;
+mod places;
 mod playing;
 mod runs;
 mod shapes;
 mod stage;
+mod steady;
+mod versions;
 mod watched;
 
+use crate::asked::ask;
 use crate::failing::{failing, pieces};
 use crate::making::{cut, make};
 use crate::page::Page;
@@ -28,7 +34,7 @@ use std::process::ExitCode;
 use std::{fs, io};
 
 // The files of rows, in the order in which they are played.
-const FILES: [&str; 15] = [
+const FILES: [&str; 16] = [
     "layers.rows",
     "words.rows",
     "faces.rows",
@@ -44,6 +50,7 @@ const FILES: [&str; 15] = [
     "pieces.rows",
     "limits.rows",
     "generated.rows",
+    "asked.rows",
 ];
 
 // Plays a step.
@@ -58,6 +65,7 @@ fn play(page: &mut Page, stage: &mut Stage, verb: &str, rest: &str) {
         "equal" => equal(page, stage, rest),
         "failing" => failing(page, stage, rest),
         "pieces" => pieces(page, stage, rest),
+        "ask" => ask(page, stage, rest),
         _ => make(page, stage, verb, rest),
     }
 }

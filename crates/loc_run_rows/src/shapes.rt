@@ -48,14 +48,6 @@ fn put_within(page: &mut Page, count: u64)
     page.put(")\n");
 }
 
-// So many squares apart from each other, four in a column.
-fn put_squares(page: &mut Page, count: u64) {
-    for n in 0..count {
-        let (x, y) = (3 * (n / 4), 3 * (n % 4));
-        put_rectangle(page, (x, y), (x + 2, y + 2));
-    }
-}
-
 // A ring of so many steps along a line, and back in one.
 fn put_steps(page: &mut Page, count: u64)
     requires { count < 2 ^ 32 }
@@ -107,7 +99,6 @@ fn put_shape(page: &mut Page, verb: &str, count: u64, shift: &str)
     match verb {
         "nested" => put_nested(page, count),
         "within" => put_within(page, count),
-        "squares" => put_squares(page, count),
         "turns" => {
             put_steps(page, count);
             put_turns(page, count);
@@ -121,8 +112,7 @@ fn put_shape(page: &mut Page, verb: &str, count: u64, shift: &str)
     }
 }
 
-/// Makes a file by a step: `nested NAME COUNT`, `within NAME COUNT`, `squares NAME COUNT` and `turns NAME COUNT` a layer, `points NAME COUNT SHIFT` and
-/// `grid NAME` points.
+/// Makes a file by a step: `nested NAME COUNT`, `within NAME COUNT` and `turns NAME COUNT` a layer, `points NAME COUNT SHIFT` and `grid NAME` points.
 pub(crate) fn shape(page: &mut Page, alloc: Global, verb: &str, rest: &str) {
     let (count, shift) = cut(rest);
     let count = if verb == "grid" {

@@ -1,0 +1,61 @@
+//! Steps of a row that ask what no command shows and no clause says.
+
+ghost use Rattle.std.specs.Prelude.{◌≡◌, ◌<◌};
+
+use crate::escapes::put_unescaped;
+use crate::making::cut;
+use crate::page::Page;
+use crate::places::place;
+use crate::stage::Stage;
+use crate::steady::steady;
+use crate::versions::nodes;
+use loc_top::Steps;
+use loc_wkt::Tokens;
+use std::alloc::Global;
+use std::marker::Brand;
+use std::mem;
+use std::sync::ledger::{Blank, Ledger};
+
+// `ask tokens TEXT`: where the tokens of a text begin and end.
+fn tokens(page: &mut Page, alloc: Global, text: &str) {
+    page.made.clear();
+    put_unescaped(page, text);
+    let text = mem::replace(&mut page.made, Vec::new(alloc));
+    for token in Tokens::new(&text) {
+        let start = token.start;
+        let length = token.text.len();
+        let done = write!(page.text, "{length} bytes at {start}, ");
+        page.note(done.is_err());
+    }
+    page.put("no more\n");
+}
+
+// How many bytes a counter of steps has.
+fn counter_size<L: Ledger>(blank: Blank) -> usize
+    requires name { blank.name ≡ L.name }
+    requires parts { blank.parts ≡ L.parts }
+    requires some { 0 < L.parts }
+{
+    let _steps = Steps::<L>::new(blank);
+    size_of::<Steps<L>>()
+}
+
+// `ask counter`: how many bytes a counter of steps has.
+fn counter(page: &mut Page) {
+    let size = counter_size::<Brand>(Blank::new(1));
+    let done = writeln!(page.text, "{size} bytes");
+    page.note(done.is_err());
+}
+
+/// `ask tokens TEXT`, `ask place LAYER X Y`, `ask nodes`, `ask steady` or `ask counter`.
+pub(crate) fn ask(page: &mut Page, stage: &mut Stage, line: &str) {
+    let (asked, rest) = cut(line);
+    match asked {
+        "tokens" => tokens(page, stage.alloc, rest),
+        "place" => place(page, stage, rest),
+        "nodes" => nodes(page, stage.alloc),
+        "steady" => steady(page, stage.alloc),
+        "counter" => counter(page),
+        _ => page.refuse(),
+    }
+}
