@@ -1,5 +1,5 @@
 -- The written text by the parts in which it is put: a ring closed by its first corner.
-use Rattle.std.proofs.Common.{◌≡◌, ℕ, List, [], ◌∷◌, ◌++◌, map, refl, sym, ◌∙◌, ap, append_assoc, append-nil, codes, ◌+◌}
+use Rattle.std.proofs.Common.{◌≡◌, ℕ, List, [], ◌∷◌, ◌++◌, map, refl, sym, ◌∙◌, ap, append_assoc, append-nil, codes}
 use Rattle.std.specs.List.{flat_map}
 use Rattle.loc_spec_plane.specs.{Points.Point, Rings.Ring}
 use Rattle.loc_spec_text.specs.{Bytes.Text, Points.position_text, Points.quoted_byte}

@@ -1,5 +1,5 @@
 -- The parts of a written layer. The word: `closed_text`.
-use Rattle.std.specs.Prelude.{ℕ, List, [], ◌∷◌, ◌++◌, codes}
+use Rattle.std.specs.Prelude.{ℕ, [], ◌∷◌, ◌++◌, codes}
 use Rattle.std.specs.List.{flat_map}
 use Rattle.loc_spec_plane.specs.Rings.{Ring}
 use Rattle.loc_spec_text.specs.{Bytes.Text, Points.position_text}

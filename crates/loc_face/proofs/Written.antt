@@ -1,5 +1,5 @@
 -- The text of the face above a floor, as it is written, and the lines that refuse a point.
-use Rattle.std.proofs.Common.{◌≡◌, ℕ, ◌+◌, ◌*◌, ◌<◌, ◌≤◌, Option, Some, None, Result, Ok, refl, sym, ◌∙◌, ap, subst, arith}
+use Rattle.std.proofs.Common.{◌≡◌, ℕ, ◌+◌, ◌*◌, ◌<◌, ◌≤◌, Option, Some, None, Result, Ok, sym, ◌∙◌, ap, subst, arith}
 use Rattle.loc_spec_text.specs.{Bytes.Text, Points.ended, Points.point_of}
 use Rattle.loc_io.specs.{Meaning.Meaning, Streams.Stream}
 use Rattle.loc_spec_plane.specs.{declared.Place.Place, Points.Point, Tables.Table, Faces.face_above, Faces.face_count}

@@ -1,5 +1,5 @@
 -- The rows of a legend whose touching features are those of the marks are those of a content.
-use Rattle.std.proofs.Common.{◌≡◌, ℕ, ◌<◌, true, List, [], length, get_or, Option, arith}
+use Rattle.std.proofs.Common.{◌≡◌, ℕ, ◌<◌, true, List, [], length, get_or, Option}
 use Rattle.std.specs.Prelude.{nat_lt}
 use Rattle.std.proofs.lemmas.List.FromFn.{fill_by_all}
 use Rattle.loc_spec_plane.specs.{Covers.feature_count, Covers.has_at, Lists.IsRisingListOf}

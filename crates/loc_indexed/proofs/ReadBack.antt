@@ -1,6 +1,6 @@
 -- What was read is what the bytes read as, and bytes that were refused have the fault that they read as.
-use Rattle.std.proofs.Common.{◌≡◌, ℕ, true, false, not, List, [], ◌∷◌, ◌++◌, take, drop, Some, Ok, Err, refl, sym, ◌∙◌, ap, subst, arith, ◌==◌}
-use Rattle.std.specs.Prelude.{Result, codes}
+use Rattle.std.proofs.Common.{◌≡◌, ℕ, List, Some, Ok, Err, refl, sym, subst}
+use Rattle.std.specs.Prelude.{Result}
 use Rattle.loc_spec_text.specs.Points.{ended}
 use Rattle.loc_spec_index.specs.{declared.IndexFault.IndexFault, Content.Content, IndexFile.HasFault}
 use Rattle.loc_spec_index.specs.declared.IndexFault.TheVariants as f

@@ -22,10 +22,8 @@ fn tokens(page: &mut Page, alloc: Global, text: &str) {
     put_unescaped(page, text);
     let text = mem::replace(&mut page.made, Vec::new(alloc));
     for token in Tokens::new(&text) {
-        let start = token.start;
-        let length = token.text.len();
-        let done = write!(page.text, "{length} bytes at {start}, ");
-        page.note(done.is_err());
+        page.put_count(token.text.len() as u64, " bytes at ");
+        page.put_count(token.start as u64, ", ");
     }
     page.put("no more\n");
 }
@@ -42,9 +40,7 @@ fn counter_size<L: Ledger>(blank: Blank) -> usize
 
 // `ask counter`: how many bytes a counter of steps has.
 fn counter(page: &mut Page) {
-    let size = counter_size::<Brand>(Blank::new(1));
-    let done = writeln!(page.text, "{size} bytes");
-    page.note(done.is_err());
+    page.put_count(counter_size::<Brand>(Blank::new(1)) as u64, " bytes\n");
 }
 
 /// `ask tokens TEXT`, `ask place LAYER X Y`, `ask nodes`, `ask steady` or `ask counter`.

@@ -38,22 +38,17 @@ fn front_of_made(whole: Option<&[u8]>, made: Option<&[u8]>) -> &'static str {
 
 // Prints which calls fail, and the status.
 fn show_faults(page: &mut Page, faults: Faults, status: u8) {
-    let Faults {
-        shelf,
-        out,
-        notes,
-        ..
-    } = faults;
-    let done = write!(page.text, "fail {shelf} {out} {notes}: status {status}, ");
-    page.note(done.is_err());
+    page.put("fail ");
+    page.put_count(faults.shelf, " ");
+    page.put_count(faults.out, " ");
+    page.put_count(faults.notes, ": status ");
+    page.put_count(u64::from(status), ", ");
 }
 
 // Prints how many calls of the shelf and of out a run made.
 fn show_calls(page: &mut Page, left: &Left) {
-    let calls = left.shelf.calls;
-    let writes = left.out.calls;
-    let done = write!(page.text, "{calls} calls of the shelf, {writes} of out; ");
-    page.note(done.is_err());
+    page.put_count(left.shelf.calls, " calls of the shelf, ");
+    page.put_count(left.out.calls, " of out; ");
 }
 
 // Prints what a fault left beside what a run without one left.
@@ -147,12 +142,12 @@ fn is_whole(words: &[String], whole: &Left, left: &Left) -> bool {
 
 // Prints whether all is left that the whole run leaves, where a call takes so many bytes at most.
 fn show_piece(page: &mut Page, words: &[String], whole: &Left, left: &Left, most: usize) {
-    let done = write!(page.text, "at most {most} bytes: ");
-    page.note(done.is_err());
+    page.put("at most ");
+    page.put_count(most as u64, " bytes: ");
     show_calls(page, left);
-    let is_same = is_whole(words, whole, left);
-    let done = writeln!(page.text, "the same: {is_same}");
-    page.note(done.is_err());
+    page.put("the same: ");
+    page.put_fact(is_whole(words, whole, left));
+    page.put("\n");
 }
 
 // Runs the words where a call takes so many bytes at most, and prints what is left, beside the whole run.

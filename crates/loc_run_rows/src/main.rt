@@ -107,8 +107,10 @@ const NO_COMMAND: &str = "query layer.wkt";
 fn show_refused(rt: &HostRuntime, page: &mut Page) {
     let words = words_of(page, rt.alloc(), NO_COMMAND);
     let status = status_of(rt, words.as_slice());
-    let done = writeln!(page.text, "# {NO_COMMAND}: status {status}");
-    page.note(done.is_err());
+    page.put("# ");
+    page.put(NO_COMMAND);
+    page.put(": status ");
+    page.put_count(u64::from(status), "\n");
     page.end();
 }
 

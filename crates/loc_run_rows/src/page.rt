@@ -63,6 +63,23 @@ impl Page {
         self.note(has_failed);
     }
 
+    /// Prints a number.
+    pub(crate) fn put_number(&mut self, number: u64) {
+        let has_failed = write!(self.text, "{number}").is_err();
+        self.note(has_failed);
+    }
+
+    /// Prints a number and a text behind it.
+    pub(crate) fn put_count(&mut self, number: u64, text: &str) {
+        self.put_number(number);
+        self.put(text);
+    }
+
+    /// Prints whether a fact holds.
+    pub(crate) fn put_fact(&mut self, holds: bool) {
+        self.put(if holds { "true" } else { "false" });
+    }
+
     /// Puts what another page has behind the bytes of the file that a step makes.
     pub(crate) fn take(&mut self, other: &Page) {
         if other.has_stopped() {

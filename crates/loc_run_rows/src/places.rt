@@ -49,8 +49,9 @@ fn found<I: Locator, L: Ledger>(
 
 // Prints how a point stands to a corner or an edge.
 fn show_one(page: &mut Page, how: &str, number: u32) {
-    let done = writeln!(page.text, "{how} {number}");
-    page.note(done.is_err());
+    page.put(how);
+    page.put(" ");
+    page.put_count(u64::from(number), "\n");
 }
 
 // Prints a place, if one was found.
@@ -71,8 +72,11 @@ fn show_conflict(page: &mut Page, a: u32, b: u32, meeting: Meeting) {
         Meeting::Touch => "touch",
         Meeting::Cross => "cross",
     };
-    let done = writeln!(page.text, "edges {a} and {b} {how}");
-    page.note(done.is_err());
+    page.put("edges ");
+    page.put_count(u64::from(a), " and ");
+    page.put_count(u64::from(b), " ");
+    page.put(how);
+    page.put("\n");
 }
 
 // Prints the place of a point by the lists that a sweep of a table keeps, or the two edges that it shows.

@@ -29,9 +29,8 @@ fn show(page: &mut Page, mark: &str, bytes: &[u8]) {
 // Prints what a run left on notes, and its status.
 fn show_end(page: &mut Page, left: &Left) {
     show(page, "! ", left.notes.sink.bytes());
-    let status = left.status;
-    let done = writeln!(page.text, "status {status}");
-    page.note(done.is_err());
+    page.put("status ");
+    page.put_count(u64::from(left.status), "\n");
 }
 
 // Prints what a run left.
@@ -43,8 +42,7 @@ fn show_left(page: &mut Page, left: &Left) {
 // Prints a number that an index has at a place, between two texts.
 fn show_number(page: &mut Page, index: &[u8], at: usize, name: &str) {
     let number = number_at(page, index, at);
-    let done = write!(page.text, "{number} {name}");
-    page.note(done.is_err());
+    page.put_count(u64::from(number), name);
 }
 
 // Prints the file that the last run has made, if there is one: its name, and what it says that it has.
@@ -54,10 +52,10 @@ fn show_made(page: &mut Page, stage: &mut Stage) {
         page.put("made ");
         page.put(stage.last_name());
         page.put(": ");
-        show_number(page, index, 16, "features, ");
-        show_number(page, index, 20, "corners, ");
-        show_number(page, index, 24, "edges, ");
-        show_number(page, index, 36, "nodes\n");
+        show_number(page, index, 16, " features, ");
+        show_number(page, index, 20, " corners, ");
+        show_number(page, index, 24, " edges, ");
+        show_number(page, index, 36, " nodes\n");
     }
 }
 
@@ -85,9 +83,9 @@ pub(crate) fn equal(page: &mut Page, stage: &Stage, line: &str) {
     let (name, other) = cut(line);
     let bytes = stage.bytes(page, name);
     let are_equal = bytes == stage.bytes(page, other);
-    let length = bytes.len();
-    let done = writeln!(page.text, "{length} bytes: {are_equal}");
-    page.note(done.is_err());
+    page.put_count(bytes.len() as u64, " bytes: ");
+    page.put_fact(are_equal);
+    page.put("\n");
 }
 
 // Prints how many lines begin with a word.
@@ -100,8 +98,9 @@ fn show_count(page: &mut Page, text: &[u8], word: &str) {
         }
         begins = text[at] == b'\n';
     }
-    let done = write!(page.text, "{count} {word}s, ");
-    page.note(done.is_err());
+    page.put_count(count, " ");
+    page.put(word);
+    page.put("s, ");
 }
 
 // Prints how many answers of each kind a text has, and how many bytes.
@@ -110,9 +109,7 @@ fn show_counts(page: &mut Page, out: &[u8]) {
     show_count(page, out, "corner");
     show_count(page, out, "border");
     show_count(page, out, "face");
-    let length = out.len();
-    let done = writeln!(page.text, "{length} bytes");
-    page.note(done.is_err());
+    page.put_count(out.len() as u64, " bytes\n");
 }
 
 /// `brief WORDS`: what they leave, of out no more than how many answers of each kind there are, and how many bytes.
@@ -137,7 +134,9 @@ pub(crate) fn copies(page: &mut Page, stage: &Stage, line: &str) {
         }
         found = found.saturating_add(1);
     }
-    let all_same = rest.is_empty();
-    let done = writeln!(page.text, "{found} copies of {count}: {all_same}");
-    page.note(done.is_err());
+    page.put_count(found, " copies of ");
+    page.put(count);
+    page.put(": ");
+    page.put_fact(rest.is_empty());
+    page.put("\n");
 }

@@ -10,8 +10,9 @@ use std::alloc::Global;
 fn put_ring(page: &mut Page, low: (u64, u64), high: (u64, u64)) {
     let mut before = "((";
     for (x, y) in [low, (high.0, low.1), high, (low.0, high.1), low] {
-        let done = write!(page.text, "{before}{x} {y}");
-        page.note(done.is_err());
+        page.put(before);
+        page.put_count(x, " ");
+        page.put_number(y);
         before = ", ";
     }
     page.put("))");
@@ -54,8 +55,8 @@ fn put_steps(page: &mut Page, count: u64)
 {
     page.put("POLYGON ((0 0");
     for x in 1..count + 1 {
-        let done = write!(page.text, ", {x} 0");
-        page.note(done.is_err());
+        page.put(", ");
+        page.put_count(x, " 0");
     }
     page.put(", 0 0))\n");
 }
@@ -64,8 +65,8 @@ fn put_steps(page: &mut Page, count: u64)
 fn put_turns(page: &mut Page, count: u64) {
     page.put("POLYGON ((0 0");
     for _ in 1..count {
-        let done = write!(page.text, ", {count} 0, 0 0");
-        page.note(done.is_err());
+        page.put(", ");
+        page.put_count(count, " 0, 0 0");
     }
     page.put("))\n");
 }
@@ -78,8 +79,8 @@ fn put_points(page: &mut Page, count: u64, shift: u64)
     for t in 0..count {
         let x = shift + t * 40503 % (4 * count);
         let y = t * 25173 % (2 * count);
-        let done = writeln!(page.text, "{x} {y}");
-        page.note(done.is_err());
+        page.put_count(x, " ");
+        page.put_count(y, "\n");
     }
 }
 

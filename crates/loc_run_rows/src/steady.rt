@@ -56,6 +56,11 @@ pub(crate) fn steady(page: &mut Page, alloc: Global) {
     let absent = reads(alloc, &mut shelf, "c", b"");
     let calls = calls_before_failure(&mut shelf);
     let written = write_all(&mut SteadySink::new(), b"ab").is_ok();
-    let done = writeln!(page.text, "{taken_up} {new} {absent} {calls} {written}");
-    page.note(done.is_err());
+    for holds in [taken_up, new, absent] {
+        page.put_fact(holds);
+        page.put(" ");
+    }
+    page.put_count(calls as u64, " ");
+    page.put_fact(written);
+    page.put("\n");
 }

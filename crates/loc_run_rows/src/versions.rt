@@ -77,19 +77,19 @@ fn put_two(versions: &mut Versions) -> Result<(), AllocError>
 
 // Prints the row of a node.
 fn show_row(page: &mut Page, row: NodeRow) {
-    let NodeRow {
-        item,
-        left,
-        right,
-        side,
-        stamp,
-        extra,
-    } = row;
-    let done = writeln!(
-        page.text,
-        "item {item}, left {left}, right {right}, side {side}, stamp {stamp}, extra {extra}"
-    );
-    page.note(done.is_err());
+    let fields = [
+        ("item ", row.item),
+        (", left ", row.left),
+        (", right ", row.right),
+        (", side ", u32::from(row.side)),
+        (", stamp ", row.stamp),
+        (", extra ", row.extra),
+    ];
+    for (name, number) in fields {
+        page.put(name);
+        page.put_number(u64::from(number));
+    }
+    page.put("\n");
 }
 
 // Prints the rows of two nodes, and the numbers of the roots of two versions.
@@ -102,8 +102,9 @@ fn show_two(page: &mut Page, versions: &Versions) {
     show_row(page, versions.row(2));
     let first = versions.root_number(0);
     let second = versions.root_number(1);
-    let done = writeln!(page.text, "roots {first} and {second}");
-    page.note(done.is_err());
+    page.put("roots ");
+    page.put_count(u64::from(first), " and ");
+    page.put_count(u64::from(second), "\n");
 }
 
 /// `ask nodes`: the rows of the nodes of two items that are put in, with a seal behind each.

@@ -1,15 +1,15 @@
 -- Two commands whose told files come to the same tell the same.
-use Rattle.std.proofs.Common.{◌≡◌, ℕ, Bool, not, Option, Some, None, refl, sym, ◌∙◌, ap, subst, inl, inr, arith}
+use Rattle.std.proofs.Common.{◌≡◌, Bool, not, Option, Some, None, refl, sym, ◌∙◌, ap, subst, inl, inr, arith}
 use Rattle.std.specs.Prelude.{IfSome, IsTrue, [], Ok, codes}
 use Rattle.std.specs.Io.KnownBytes.{Appends}
 use Rattle.loc_spec_text.specs.{Answered.Answered, Bytes.Text, Points.ended, Limits.most_text}
 use Rattle.loc_io.specs.Meaning.{Told, holds}
 use Rattle.loc_io.proofs.Appending.{appends-none}
-use Rattle.loc_spec_index.specs.{Content.Content, Flaws.Flaw}
+use Rattle.loc_spec_index.specs.{Flaws.Flaw}
 use Rattle.loc_laws_judge.specs.FirstFlaw.{first_flaw}
 use Rattle.loc_course.specs.{Courses.Course, Courses.Source, Stops.source, Streams.answered_file, Streams.out_of}
 use Rattle.loc_course.specs.Outcomes.{Outcome, by_lines, by_refusal, exactly, outcome, output, partly, refusal}
-use Rattle.loc_course.specs.Sentences.{IsDoing, OutSo, Sentences, Steady, Wrote}
+use Rattle.loc_course.specs.Sentences.{IsDoing, OutSo, Wrote}
 use Rattle.loc_course.proofs.Told.{it_exactly}
 use Rattle.loc_indexed.specs.FlawTexts.{flaw_text, index_text, is_clash, says}
 use Rattle.loc_indexed.specs.IndexedCourses.{answer_in, ask_course, asked_course}

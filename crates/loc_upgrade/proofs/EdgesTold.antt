@@ -1,12 +1,12 @@
 -- What the told files of a listing of edges come to, and what it leaves.
-use Rattle.std.proofs.Common.{◌≡◌, ℕ, ◌<◌, ◌≤◌, length, Option, None, Some, Result, Ok, Err, subst, inl, inr}
+use Rattle.std.proofs.Common.{◌≡◌, ℕ, Option, Ok, Err, subst, inl, inr}
 use Rattle.std.specs.{Prelude.codes, Io.KnownBytes.Appends}
 use Rattle.loc_spec_text.specs.{Bytes.Text, Points.ended}
-use Rattle.loc_io.specs.{Meaning.Meaning, Meaning.Told, Meaning.holds, Streams.Stream, Streams.TakesAll}
-use Rattle.loc_spec_index.specs.{declared.IndexFault.IndexFault, Content.Content, Content.table_in}
+use Rattle.loc_io.specs.{Meaning.Told, Meaning.holds, Streams.Stream}
+use Rattle.loc_spec_index.specs.{Content.Content, Content.table_in}
 use Rattle.loc_spec_plane.specs.Tables.{Table}
-use Rattle.loc_laws_index.specs.IndexReading.{AreBytes, reading}
-use Rattle.loc_course.specs.{Courses.Course, Courses.Stopped, Courses.writes, Following.Follows}
+use Rattle.loc_laws_index.specs.IndexReading.{AreBytes}
+use Rattle.loc_course.specs.{Courses.Stopped, Courses.writes, Following.Follows}
 use Rattle.loc_course.specs.{Moments.IsToldText, Moments.Moment, Outcomes.exactly}
 use Rattle.loc_course.specs.Sentences.{NoneFailed, Sentences, Steady, Wrote}
 use Rattle.loc_indexed.specs.{Asks.IsDone, Asks.OrMemory, IndexBytes.IsIndexFile, IndexTexts.index_fault_text}

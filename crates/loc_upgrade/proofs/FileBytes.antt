@@ -1,8 +1,8 @@
 -- The ids of an index file are bytes, and so is its second version.
-use Rattle.std.proofs.Common.{◌≡◌, ℕ, zero, suc, ◌<◌, List, [], ◌∷◌, ◌++◌, length, get_or, sym, ◌∙◌, subst, arith}
+use Rattle.std.proofs.Common.{ℕ, zero, suc, List, [], ◌∷◌, ◌++◌, subst, arith}
 use Rattle.std.specs.{Prelude.All, List.flat_map}
 use Rattle.loc_spec_index.specs.Content.{Content}
-use Rattle.loc_spec_index.specs.IndexFile.{Field, IsFileOf, bytes_of, fields, header_fields, id_fields, parts, spelled_all}
+use Rattle.loc_spec_index.specs.IndexFile.{Field, IsFileOf, bytes_of, fields, header_fields, id_fields, spelled_all}
 use Rattle.loc_laws_index.specs.IndexReading.{AreBytes}
 use Rattle.loc_laws_index.proofs.Progress.{spelled_all-append}
 use Rattle.loc_laws_built.proofs.Spelled.{bytes_of_are}

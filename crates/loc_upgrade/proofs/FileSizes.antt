@@ -1,10 +1,9 @@
 -- How many bytes an index file has: none is longer than a command reads.
-use Rattle.std.proofs.Common.{◌≡◌, ℕ, suc, ◌+◌, ◌*◌, ◌^◌, ◌<◌, ◌≤◌, Bool, true, false, List, [], ◌∷◌, ◌++◌, length, map, get_or, refl, sym, ◌∙◌, ap, subst, arith, length-append}
-use Rattle.std.specs.Prelude.{Option, None, sum_by, min, ◌-◌, ◌&&◌, nat_lt, if◌then◌else◌}
+use Rattle.std.proofs.Common.{◌≡◌, ℕ, suc, ◌+◌, ◌*◌, ◌<◌, ◌≤◌, Bool, true, false, List, [], ◌∷◌, ◌++◌, length, map, get_or, refl, ◌∙◌, ap, subst, arith, length-append}
+use Rattle.std.specs.Prelude.{Option, None, sum_by, ◌&&◌, nat_lt, if◌then◌else◌}
 use Rattle.std.specs.{Int.w32, List.flat_map, List.last_or}
 use Rattle.std.proofs.lemmas.List.Sums.{sum_by-cons}
-use Rattle.loc_spec_plane.specs.{Covers.list_before, Lists.is_rising, Points.Point, declared.Mark.Mark}
-use Rattle.loc_spec_index.specs.declared.NodeRow.{NodeRow}
+use Rattle.loc_spec_plane.specs.{Covers.list_before, Lists.is_rising}
 use Rattle.loc_spec_index.specs.declared.Part.TheVariants.{Covers, Edges}
 use Rattle.loc_spec_index.specs.Content.{Content, EdgeRow}
 use Rattle.loc_spec_index.specs.IndexFile.{Field, number, order, follows, IsFileOf, spelled_all, rows_from, header_fields, id_fields, corner_fields, source_fields, names_sources, is_rising_pair, edge_row_before, edge_fields, mark_fields, cover_fields, node_fields, none_or_next, fields, parts}

@@ -1,5 +1,5 @@
 -- How an upgrade ended, by what was held and what was made of it.
-use Rattle.std.proofs.Common.{◌⊎◌, ℕ, Bool, [], Option, None, Some, Result, Ok, Err, refl, ◌∙◌, inl, inr, arith}
+use Rattle.std.proofs.Common.{[], Option, None, Some, refl, ◌∙◌, inl, inr, arith}
 use Rattle.loc_spec_text.specs.Bytes.{Text}
 use Rattle.loc_io.specs.Meaning.{KeepsFiles, Meaning, Told}
 use Rattle.loc_spec_index.specs.{Content.Content, IndexFile.bytes_of}

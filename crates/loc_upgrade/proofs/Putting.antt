@@ -1,5 +1,5 @@
 -- The lines of edges as they are put on a page.
-use Rattle.std.proofs.Common.{◌≡◌, ℕ, ℤ, ◌+◌, ◌<◌, ◌≤◌, List, ◌∷◌, ◌++◌, length, get_or, drop, Result, Ok, ap, append_assoc, arith, codes, of_z, to_z, sym, ◌∙◌, refl}
+use Rattle.std.proofs.Common.{◌≡◌, ℕ, ℤ, ◌+◌, ◌<◌, ◌≤◌, List, ◌++◌, length, get_or, drop, Result, Ok, ap, append_assoc, arith, codes, of_z, to_z, sym, ◌∙◌, refl}
 use Rattle.std.specs.{Int.w64, Fmt.decimal, List.flat_map}
 use Rattle.std.proofs.lemmas.List.FromFn.{get_or-range_with_len, length-range_with_len}
 use Rattle.loc_io.specs.{Streams.Stream, declared.sink.WriteFault.WriteFault}

@@ -1,28 +1,28 @@
 -- An upgrade of an index file, and what making it leaves.
-use Rattle.std.proofs.Common.{◌≡◌, ◌⊎◌, ℕ, Bool, ◌<◌, ◌≤◌, length, Option, None, Some, Result, Ok, Err, refl, sym, ◌∙◌, ap, subst, inl, inr, arith}
+use Rattle.std.proofs.Common.{◌≡◌, ◌⊎◌, ℕ, Bool, Option, None, Some, Ok, Err, refl, sym, ◌∙◌, ap, subst, inl, inr, arith}
 use Rattle.std.specs.Prelude.{codes}
 use Rattle.loc_spec_text.specs.{Bytes.Text, Points.ended, Limits.most_text}
-use Rattle.loc_io.specs.{Meaning.Meaning, Meaning.Told, Meaning.holds, Streams.Stream}
-use Rattle.loc_spec_index.specs.{declared.IndexFault.IndexFault, Content.Content, Flaws.Flaw}
+use Rattle.loc_io.specs.{Meaning.Told, Meaning.holds, Streams.Stream}
+use Rattle.loc_spec_index.specs.{Content.Content, Flaws.Flaw}
 use Rattle.loc_spec_index.specs.IndexFile.{IsFileOf, bytes_of}
 use Rattle.loc_spec_index.specs.TrueIndex.{IsTrueIndex, IsTrueIndexFile}
 use Rattle.loc_laws_index.specs.IndexReading.{AreBytes, reading}
 use Rattle.loc_laws_index.proofs.{OneReading.one_file, Renewed.renewed}
 use Rattle.loc_laws_judge.specs.FirstFlaw.{first_flaw}
 use Rattle.loc_course.specs.{Courses.Course, Courses.Stopped, Endings.AtEnd}
-use Rattle.loc_course.specs.Following.{FileWritesAreCounted, IsCut, IsMade}
-use Rattle.loc_course.specs.{Moments.IsToldText, Moments.Moment, Stops.source}
+use Rattle.loc_course.specs.Following.{FileWritesAreCounted}
+use Rattle.loc_course.specs.{Moments.Moment, Stops.source}
 use Rattle.loc_course.specs.Outcomes.{Outcome, by_lines, exactly, file, outcome}
 use Rattle.loc_course.specs.Sentences.{EndsSo, Ended, Sentences, Steady, Wrote, status_of}
 use Rattle.loc_course.proofs.{Endings.at_cut, Statuses.ended_so, Statuses.rose_not, Statuses.succeeds_case}
 use Rattle.loc_course.proofs.Told.{ends_so}
 use Rattle.loc_indexed.specs.{Asks.OrMemory, IndexBytes.IsIndexFile, IndexTexts.index_fault_text}
-use Rattle.loc_indexed.specs.IndexedCourses.{answer_in, ask_course, asked_course, index_course}
+use Rattle.loc_indexed.specs.IndexedCourses.{answer_in, asked_course, index_course}
 use Rattle.loc_indexed.specs.Verifies.{AreHeld, IsRefused, IsToldFile}
-use Rattle.loc_indexed.specs.Verifying.{judged_course, verify_course}
+use Rattle.loc_indexed.specs.Verifying.{judged_course}
 use Rattle.loc_indexed.proofs.IndexOutcomes.{index_long, index_read, memory, refused_by}
 use Rattle.loc_indexed.proofs.ReadBack.{file_reads}
-use Rattle.loc_upgrade.specs.UpgradeCourses.{edges_course, upgrade_course}
+use Rattle.loc_upgrade.specs.UpgradeCourses.{upgrade_course}
 use Rattle.loc_upgrade.specs.Upgrades.{IsUpgradeOf, Upgraded, Upgrades}
 use Rattle.loc_upgrade.proofs.Along.{listing, remaking, upgrade_counted, upgrade_keeps_out, upgrade_makes_one}
 use Rattle.loc_upgrade.proofs.{FileBytes.upgrade_bytes, FileSizes.file_within, EdgesTold.held_bytes}

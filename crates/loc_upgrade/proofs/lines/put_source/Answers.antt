@@ -1,4 +1,4 @@
-use Rattle.std.proofs.{Common.ap, lemmas.Result.err_from_is_err_and}
+use Rattle.std.proofs.{lemmas.Result.err_from_is_err_and}
 use Rattle.loc_page.proofs.Pages.{both, put_same, stop}
 use Rattle.loc_upgrade.proofs.Putting.{ends_are, source_is}
 use Rattle.loc_upgrade.proofs.lines.put_source.Goals as goal

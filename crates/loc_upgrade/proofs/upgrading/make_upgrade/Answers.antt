@@ -1,5 +1,4 @@
 use Rattle.loc_indexed.proofs.WrittenIndex.{cut_file, made_file}
-use Rattle.std.proofs.Common.{subst}
 use Rattle.loc_upgrade.proofs.upgrading.make_upgrade.Goals as goal
 
 pub returns-in-Ok : goal.returns-in-Ok
