@@ -1,4 +1,4 @@
--- Boxes that are passed over: their features neither touch nor cover the point.
+-- Boxes that are passed over: their features neither touch nor cover the point. A box that is reached holds it.
 use Rattle.std.proofs.Common.{◌≡◌, ℕ, ℤ, ◌+◌, ◌<◌, true, false, ◌&&◌, ◌||◌, List, length, map, sym, ◌∙◌, ap, subst, inl, inr, arith}
 use Rattle.std.specs.Prelude.{int_le, int_lt, slice_index_or}
 use Rattle.std.proofs.lemmas.Bool.{cases_Bool, cases_lt, and_from, or_left, or_right, both_ways, not_from_false}
@@ -9,7 +9,7 @@ use Rattle.loc_laws_order.proofs.Sides.{le_decides}
 use Rattle.loc_laws_any.specs.{Boxes.is_outside, Moments.at_moment}
 use Rattle.loc_laws_any.proofs.Boxes.{box_law}
 use Rattle.loc_spans.specs.Rows.{row_at, NoneBetween}
-use Rattle.loc_spans.specs.Boxes.{Kept, BoxedState, IsBoxOf, IsBoxed, IsIdle, rings_at}
+use Rattle.loc_spans.specs.Boxes.{Kept, BoxedState, IsBoxOf, IsBoxed, IsIdle, holds_point, rings_at}
 
 -- neither touches nor covers
 abbrev Passes : Rings → Point → Type 0
@@ -44,18 +44,26 @@ past_heights box p out = elim (cases_Bool (int_le box.1.low.y p.y)) [
       | inr other ↦ absurd (both_ways (int_le b a) past ((le_decides b a).1 (grind (arith, ints))))
     ]
 
-module _ (layer : List Rings) (b : BoxedState) (is : IsBoxed layer b) (p : Point) (rows : List Edge) (same : rows ≡ map (λ (box : Kept). box.0) b.boxes) where
+module _ (b : BoxedState) (rows : List Edge) (same : rows ≡ map (λ (box : Kept). box.0) b.boxes) where
   row_is : (k : ℕ) (d : Kept) → k < length b.boxes → row_at rows k d.0 ≡ (slice_index_or b.boxes k d).0
   row_is k d lt = ap (λ rs. row_at rs k d.0) same ∙ get_or-map (λ (box : Kept). box.0) b.boxes k d d.0 lt
 
   pub many : length rows ≡ length b.boxes
   many = ap length same ∙ length-map b.boxes (λ (box : Kept). box.0)
 
+  -- a box whose moments and heights have the point
+  pub held : (p : Point) (k : ℕ) (box d : Kept) → k < length b.boxes → box ≡ slice_index_or b.boxes k box → ((e : Edge) → at_moment (row_at rows k e) p ≡ true) → (int_le box.1.low.y p.y && int_le p.y box.1.high.y) ≡ true → holds_point (slice_index_or b.boxes k d) p ≡ true
+  held p k box d lt is_at moment heights = subst (λ (q : Kept). holds_point q p ≡ true) (is_at ∙ get_or_default b.boxes k box d lt) (and_from (at_moment box.0 p) (int_le box.1.low.y p.y && int_le p.y box.1.high.y) now heights)
+    where
+      now : at_moment box.0 p ≡ true
+      now = ap (λ (e : Edge). at_moment e p) (ap (λ (q : Kept). q.0) is_at ∙ sym (row_is k box lt)) ∙ moment box.0
+
+module _ (layer : List Rings) (b : BoxedState) (is : IsBoxed layer b) (p : Point) (rows : List Edge) (same : rows ≡ map (λ (box : Kept). box.0) b.boxes) where
   -- up to the next row of the moment
   pub idle_up_to : (from at to : ℕ) → IsIdle layer b.boxes p from at → NoneBetween rows p at to → IsIdle layer b.boxes p from to
   idle_up_to from at to idle none k d le lt fits = elim (cases_lt k at) [
     | inl first ↦ idle k d le first fits
-    | inr later ↦ outside layer b is (slice_index_or b.boxes k d) (is.each k d fits) p (elsewhen (slice_index_or b.boxes k d) p (ap (λ (s : Edge). at_moment s p) (sym (row_is k d fits)) ∙ none k d.0 later lt (omega (arith, fits, many))))
+    | inr later ↦ outside layer b is (slice_index_or b.boxes k d) (is.each k d fits) p (elsewhen (slice_index_or b.boxes k d) p (ap (λ (s : Edge). at_moment s p) (sym (row_is b rows same k d fits)) ∙ none k d.0 later lt (omega (arith, fits, many b rows same))))
   ]
 
   -- and past one whose heights the point is past

@@ -4,13 +4,14 @@
 --   IsBoxOf         a box is about all segments of its feature
 --   has_segments    a feature has a segment
 --   BoxedState, IsBoxed  what is kept of the features of a layer
---   IsIdle, IsNear  boxes whose features neither touch nor cover a point, and the next box that holds the point
-use Rattle.std.specs.Prelude.{◌≡◌, ℕ, ◌<◌, ◌≤◌, Bool, true, false, List, [], length, map, filter, get_or, slice_index_or, All, Option, Some, None}
+--   IsIdle, IsNear  boxes whose features neither touch nor cover a point, and a box before which all are so
+--   holds_point     a box holds a point
+use Rattle.std.specs.Prelude.{◌≡◌, ℕ, ◌<◌, ◌≤◌, Bool, true, false, ◌&&◌, int_le, List, [], length, map, filter, get_or, slice_index_or, All, Option, Some, None}
 use Rattle.std.specs.{List.list_all, List.Sorted.IsPermutation}
 use Rattle.loc_spec_text.specs.Limits.{most_features}
 use Rattle.loc_spec_plane.specs.{Lists.numbers, Points.Point, Points.Edge}
 use Rattle.loc_spec_plane.specs.Rings.{Rings, segments, touches, covers}
-use Rattle.loc_laws_any.specs.{Boxes.is_boxed, Moments.AreClosed}
+use Rattle.loc_laws_any.specs.{Boxes.is_boxed, Moments.AreClosed, Moments.at_moment}
 use Rattle.loc_spans.specs.{Around.is_some, declared.boxes.Extent.Extent}
 
 -- the edge from the first moment to the last, and a lowest and a highest point and the feature
@@ -64,3 +65,7 @@ IsIdle layer boxes p from to = (k : ℕ) (d : Kept) → from ≤ k → k < to �
 abbrev pub IsNear : List Rings → List Kept → Point → ℕ → Option ℕ → Type 0
 IsNear layer boxes p from None = IsIdle layer boxes p from (length boxes)
 IsNear layer boxes p from (Some k) = (from ≤ k) × (k < length boxes) × IsIdle layer boxes p from k
+
+-- the point is of the moments of the box, and between its heights
+abbrev pub holds_point : Kept → Point → Bool
+holds_point box p = at_moment box.0 p && (int_le box.1.low.y p.y && int_le p.y box.1.high.y)

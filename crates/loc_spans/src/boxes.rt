@@ -1,10 +1,10 @@
 // The features of a layer, each with a box.
 
-ghost use Rattle.std.specs.Prelude.{◌≡◌, ◌+◌, ◌<◌, ◌≤◌, [], List, ℕ, IfOk, IfSome, OnOk, ◌&&◌, int_le, get_or, length, map, slice_index_or};
+ghost use Rattle.std.specs.Prelude.{◌≡◌, ◌+◌, ◌<◌, ◌≤◌, [], true, List, ℕ, IfOk, IfSome, OnOk, ◌&&◌, int_le, get_or, length, map, slice_index_or};
 ghost use Rattle.loc_spec_text.specs.Limits.{most_features};
 ghost use Rattle.loc_spec_plane.specs.Rings.{Rings as RingsOf, segments};
 ghost use Rattle.loc_rings.specs.Values.{rings_of};
-ghost use Rattle.loc_spans.specs.Boxes.{AreBoxes, AreKept, IsBoxed, IsNear, Kept, feature_of};
+ghost use Rattle.loc_spans.specs.Boxes.{AreBoxes, AreKept, IsBoxed, IsNear, Kept, feature_of, holds_point};
 ghost use Rattle.loc_spans.specs.Parity.{IsAnswer};
 
 use crate::extents::box_about;
@@ -137,6 +137,7 @@ impl Boxed {
     pub fn near(&self, from: usize, p: Point) -> Option<usize>
         ensures near { (layer : List RingsOf) → IsBoxed layer self.now → IsNear layer self.now.boxes p from result }
         ensures in_range { IfSome result (λ k. k < length self.now.boxes) }
+        ensures holds { IfSome result (λ k. (d : Kept) → holds_point (slice_index_or self.now.boxes k d) p ≡ true) }
     {
         let mut at = from;
         while let Some(k) = self.moments.next(at, p) {
