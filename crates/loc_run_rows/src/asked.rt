@@ -8,7 +8,6 @@ use crate::page::Page;
 use crate::places::place;
 use crate::stage::Stage;
 use crate::steady::steady;
-use crate::versions::nodes;
 use loc_top::Steps;
 use loc_wkt::Tokens;
 use std::alloc::Global;
@@ -43,13 +42,12 @@ fn counter(page: &mut Page) {
     page.put_count(counter_size::<Brand>(Blank::new(1)) as u64, " bytes\n");
 }
 
-/// `ask tokens TEXT`, `ask place LAYER X Y`, `ask nodes`, `ask steady` or `ask counter`.
+/// `ask tokens TEXT`, `ask place LAYER X Y`, `ask steady` or `ask counter`.
 pub(crate) fn ask(page: &mut Page, stage: &mut Stage, line: &str) {
     let (asked, rest) = cut(line);
     match asked {
         "tokens" => tokens(page, stage.alloc, rest),
         "place" => place(page, stage, rest),
-        "nodes" => nodes(page, stage.alloc),
         "steady" => steady(page, stage.alloc),
         "counter" => counter(page),
         _ => page.refuse(),

@@ -18,7 +18,6 @@ mod runs;
 mod shapes;
 mod stage;
 mod steady;
-mod versions;
 mod watched;
 
 use crate::asked::ask;
