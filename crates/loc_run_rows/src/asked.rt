@@ -2,7 +2,7 @@
 
 ghost use Rattle.std.specs.Prelude.{◌≡◌, ◌<◌};
 
-use crate::escapes::put_unescaped;
+use crate::escapes::unescaped;
 use crate::making::cut;
 use crate::page::Page;
 use crate::places::place;
@@ -12,19 +12,24 @@ use loc_top::Steps;
 use loc_wkt::Tokens;
 use std::alloc::Global;
 use std::marker::Brand;
-use std::mem;
 use std::sync::ledger::{Blank, Ledger};
+
+// Prints where the tokens of a text begin and end.
+fn show_tokens(page: &mut Page, text: &[u8]) {
+    for token in Tokens::new(text) {
+        let numbers = [
+            ("", token.text.len() as u64),
+            (" bytes at ", token.start as u64),
+        ];
+        page.put_numbers(&numbers, ", ");
+    }
+    page.put("no more\n");
+}
 
 // `ask tokens TEXT`: where the tokens of a text begin and end.
 fn tokens(page: &mut Page, alloc: Global, text: &str) {
-    page.made.clear();
-    put_unescaped(page, text);
-    let text = mem::replace(&mut page.made, Vec::new(alloc));
-    for token in Tokens::new(&text) {
-        page.put_count(token.text.len() as u64, " bytes at ");
-        page.put_count(token.start as u64, ", ");
-    }
-    page.put("no more\n");
+    let text = unescaped(page, alloc, text);
+    show_tokens(page, &text);
 }
 
 // How many bytes a counter of steps has.
@@ -39,7 +44,10 @@ fn counter_size<L: Ledger>(blank: Blank) -> usize
 
 // `ask counter`: how many bytes a counter of steps has.
 fn counter(page: &mut Page) {
-    page.put_count(counter_size::<Brand>(Blank::new(1)) as u64, " bytes\n");
+    page.put_numbers(
+        &[("", counter_size::<Brand>(Blank::new(1)) as u64)],
+        " bytes\n",
+    );
 }
 
 /// `ask tokens TEXT`, `ask place LAYER X Y`, `ask steady` or `ask counter`.

@@ -1,8 +1,10 @@
-//! Bytes as the rows write them: `\n`, `\r` and `\t` as in Rust, `\s` for a space, `\\` for a backslash, and `\xHH` for any byte.
+//! Bytes as the rows write them: `\n`, `\r` and `\t` as in Rust, `\s` for a space, `\\` for a backslash, `\xHH` for any byte, and `\e` for none.
 
 ghost use Rattle.std.specs.Prelude.{◌<◌};
 
 use crate::page::Page;
+use std::alloc::Global;
+use std::mem;
 
 // How far an escape is read: not begun, its backslash, `\x`, or its high digit, times 16.
 #[derive(Clone, Copy)]
@@ -48,6 +50,7 @@ fn step(page: &mut Page, escape: Escape, letter: u8) -> Escape {
         Escape::None if letter == b'\\' => return Escape::Begun,
         Escape::None => letter,
         Escape::Begun if letter == b'x' => return Escape::High,
+        Escape::Begun if letter == b'e' => return Escape::None,
         Escape::Begun => meant(page, letter),
         Escape::High => return Escape::Low(digit(page, letter) * 16),
         Escape::Low(high) => high | digit(page, letter),
@@ -66,6 +69,13 @@ pub(crate) fn put_unescaped(page: &mut Page, text: &str) {
         Escape::None => {}
         _ => page.refuse(),
     }
+}
+
+/// The bytes that a text of a row stands for, in place of those of the file that a step makes.
+pub(crate) fn unescaped(page: &mut Page, alloc: Global, text: &str) -> Vec<u8> {
+    page.made.clear();
+    put_unescaped(page, text);
+    mem::replace(&mut page.made, Vec::new(alloc))
 }
 
 /// Prints a byte as a row writes it.

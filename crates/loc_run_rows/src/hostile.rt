@@ -22,10 +22,11 @@ fn put_nodes(page: &mut Page, before: u32, count: u32, doubled: bool) {
         } else {
             0
         };
-        let left = if doubled { next } else { 0 };
-        page.make(&1u32.to_be_bytes());
-        page.make(&left.to_be_bytes());
-        page.make(&next.to_be_bytes());
+        let right = next.to_be_bytes();
+        let left = if doubled { right } else { [0; 4] };
+        page.make(&[0, 0, 0, 1]);
+        page.make(&left);
+        page.make(&right);
         page.make(&[0; 9]);
     }
 }

@@ -73,12 +73,9 @@ fn play(page: &mut Page, stage: &mut Stage, verb: &str, rest: &str) {
 fn played(alloc: Global, name: &str, text: &str) -> String {
     let mut page = Page::new(alloc);
     let mut stage = Stage::new(&mut page, alloc);
-    page.put("# ");
-    page.put(name);
-    page.put("\n");
+    page.put_all(&["# ", name, "\n"]);
     for line in text.lines() {
-        page.put(line);
-        page.put("\n");
+        page.put_all(&[line, "\n"]);
         let (verb, rest) = cut(line);
         play(&mut page, &mut stage, verb, rest);
         if page.has_stopped() {
@@ -106,10 +103,8 @@ const NO_COMMAND: &str = "query layer.wkt";
 fn show_refused(rt: &HostRuntime, page: &mut Page) {
     let words = words_of(page, rt.alloc(), NO_COMMAND);
     let status = status_of(rt, words.as_slice());
-    page.put("# ");
-    page.put(NO_COMMAND);
-    page.put(": status ");
-    page.put_count(u64::from(status), "\n");
+    page.put_all(&["# ", NO_COMMAND]);
+    page.put_numbers(&[(": status ", status as u64)], "\n");
     page.end();
 }
 

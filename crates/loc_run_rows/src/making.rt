@@ -57,32 +57,19 @@ fn put_spliced(page: &mut Page, old: &[u8], rest: &str) {
     }
 }
 
-// Puts the bytes of the file that a step makes of the bytes of another, and of the rest of its words.
-fn put_made(page: &mut Page, verb: &str, old: &[u8], rest: &str) {
+// The name of the file that a step makes, of the first word behind it and the rest.
+fn made_name<'a>(verb: &str, name: &'a str, behind: &'a str) -> &'a str {
     match verb {
-        "more" => put_more(page, old, rest),
-        "times" => put_times(page, old, rest),
-        "copy" => page.make(old),
-        "hostile" => put_hostile(page, old, rest),
-        _ => put_spliced(page, old, rest),
+        "copy" => behind,
+        "damaged" | "hostile" => "index",
+        _ => name,
     }
 }
 
-// The file that a step makes, the file that it is made of, and the rest of its words: `copy FROM NAME`, `damaged AT CUT BYTES`, the file `index` of the
-// file `sample`, and `hostile`, the file `index` of the file `built`.
-fn names_of<'a>(verb: &str, rest: &'a str) -> (&'a str, &'a str, &'a str) {
-    let (name, behind) = cut(rest);
-    match verb {
-        "copy" => (behind, name, ""),
-        "damaged" => ("index", "sample", rest),
-        "hostile" => ("index", "built", rest),
-        _ => (name, name, behind),
-    }
-}
-
-/// Makes a file of bytes, of what stands on out of the last run, as `save NAME`, of another file, or by a step of `shapes`.
+/// Makes a file: `file NAME BYTES`, `save NAME` of what stands on out of the last run, another file as `copy FROM NAME`, the file `index` of the file
+/// `sample` by `damaged AT CUT BYTES`, or of the file `built` by `hostile`, or a file by a step of `shapes`.
 pub(crate) fn make(page: &mut Page, stage: &mut Stage, verb: &str, rest: &str) {
-    let (name, old, behind) = names_of(verb, rest);
+    let (name, behind) = cut(rest);
     page.made.clear();
     match verb {
         "file" => put_unescaped(page, behind),
@@ -90,11 +77,31 @@ pub(crate) fn make(page: &mut Page, stage: &mut Stage, verb: &str, rest: &str) {
             let out = stage.out(page);
             page.make(out);
         }
-        "more" | "times" | "copy" | "splice" | "damaged" | "hostile" => {
-            let old = stage.bytes(page, old);
-            put_made(page, verb, old, behind);
+        "more" => {
+            let old = stage.bytes(page, name);
+            put_more(page, old, behind);
+        }
+        "times" => {
+            let old = stage.bytes(page, name);
+            put_times(page, old, behind);
+        }
+        "splice" => {
+            let old = stage.bytes(page, name);
+            put_spliced(page, old, behind);
+        }
+        "damaged" => {
+            let old = stage.bytes(page, "sample");
+            put_spliced(page, old, rest);
+        }
+        "copy" => {
+            let old = stage.bytes(page, name);
+            page.make(old);
+        }
+        "hostile" => {
+            let old = stage.bytes(page, "built");
+            put_hostile(page, old, rest);
         }
         _ => shape(page, stage.alloc, verb, behind),
     }
-    stage.put(page, name);
+    stage.put(page, made_name(verb, name, behind));
 }

@@ -2,20 +2,14 @@
 
 use std::alloc::Global;
 
-/// Why rows are played no further, where they are not: memory was wanting, or a step is none.
-#[derive(Clone, Copy)]
-enum Stop {
-    None,
-    NoMemory,
-    NoStep,
-}
-
-/// What is printed, and the bytes of the file that a step makes. What fails leaves its cause, and is left out.
+/// What is printed, the bytes of the file that a step makes, and why rows are played no further, where they are not: memory was wanting, or a step
+/// is none. What fails is left out.
 #[derive(Drop)]
 pub(crate) struct Page {
     pub(crate) text: String,
     pub(crate) made: Vec<u8>,
-    stop: Stop,
+    lacks_memory: bool,
+    is_refused: bool,
 }
 
 impl Page {
@@ -24,36 +18,34 @@ impl Page {
         Page {
             text: String::new(alloc),
             made: Vec::new(alloc),
-            stop: Stop::None,
+            lacks_memory: false,
+            is_refused: false,
         }
     }
 
     /// Notes that memory was wanting, where something has failed for want of it.
     pub(crate) fn note(&mut self, has_failed: bool) {
         if has_failed {
-            self.stop = Stop::NoMemory;
+            self.lacks_memory = true;
         }
     }
 
     /// Notes that a step is none.
     pub(crate) fn refuse(&mut self) {
-        self.stop = Stop::NoStep;
+        self.is_refused = true;
     }
 
     /// Whether rows are played no further.
     pub(crate) fn has_stopped(&self) -> bool {
-        match self.stop {
-            Stop::None => false,
-            Stop::NoMemory | Stop::NoStep => true,
-        }
+        self.lacks_memory || self.is_refused
     }
 
     /// Prints why rows are played no further, where they are not.
     pub(crate) fn end(&mut self) {
-        match self.stop {
-            Stop::None => {}
-            Stop::NoMemory => self.put("NoMemory\n"),
-            Stop::NoStep => self.put("NoStep\n"),
+        if self.lacks_memory {
+            self.put("NoMemory\n");
+        } else if self.is_refused {
+            self.put("NoStep\n");
         }
     }
 
@@ -63,29 +55,30 @@ impl Page {
         self.note(has_failed);
     }
 
-    /// Prints a number.
-    pub(crate) fn put_number(&mut self, number: u64) {
-        let has_failed = write!(self.text, "{number}").is_err();
+    /// Prints texts.
+    pub(crate) fn put_all(&mut self, texts: &[&str]) {
+        for text in texts {
+            self.put(*text);
+        }
+    }
+
+    // Prints a text and a number behind it.
+    fn put_number(&mut self, text: &str, number: u64) {
+        let has_failed = write!(self.text, "{text}{number}").is_err();
         self.note(has_failed);
     }
 
-    /// Prints a number and a text behind it.
-    pub(crate) fn put_count(&mut self, number: u64, text: &str) {
-        self.put_number(number);
-        self.put(text);
-    }
-
-    /// Prints whether a fact holds.
-    pub(crate) fn put_fact(&mut self, holds: bool) {
-        self.put(if holds { "true" } else { "false" });
-    }
-
-    /// Puts what another page has behind the bytes of the file that a step makes.
-    pub(crate) fn take(&mut self, other: &Page) {
-        if other.has_stopped() {
-            self.stop = other.stop;
+    /// Prints numbers, each behind a text, and a text behind all.
+    pub(crate) fn put_numbers(&mut self, numbers: &[(&str, u64)], behind: &str) {
+        for (text, number) in numbers {
+            self.put_number(*text, *number);
         }
-        self.make(other.text.as_bytes());
+        self.put(behind);
+    }
+
+    /// Prints whether a fact holds, and ends the line.
+    pub(crate) fn put_fact(&mut self, holds: bool) {
+        self.put(if holds { "true\n" } else { "false\n" });
     }
 
     /// Puts bytes behind those of the file that a step makes.

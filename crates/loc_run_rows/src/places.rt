@@ -8,27 +8,23 @@ use crate::stage::Stage;
 use loc_edges::EdgeTable;
 use loc_geom::{Meeting, Point};
 use loc_maps::read_layer_file;
-use loc_place::{Locator, Place};
+use loc_place::{Deep, Locator, Place};
 use loc_scan::VecIndex;
 use loc_spec_text::{Form, Scale};
 use loc_sweep::{SweepFault, sweep};
 use loc_top::Steps;
+use loc_wkt::read_point;
 use std::alloc::Global;
 use std::marker::Brand;
 use std::sync::ledger::{Blank, Ledger};
 
-// The point of two words, if they are its coordinates.
-fn point_of(x: &str, y: &str) -> Option<Point> {
-    Point::new(x.parse::<i64>().ok()?, y.parse::<i64>().ok()?)
-}
-
 // The plain table of the layer of a file, if it has one: no edge is cut.
 fn table_of(stage: &mut Stage, name: &str) -> Option<EdgeTable> {
     let files = &mut stage.left.shelf;
-    let layer = read_layer_file(stage.alloc, files, name, Form::Lines, Scale::new(0)).ok()?;
-    let table = EdgeTable::make(stage.alloc, &layer);
-    drop(layer);
-    table.ok()
+    match read_layer_file(stage.alloc, files, name, Form::Lines, Scale::new(0)) {
+        Ok(layer) => EdgeTable::make(stage.alloc, &layer).ok(),
+        Err(_) => None,
+    }
 }
 
 // The place that an index finds for a point of its table.
@@ -37,46 +33,36 @@ fn found<I: Locator, L: Ledger>(
     table: &EdgeTable,
     p: Point,
     blank: Blank,
-) -> Option<Place>
+) -> Result<Place, Deep>
     requires stands { I.stands index.now table.now }
     requires name { blank.name ≡ L.name }
     requires parts { blank.parts ≡ L.parts }
     requires some { 0 < L.parts }
 {
     let views = table.views::<L>();
-    index.locate(&views, p, &mut Steps::<L>::new(blank)).ok()
-}
-
-// Prints how a point stands to a corner or an edge.
-fn show_one(page: &mut Page, how: &str, number: u32) {
-    page.put(how);
-    page.put(" ");
-    page.put_count(u64::from(number), "\n");
+    index.locate(&views, p, &mut Steps::<L>::new(blank))
 }
 
 // Prints a place, if one was found.
-fn show(page: &mut Page, place: Option<Place>) {
-    match place {
-        Some(Place::Corner(corner)) => show_one(page, "on corner", corner),
-        Some(Place::Border(edge)) => show_one(page, "on edge", edge),
-        Some(Place::Area(Some(edge))) => show_one(page, "above edge", edge),
-        Some(Place::Area(None)) => page.put("above no edge\n"),
-        None => page.put("too deep\n"),
-    }
+fn show(page: &mut Page, place: Result<Place, Deep>) {
+    let (how, number) = match place {
+        Ok(Place::Corner(corner)) => ("on corner ", corner),
+        Ok(Place::Border(edge)) => ("on edge ", edge),
+        Ok(Place::Area(Some(edge))) => ("above edge ", edge),
+        Ok(Place::Area(None)) => return page.put("above no edge\n"),
+        Err(_) => return page.put("too deep\n"),
+    };
+    page.put_numbers(&[(how, number as u64)], "\n");
 }
 
 // Prints the two edges that a sweep shows, and how they meet.
 fn show_conflict(page: &mut Page, a: u32, b: u32, meeting: Meeting) {
     let how = match meeting {
-        Meeting::Apart => "are apart",
-        Meeting::Touch => "touch",
-        Meeting::Cross => "cross",
+        Meeting::Apart => " are apart\n",
+        Meeting::Touch => " touch\n",
+        Meeting::Cross => " cross\n",
     };
-    page.put("edges ");
-    page.put_count(u64::from(a), " and ");
-    page.put_count(u64::from(b), " ");
-    page.put(how);
-    page.put("\n");
+    page.put_numbers(&[("edges ", a as u64), (" and ", b as u64)], how);
 }
 
 // Prints the place of a point by the lists that a sweep of a table keeps, or the two edges that it shows.
@@ -95,16 +81,19 @@ fn show_place(page: &mut Page, alloc: Global, table: &EdgeTable, p: Point) {
     }
 }
 
-/// `ask place LAYER X Y`: where a point lies in the plain table of a layer.
-pub(crate) fn place(page: &mut Page, stage: &mut Stage, rest: &str) {
-    let (layer, rest) = cut(rest);
-    let (x, y) = cut(rest);
-    let Some(p) = point_of(x, y) else {
-        page.refuse();
-        return;
-    };
+// Prints the place of a point in the plain table of a layer.
+fn show_in(page: &mut Page, stage: &mut Stage, layer: &str, p: Point) {
     match table_of(stage, layer) {
         Some(table) => show_place(page, stage.alloc, &table, p),
+        None => page.refuse(),
+    }
+}
+
+/// `ask place LAYER X Y`: where a point lies in the plain table of a layer.
+pub(crate) fn place(page: &mut Page, stage: &mut Stage, rest: &str) {
+    let (layer, point) = cut(rest);
+    match read_point(point.as_bytes(), 0) {
+        Some(p) => show_in(page, stage, layer, p),
         None => page.refuse(),
     }
 }

@@ -2,33 +2,14 @@
 
 ghost use Rattle.std.specs.Prelude.{◌≡◌, ◌<◌};
 
-use crate::escapes::put_unescaped;
+use crate::escapes::unescaped;
 use crate::page::Page;
 use crate::watched::{WatchedShelf, WatchedSink};
 use loc_io::{MemShelf, MemSink};
 use loc_top::{Steps, run};
 use std::alloc::Global;
 use std::marker::Brand;
-use std::mem;
 use std::sync::ledger::{Blank, Ledger};
-
-/// Which call of the shelf, of out and of notes fails, by its number, 0 for none; and how many bytes a call takes at most, 0 for no bound.
-#[derive(Clone, Copy)]
-pub(crate) struct Faults {
-    pub(crate) shelf: u64,
-    pub(crate) out: u64,
-    pub(crate) notes: u64,
-    pub(crate) most: usize,
-}
-
-impl Faults {
-    pub(crate) const NONE: Faults = Faults {
-        shelf: 0,
-        out: 0,
-        notes: 0,
-        most: 0,
-    };
-}
 
 /// Files, and what a run over them leaves: its status, and what stands on out and on notes. Before a run that is nothing.
 #[derive(Drop)]
@@ -57,17 +38,19 @@ fn sink(page: &mut Page, alloc: Global, call: u64, most: usize) -> WatchedSink {
 }
 
 impl Left {
-    /// No files, and nothing that has run.
-    pub(crate) fn new(page: &mut Page, alloc: Global, faults: Faults) -> Left {
+    /// No files, and nothing that has run: which call of the shelf, of out and of notes will fail, by its number, 0 for none; and how many bytes a
+    /// call takes at most, 0 for no bound.
+    pub(crate) fn new(page: &mut Page, alloc: Global, calls: [u64; 3], most: usize) -> Left {
+        let [shelf, out, notes] = calls;
         Left {
             status: 0,
             shelf: WatchedShelf {
-                files: MemShelf::new(alloc, failing_calls(page, alloc, faults.shelf)),
+                files: MemShelf::new(alloc, failing_calls(page, alloc, shelf)),
                 calls: 0,
-                most: faults.most,
+                most,
             },
-            out: sink(page, alloc, faults.out, faults.most),
-            notes: sink(page, alloc, faults.notes, faults.most),
+            out: sink(page, alloc, out, most),
+            notes: sink(page, alloc, notes, most),
         }
     }
 
@@ -104,11 +87,7 @@ fn status<L: Ledger>(alloc: Global, words: &[String], left: &mut Left, blank: Bl
 
 // Puts the word that a word of a line stands for behind others.
 fn put_word(words: &mut Vec<String>, page: &mut Page, alloc: Global, word: &str) {
-    page.made.clear();
-    if word != "\\e" {
-        put_unescaped(page, word);
-    }
-    match String::from_utf8(mem::replace(&mut page.made, Vec::new(alloc))) {
+    match String::from_utf8(unescaped(page, alloc, word)) {
         Ok(meant) => {
             let has_failed = words.push(meant).is_err();
             page.note(has_failed);
@@ -117,7 +96,7 @@ fn put_word(words: &mut Vec<String>, page: &mut Page, alloc: Global, word: &str)
     }
 }
 
-/// The words of a line, with one space between each two; `\e` is the empty word, and an empty line has none.
+/// The words of a line, with one space between each two, where `\e` is the empty word; an empty line has none.
 pub(crate) fn words_of(page: &mut Page, alloc: Global, line: &str) -> Vec<String> {
     let mut words = Vec::new(alloc);
     if !line.is_empty() {

@@ -5,48 +5,35 @@ ghost use Rattle.std.specs.Prelude.{◌<◌, ◌^◌};
 use crate::making::{cut, number};
 use crate::page::Page;
 use std::alloc::Global;
+use std::mem;
 
-// The ring of a rectangle from a corner to the opposite one.
-fn put_ring(page: &mut Page, low: (u64, u64), high: (u64, u64)) {
-    let mut before = "((";
-    for (x, y) in [low, (high.0, low.1), high, (low.0, high.1), low] {
-        page.put(before);
-        page.put_count(x, " ");
-        page.put_number(y);
-        before = ", ";
-    }
-    page.put("))");
+// The ring of a square from a corner to the opposite one, between two texts.
+fn put_ring(page: &mut Page, before: &str, low: u64, high: u64) {
+    let corners = [
+        (before, low),
+        (" ", low),
+        (", ", high),
+        (" ", low),
+        (", ", high),
+        (" ", high),
+        (", ", low),
+        (" ", high),
+        (", ", low),
+        (" ", low),
+    ];
+    page.put_numbers(&corners, "))");
 }
 
-// A polygon from a corner to the opposite one, a line.
-fn put_rectangle(page: &mut Page, low: (u64, u64), high: (u64, u64)) {
-    page.put("POLYGON ");
-    put_ring(page, low, high);
-    page.put("\n");
-}
-
-// So many squares, one in another.
-fn put_nested(page: &mut Page, count: u64)
+// So many squares, one in another: what stands before the first, before each other one, and behind all.
+fn put_nested(page: &mut Page, count: u64, first: &'static str, next: &'static str, end: &str)
     requires { count < 2 ^ 32 }
 {
-    for i in 0..count {
-        let far = 4 * count - i;
-        put_rectangle(page, (i, i), (far, far));
+    let mut before = first;
+    for low in 0..count {
+        put_ring(page, before, low, 4 * count - low);
+        before = next;
     }
-}
-
-// The same squares as the polygons of one feature.
-fn put_within(page: &mut Page, count: u64)
-    requires { count < 2 ^ 32 }
-{
-    let mut before = "MULTIPOLYGON (";
-    for i in 0..count {
-        let far = 4 * count - i;
-        page.put(before);
-        put_ring(page, (i, i), (far, far));
-        before = ", ";
-    }
-    page.put(")\n");
+    page.put(end);
 }
 
 // A ring of so many steps along a line, and back in one.
@@ -55,8 +42,7 @@ fn put_steps(page: &mut Page, count: u64)
 {
     page.put("POLYGON ((0 0");
     for x in 1..count + 1 {
-        page.put(", ");
-        page.put_count(x, " 0");
+        page.put_numbers(&[(", ", x)], " 0");
     }
     page.put(", 0 0))\n");
 }
@@ -65,8 +51,7 @@ fn put_steps(page: &mut Page, count: u64)
 fn put_turns(page: &mut Page, count: u64) {
     page.put("POLYGON ((0 0");
     for _ in 1..count {
-        page.put(", ");
-        page.put_count(count, " 0, 0 0");
+        page.put_numbers(&[(", ", count)], " 0, 0 0");
     }
     page.put("))\n");
 }
@@ -79,8 +64,7 @@ fn put_points(page: &mut Page, count: u64, shift: u64)
     for t in 0..count {
         let x = shift + t * 40503 % (4 * count);
         let y = t * 25173 % (2 * count);
-        page.put_count(x, " ");
-        page.put_count(y, "\n");
+        page.put_numbers(&[("", x), (" ", y)], "\n");
     }
 }
 
@@ -93,13 +77,13 @@ fn put_grid(page: &mut Page) {
     }
 }
 
-// Puts what a step makes of a count, and of what stands behind it, on a page.
+// Prints what a step makes of a count, and of what stands behind it.
 fn put_shape(page: &mut Page, verb: &str, count: u64, shift: &str)
     requires { count < 2 ^ 32 }
 {
     match verb {
-        "nested" => put_nested(page, count),
-        "within" => put_within(page, count),
+        "nested" => put_nested(page, count, "POLYGON ((", "\nPOLYGON ((", "\n"),
+        "within" => put_nested(page, count, "MULTIPOLYGON (((", ", ((", ")\n"),
         "turns" => {
             put_steps(page, count);
             put_turns(page, count);
@@ -108,20 +92,20 @@ fn put_shape(page: &mut Page, verb: &str, count: u64, shift: &str)
             let shift = number(page, shift);
             put_points(page, count, shift);
         }
-        "grid" => put_grid(page),
         _ => page.refuse(),
     }
 }
 
 /// Makes a file by a step: `nested NAME COUNT`, `within NAME COUNT` and `turns NAME COUNT` a layer, `points NAME COUNT SHIFT` and `grid NAME` points.
 pub(crate) fn shape(page: &mut Page, alloc: Global, verb: &str, rest: &str) {
-    let (count, shift) = cut(rest);
-    let count = if verb == "grid" {
-        0
+    let printed = mem::replace(&mut page.text, String::new(alloc));
+    if verb == "grid" {
+        put_grid(page);
     } else {
-        number(page, count)
-    };
-    let mut text = Page::new(alloc);
-    put_shape(&mut text, verb, count, shift);
-    page.take(&text);
+        let (count, shift) = cut(rest);
+        let count = number(page, count);
+        put_shape(page, verb, count, shift);
+    }
+    let text = mem::replace(&mut page.text, printed);
+    page.made = text.into_bytes();
 }

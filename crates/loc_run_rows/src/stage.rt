@@ -1,7 +1,7 @@
 //! Where a row is played: its files, and what its last run left.
 
 use crate::page::Page;
-use crate::runs::{Faults, Left, words_of};
+use crate::runs::{Left, words_of};
 use std::alloc::{AllocError, Global};
 use std::mem;
 
@@ -42,7 +42,7 @@ impl Stage {
             names: Vec::new(alloc),
             words: Vec::new(alloc),
             has_run: false,
-            left: Left::new(page, alloc, Faults::NONE),
+            left: Left::new(page, alloc, [0; 3], 0),
         }
     }
 
@@ -79,9 +79,10 @@ impl Stage {
         self.words = words_of(page, self.alloc, line);
     }
 
-    /// Runs the words over the files, which a run may add to. Whether they leave the same as the last run, whose place this one takes.
-    pub(crate) fn play(&mut self, page: &mut Page) -> bool {
-        let mut left = Left::new(page, self.alloc, Faults::NONE);
+    /// Runs the words of a line over the files, which a run may add to. Whether they leave the same as the last run, whose place this one takes.
+    pub(crate) fn play(&mut self, page: &mut Page, line: &str) -> bool {
+        self.take_words(page, line);
+        let mut left = Left::new(page, self.alloc, [0; 3], 0);
         mem::swap(&mut left.shelf, &mut self.left.shelf);
         left.run(self.alloc, &self.words);
         let agrees = self.has_run && left.is_same(&self.left);
@@ -90,9 +91,9 @@ impl Stage {
         agrees
     }
 
-    /// What the words leave over a copy of the files, where calls fail.
-    pub(crate) fn trial(&self, page: &mut Page, faults: Faults) -> Left {
-        let mut left = Left::new(page, self.alloc, faults);
+    /// What the words leave over a copy of the files, where a call of the shelf, of out or of notes fails, or a call takes so many bytes at most.
+    pub(crate) fn trial(&self, page: &mut Page, calls: [u64; 3], most: usize) -> Left {
+        let mut left = Left::new(page, self.alloc, calls, most);
         for name in &self.names {
             let bytes = self.bytes(page, name.as_str());
             let has_failed = left.shelf.files.put(name.as_str(), bytes).is_err();
