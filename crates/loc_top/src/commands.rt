@@ -6,7 +6,7 @@ ghost use Rattle.loc_words.specs.declared.command.Command.TheVariants as by;
 ghost use Rattle.loc_course.specs.Sentences.{status_of};
 ghost use Rattle.loc_course.specs.Stops.{end_of};
 ghost use Rattle.loc_top.specs.Run.{BesideCourse, course_by};
-ghost use Rattle.loc_course.specs.Runs.{Runs};
+ghost use Rattle.loc_course.specs.Runs.{Runs, RunsOnFiles, RunsOnFilesAndOut};
 
 use loc_breaches::valid;
 use loc_course::Stop;
@@ -22,7 +22,7 @@ use loc_reach::stab;
 use loc_spec_text::Scale;
 use loc_trial::{generate, trial};
 use loc_upgrade::{edges, upgrade};
-use loc_words::{Command, LayerFile, Query};
+use loc_words::{Command, LayerFile, Query, Upgrade};
 use std::alloc::Global;
 use std::sync::ledger::Ledger;
 
@@ -51,6 +51,29 @@ fn run_query<F: Shelf, O: Sink, L: Ledger>(
         out,
         steps,
     )
+}
+
+// Makes an index file anew. It stands for itself, so that a wrong body of it is refused soon; so does `run_valid`.
+fn run_upgrade<F: Shelf>(alloc: Global, asked: Upgrade<'_>, shelf: &mut F) -> Result<(), Stop>
+    ensures follows { RunsOnFiles (course_by (asked_by (by.Upgrade asked.entry))) F.meaning shelf result }
+    ensures beside { BesideCourse (asked_by (by.Upgrade asked.entry)) (F.meaning shelf.old) (F.meaning shelf.new)
+        (status_of (end_of result)) }
+{
+    upgrade(alloc, asked.old, asked.new, shelf)
+}
+
+// Judges the features of a layer.
+fn run_valid<F: Shelf, O: Sink>(
+    alloc: Global,
+    layer: LayerFile<'_>,
+    shelf: &mut F,
+    out: &mut O,
+) -> Result<(), Stop>
+    requires scale { layer.scale ≤ 15 }
+    ensures { RunsOnFilesAndOut (course_by (asked_by (by.Valid layer.entry))) F.meaning shelf O.meaning out result }
+{
+    let LayerFile { name, scale, form } = layer;
+    valid(alloc, name, form, Scale::new(scale), shelf, out)
 }
 
 /// Does what a command says.
@@ -94,16 +117,13 @@ pub(crate) fn run_command<F: Shelf, O: Sink, L: Ledger>(
             trial(alloc, kind, n, shift, asked.index, out, steps)
         }
         Command::Edges(asked) => edges(alloc, asked.index, shelf, out),
-        Command::Upgrade(asked) => upgrade(alloc, asked.old, asked.new, shelf),
+        Command::Upgrade(asked) => run_upgrade(alloc, asked, shelf),
         Command::Stab(asked) => {
             let LayerFile { name, scale, form } = asked.layer;
             let scale = Scale::new(scale);
             stab(alloc, name, asked.spans, form, scale, shelf, out, steps)
         }
-        Command::Valid(layer) => {
-            let LayerFile { name, scale, form } = layer;
-            valid(alloc, name, form, Scale::new(scale), shelf, out)
-        }
+        Command::Valid(layer) => run_valid(alloc, layer, shelf, out),
         Command::Dissolve(layer) => {
             let LayerFile { name, scale, form } = layer;
             dissolve(alloc, name, form, Scale::new(scale), shelf, out)

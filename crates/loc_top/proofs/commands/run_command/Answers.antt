@@ -19,13 +19,16 @@ pub returns-in-Edges-clause-follows : goal.returns-in-Edges-clause-follows
 returns-in-Edges-clause-follows g c = rw c.in-Edges.is (c.edges.ensures.follows c.args.steps.now)
 
 pub returns-in-Upgrade-clause-follows : goal.returns-in-Upgrade-clause-follows
-returns-in-Upgrade-clause-follows g c = rw c.in-Upgrade.is (c.upgrade.ensures.follows (g.O.Sink.meaning c.args.out.now) c.args.steps.now)
+returns-in-Upgrade-clause-follows g c = rw c.in-Upgrade.is (c.run_upgrade.ensures.follows (g.O.Sink.meaning c.args.out.now) c.args.steps.now)
 
 pub returns-in-Verify-clause-beside : goal.returns-in-Verify-clause-beside
 returns-in-Verify-clause-beside g c = rw c.in-Verify.is c.verify.ensures.judged
 
 pub returns-in-Upgrade-clause-beside : goal.returns-in-Upgrade-clause-beside
-returns-in-Upgrade-clause-beside g c = rw c.in-Upgrade.is c.upgrade.ensures.upgraded
+returns-in-Upgrade-clause-beside g c = rw c.in-Upgrade.is c.run_upgrade.ensures.beside
 
 pub returns-in-Edges-clause-beside : goal.returns-in-Edges-clause-beside
 returns-in-Edges-clause-beside g c = rw c.in-Edges.is c.edges.ensures.listed
+
+pub returns-in-Valid-clause-follows : goal.returns-in-Valid-clause-follows
+returns-in-Valid-clause-follows g c = rw c.in-Valid.is (c.run_valid.ensures c.args.steps.now)
