@@ -41,8 +41,8 @@ declare -A summaries=(
     [gen]="write a test layer: a grid, a nest of squares or long strips"
     [trial]="make a test layer, ask it for points of its own, and count the answers"
     [upgrade]="write an index file of either version anew as one of the second"
-    [edges]="list the edges of an index file, each with the side that it was cut from"
-    [stab]="name the edges that each vertical span of a list meets, from the bottom up"
+    [edges]="list the edges of an index file, each with the side that the file names as its source"
+    [stab]="name the edges that each vertical span of a list meets, in a defined order"
     [valid]="say of each feature of a layer whether it keeps the rules of the standard, and which it breaks first"
     [dissolve]="write the polygons that features of one id cover together, without their inner borders"
 )
@@ -52,25 +52,25 @@ about_layer="LAYER is a file of polygons: a POLYGON or MULTIPOLYGON text on each
 a CSV with a column 'wkt' and, if the polygons have names, a column 'id'. In a file of lines the
 id of a polygon is the number of its line. '-' means standard input.
 --scale K says how many decimals a coordinate may have, 0 to 15. Nothing is rounded: a layer
-with more decimals is refused."
+with more decimals, zeros at the end aside, is refused."
 about_points_file="POINTS is a file with one point on each line, as '2.5 1' or 'POINT (2.5 1)'. '-' means standard input."
 about_points="$about_points_file
 Each line of POINTS gets one line of answer:
     corner N on IDS in IDS    the point is corner N of the layer
     border N on IDS in IDS    it lies on edge N
     face in IDS               it lies in the open; a bare 'face in' means in no polygon
-    unread                    the line holds no point, or one with more decimals than the scale
+    unread                    the line holds no point, or one that is off the grid of the scale or too large
 'on' names the polygons that touch the point, 'in' those that cover it."
 about_features="$about_points_file
 Each line of POINTS gets one line of answer:
     on IDS in IDS             the point lies on the border of polygons
     in IDS                    it lies on no border; a bare 'in' means in no polygon
-    unread                    the line holds no point, or one with more decimals than the scale
+    unread                    the line holds no point, or one that is off the grid of the scale or too large
 'on' names the polygons that touch the point, 'in' those that cover it."
 about_spans="SPANS is a file with one vertical span on each line, as '2.5 -1 5': x, the lower y and the upper y. '-' means
 standard input. Each line of SPANS gets one line of answer:
     edges E F ..              the numbers of the edges that the span meets; a bare 'edges' means none
-    unread                    the line holds no span, or a number with more decimals than the scale
+    unread                    the line holds no span, or a number that is off the grid of the scale or too large
 First come the edges that end at the lower point, then those that the span crosses or touches from there
 up, and last those that begin above it in its column; the first and the last go by their numbers."
 about_statuses="Status: 0 done, 1 a text or a layer is refused, 2 the words are no command, 3 a file could not be
@@ -100,12 +100,13 @@ scan looks at one edge after another, trap goes down a map of trapezoids. --orde
             echo "OLD is an index file that '$name build' made, this program or an earlier one. NEW is the file to be made.
 Both answer the same. A file of the second version is made as it was."
             ;;
-        edges) echo "It prints for each edge: edge N X Y, X Y of X Y, X Y. Behind 'of' stands the side that it was cut from." ;;
+        edges) echo "It prints for each edge: edge N X Y, X Y of X Y, X Y. Behind 'of' stands the side that it was cut from; in a
+file of the first version, and in its upgrade, the edge itself." ;;
         verify) echo "It prints: index of F features, V corners, E edges, N nodes" ;;
         face)
             printf '%s\n\n' "$about_layer"
             echo "POINT is one word, as '0.5 0.5' or 'POINT (0.5 0.5)'. It prints the number of the face, the corners of
-its outer boundary, and those of each hole."
+its outer boundary, and those of each hole. Face 0 has no outer boundary."
             ;;
         stab) printf '%s\n\n%s\n' "$about_layer" "$about_spans" ;;
         valid)
@@ -456,7 +457,7 @@ front_door() {
     { true 3>&1; } 2>/dev/null || exec "$program" "${words[@]}"
     run_program "${words[@]}"
     case $status in
-        2) explain_words "$said" "$@" >&2 ;;
+        2) explain_words "$said" "${words[@]}" >&2 ;;
         3) printf '%s\n%s\n' "$said" "$(explain_read "${words[@]}")" >&2 ;;
         4)
             # if the reader of a pipe went away there is nothing to tell

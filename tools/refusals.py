@@ -200,7 +200,7 @@ def of_text(case, piece, fault):
     if fault == "dimension":
         return [start, "cause: the points have heights or measures", "mend by dropping them: " + case.import_command(f"--scale {case.scale}")]
     if fault == "tag" and piece.text.upper().lstrip(WHITE).startswith(("CURVE", "MULTISURFACE")):
-        return [start, "cause: the polygon has curved sides", "mend by making them straight: " + case.import_command("")]
+        return [start, "cause: the polygon has curved sides", "mend by making them straight, with GDAL from the source of the layer: tools/import SOURCE OUT.csv"]
     if case.form == "lines" and (fault == "tag" or '"' in piece.text):
         return [start, "cause: the layer is a CSV, which is read as lines; or the line is no POLYGON and no MULTIPOLYGON",
                 "mend: say --form csv, or leave out what is no polygon"]

@@ -27,7 +27,7 @@ pub record IsFirst (features : List Feature) (feature : Feature) : Type 0 where
   pub stands : features ≡ before ++ feature ∷ behind
   pub judged : All IsJudged before
 
--- The text of the layer is that told of its file.
+-- The text of the layer is that told of its file. A judgement may want memory: the status is 5 then, and nothing is on out.
 pub record Judges (file : LayerFile) (old new : Moment) (n n' : Stream) (status : ℕ) : Type 0 where
   -- With status 0 the layer reads, each feature is judged, and out has grown by a line for each feature, in order: its id, and its first breach or that it is valid.
   pub done : (layer : Text) → old.shelf.told file.name ≡ holds layer → status ≡ 0

@@ -1,6 +1,6 @@
 -- What a command did that was done, or of which a write failed. The words:
 --   AtEnd   what holds where a command was done or a write failed
---   MadeOf  a file was made of a text that passes, or cut
+--   MadeOf  a file was made of a text that passes, or is as before or cut where a write failed
 --   DidSo   what a course did, by what was told of each name, by out and by the count of writes of files
 --   Did     what a course did from one moment to another
 use Rattle.std.specs.Prelude.{ℕ, ◌≤◌, Bool, length, Option, Some, None, IsTrue, ⊤}
@@ -18,15 +18,16 @@ AtEnd P (Some unread) = ⊤
 AtEnd P (Some unwritten) = P (Some unwritten)
 AtEnd P (Some no_memory) = ⊤
 
--- a file was made of a text that passes, or cut
+-- a file was made of a text that passes, or, where a write failed, is as before or cut
 pub record MadeOf (passes : Text → Bool) (old new : Told) (before now : ℕ) (end : Option Stopped) : Type 0 where
   pub made : Text
   pub is : IsTrue (passes made)
   pub file : MadeSo made old new end
   pub counts : FileWritesAreCounted before now end
 
--- What a course did, by what was told of each name, by out and by the count of writes of files: each source was told as a text within its limit,
--- and behind them all a text that passes was written, lines were answered, or a file was made.
+-- What a course did, by what was told of each name, by out and by the count of writes of files: each source that was read whole was, where it is told,
+-- a text within its limit, and behind them all a text that passes was written, lines of a file were answered, or a file was made, or a write of that
+-- failed.
 abbrev pub DidSo : Course → (Text → Told) → Stream → ℕ → Moment → Option Stopped → Type 0
 DidSo (refuses passes) told out faults new end = ⊥
 DidSo (reads s next) told out faults new end = (text : Text) × (length text ≤ s.limit) × IsToldText (told s.name) text × DidSo (next text) told out faults new end

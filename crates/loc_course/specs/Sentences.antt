@@ -36,7 +36,7 @@ abbrev pub Noted : Option Stopped → Stream → Stream → Type 0
 Noted None n n' = n' ≡ n
 Noted (Some stop) n n' = Wrote n n' (note_of stop)
 
--- Nothing is written on notes with status 0, and with 3, 4 and 5 the line of the cause. With 1 it is the line by which the texts are refused.
+-- Nothing is written on notes with status 0, and with 3, 4 and 5 the line of the cause, or a front of it where a write on notes failed.
 pub record Notes (n n' : Stream) (status : ℕ) : Type 0 where
   pub done : status ≡ 0 → n' ≡ n
   pub read : status ≡ 3 → Wrote n n' (note_of unread)
@@ -72,11 +72,11 @@ EndsSo (file name passes) before new (Some unread) = ⊤
 EndsSo (file name passes) before new (Some unwritten) = ⊤
 EndsSo (file name passes) before new (Some no_memory) = ⊤
 
--- With status 0 the told files come to an output, and out has grown by one that passes.
+-- With status 0 the files, where all are told, come to an output, and out has grown by one that passes; or to a file, and that which was made, where it is told, holds a text that passes.
 abbrev pub Done : Course → Moment → Moment → ℕ → Type 0
 Done c old new status = status ≡ 0 → EndsSo (outcome old.shelf.told c) old.out.written new None
 
--- Status 1 comes only where the told files come to a refusal, and the line on notes passes.
+-- With status 1 the files, where all are told, come to a refusal, and the line on notes passes; or to answers and then a refusal, and it is the line of that.
 abbrev pub RefusedOnly : Course → Moment → Moment → Stream → Stream → ℕ → Type 0
 RefusedOnly c old new n n' status = status ≡ 1 → (line : Text) × EndsSo (outcome old.shelf.told c) old.out.written new (Some (refused line)) × Wrote n n' line
 
@@ -131,7 +131,7 @@ RefusesPartly c old new n n' status = (out line : Text) → outcome old.shelf.to
 abbrev pub Misses : Course → Moment → ℕ → Type 0
 Misses c old status = outcome old.shelf.told c ≡ missing → (status ≡ 3) ⊎ (status ≡ 5)
 
--- status 3 comes exactly where the count of reads rose
+-- status 3 comes exactly where the count of reads rose, if it stood below its last value
 abbrev pub ReadsFail : Moment → Moment → ℕ → Type 0
 ReadsFail old new status = old.shelf.read_faults < 2 ^ 64 - 1 → (status ≡ 3 → old.shelf.read_faults < new.shelf.read_faults) × (old.shelf.read_faults < new.shelf.read_faults → status ≡ 3)
 
@@ -146,7 +146,7 @@ pub record NoCountRose (old new : Moment) (status : ℕ) : Type 0 where
   pub out : status ≢ 4 → new.out.faults ≡ old.out.faults
   pub files : status ≢ 4 → new.shelf.write_faults ≡ old.shelf.write_faults
 
--- out is as before, or has grown by a front of what the told files come to
+-- out is as before, or has grown by a front of what the files come to, where all are told
 abbrev pub OutSo : Outcome → Option Text → Option Text → Type 0
 OutSo unknown before now = ⊤
 OutSo missing before now = Keeps before now

@@ -22,7 +22,7 @@ fn without_mark(text: &[u8]) -> &[u8]
 }
 
 #[tactic(auto, unfolding(crate::specs::Layer::layer_of))]
-/// Reads a layer text in a form at a scale, within the limits of both.
+/// Reads a layer text of at most 2^28 bytes in a form, at a scale of at most 15.
 pub fn read_layer(alloc: Global, bytes: &[u8], form: Form, scale: u8) -> Result<Layer, LayerFault>
     requires scale { scale ≤ most_scale }
     requires size { length bytes.now ≤ most_text }

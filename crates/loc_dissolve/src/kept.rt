@@ -65,7 +65,7 @@ fn kept_pairs(
     Ok(kept)
 }
 
-/// For each group the edges that it keeps. Each mark is looked at once, and each step is a halving.
+/// For each group the edges that it keeps.
 pub(crate) fn kept_rows(
     alloc: Global,
     table: &EdgeTable,

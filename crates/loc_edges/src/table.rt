@@ -29,7 +29,7 @@ use std::alloc::{AllocError, Global};
 use std::marker::Model;
 
 /// The table of a layer: its corners in order, its edges as pairs of corner numbers in order, and for each edge its marks in the order of
-/// the features, and its source: the least segment of which it is a piece.
+/// the features, and its source. In a table that is made of a layer the source is the least segment of which the edge is a piece.
 #[derive(Drop)]
 pub struct EdgeTable {
     corners: Vec<Point>,
@@ -226,7 +226,7 @@ impl EdgeTable {
         self.marks.row(n as usize)
     }
 
-    /// The numbers of the ends of the source of edge n: the least segment of which the edge is a piece.
+    /// The numbers of the ends of the source of edge n.
     pub fn source(&self, n: u32) -> (u32, u32)
         requires { n < length self.now.ends }
         ensures value { result ≡ source_of self.now n }

@@ -42,6 +42,6 @@ pub record FeaturesTold (file : LayerFile) (points : Text) (old new : Moment) (n
   pub points_long : (layer text : Text) (features : List Feature) → old.shelf.told file.name ≡ holds layer → old.shelf.told points ≡ holds text → IsRead file layer features → most_text < length text
       → Steady old.shelf.read_faults new.shelf.read_faults → Steady old.out.faults new.out.faults
       → OrMemory old new status ((status ≡ 1) × Appends old.out.written new.out.written (features_within most_text file.scale features text) × Wrote n n' (ended (codes "points: too long")))
-  -- For each line of the points that reads as a point at most 1,008 steps were counted, and one for each segment of the layer.
+  -- In all no more steps were counted than 1,008, and one for each segment of the layer, for each line of the points that reads as a point.
   pub steps : (layer text : Text) → old.shelf.told file.name ≡ holds layer → old.shelf.told points ≡ holds text
       → new.steps ≤ old.steps + point_count file.scale (lines text) * steps_in (layer_of file.form file.scale layer)

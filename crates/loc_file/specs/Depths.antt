@@ -1,6 +1,6 @@
 -- How many steps a search in a held file takes at most. The words:
 --   depth_from   how many nodes the paths from a node have at most, with room for so many
---   is_level     no path of any version is longer than those of a red-black tree of all edges
+--   is_level     in each version two to the nodes of the longest path, of which 42 count at most, is within the bound of all edges
 --   most_of      the tree's bound where the file is level, else all corners and 42 nodes
 use Rattle.std.specs.Prelude.{ℕ, zero, suc, ◌+◌, ◌^◌, max, Bool, List, length, if◌then◌else◌, nat_le}
 use Rattle.std.specs.List.{list_all}
@@ -15,10 +15,10 @@ depth_from rows version zero n = 0
 depth_from rows version (suc room) zero = 0
 depth_from rows version (suc room) (suc n) = suc (max (depth_from rows version room (child_of rows version (suc n) Left)) (depth_from rows version room (child_of rows version (suc n) Right)))
 
--- two to the nodes of each path is within the bound of all edges
+-- in each version two to the nodes of the longest path, of which 42 count at most, is within the bound of all edges
 unfoldable pub is_level : Content → Bool
 is_level c = list_all (λ i. nat_le (2 ^ depth_from c.nodes i 42 (root_of c i)) (version_bound (length c.edges))) (numbers (length c.corners))
 
--- a true index is level
+-- the tree's bound where the file is level, as a true index is, else all corners and 42 nodes
 abbrev pub most_of : Content → Table → ℕ
 most_of c t = if is_level c then most_steps t else length t.corners + 42

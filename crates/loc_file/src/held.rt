@@ -107,7 +107,7 @@ fn hold(alloc: Global, parts: Parts) -> Result<Held, AllocError>
 }
 
 /// Reads the bytes of an index file. What is held is the one content whose bytes they are; bytes that are a file of neither version are
-/// refused by their first fault. Memory is taken only for what the bytes were seen to hold.
+/// refused by their first fault; and want of memory may refuse any. Memory is taken only for what the bytes were seen to hold.
 pub fn read_index(alloc: Global, bytes: &[u8]) -> Result<Held, IndexFault>
     requires { length bytes.now ≤ most_index }
     ensures ok { IfOk result (λ held. IsFileOf held.version held.content bytes.now) }
@@ -193,8 +193,8 @@ impl Held {
     }
 }
 
-/// Makes the file of the second version of what is held. A `WriteFault` comes exactly where a call of the shelf failed; the file then holds a
-/// front of the bytes, or is as before. No memory is taken.
+/// Makes the file of the second version of what is held. A `WriteFault` comes exactly where a call of the shelf failed; the file, where it is told,
+/// then holds a front of the bytes, or is as before. No memory is taken.
 pub fn write_held<F: Shelf>(shelf: &mut F, name: &str, held: &Held) -> Result<(), WriteFault>
     ensures file { IsFileOf 2 held.now.content (bytes_of 2 held.now.content) }
     ensures written { WritesFile name.now (bytes_of 2 held.now.content) (F.meaning shelf.old) (F.meaning shelf.new) result }

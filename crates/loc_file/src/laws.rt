@@ -15,7 +15,7 @@ pub fn one_refusal()
     ensures apart { NoRefusalOfFile }
 {}
 
-/// The most steps of a search in a true index are those of a search in the tree that it was made of.
+/// The most steps of a search in a true index are those of a search in the tree over its table.
 pub fn most_of_tree(held: &Held, table: &EdgeTable)
     requires { IsIndexFor held.now.content table.now }
     ensures { most_of held.now.content table.now ≡ most_steps table.now }

@@ -1,5 +1,5 @@
-//! The index as a file: its bytes are read as exactly the content that they hold, or refused by their first fault, and what was read is
-//! asked for the places of points. Nobody has to trust the bytes.
+//! The index as a file: its bytes are read as exactly the content that they hold, or, want of memory aside, refused by their first fault, and
+//! what was read is asked for the places of points. Nobody has to trust the bytes.
 #![tactic(auto)]
 
 mod corners;

@@ -35,7 +35,7 @@ fn write_features<O: Sink>(kind: Kind, n: u64, start: u64, sink: &mut O) -> Resu
 }
 
 /// Writes the layer of a kind, a size and a shift, a line for each feature. Above the limit of the kind nothing is written; else it
-/// fails only where a write does, and then a front of the text was written. It takes no memory.
+/// fails only where a write does, and then a front of the text was written, where the sink tells it. It takes no memory.
 pub fn gen_layer<O: Sink>(kind: Kind, n: u64, shift: u64, sink: &mut O) -> Result<(), GenFault>
     ensures too_many { limit_of kind < n → result ≡ Err (GenFault.TooMany n (limit_of kind)) }
     ensures untouched { limit_of kind < n → O.meaning sink.new ≡ O.meaning sink.old }

@@ -29,14 +29,14 @@ pub record AreDissolved (scale : ℕ) (features : List Feature) : Type 0 where
   -- The text, where its features and points are within the limits of a layer, reads in form csv at the same scale as one feature for each group, with its id and its rings.
   pub reads_back : IsLayer (map feature_of (groups_of features)) → layer_of Csv scale (groups_text scale features) ≡ Ok (map feature_of (groups_of features))
 
--- The text of the layer is that told of its file.
+-- The text of the layer is that told of its file. An answer may want memory: the status is 5 then, and nothing is on out.
 pub record Dissolves (file : LayerFile) (old new : Moment) (n n' : Stream) (status : ℕ) : Type 0 where
   -- With status 0 the layer is accepted, and out has grown by exactly the text of its groups.
   pub done : (layer : Text) → old.shelf.told file.name ≡ holds layer → status ≡ 0 → (features : List Feature) × IsAccepted file layer features × Appends old.out.written new.out.written (groups_text file.scale features)
   -- The status is 0 for every accepted layer, unless a read or a write failed.
   pub answers : (layer : Text) (features : List Feature) → old.shelf.told file.name ≡ holds layer → IsAccepted file layer features
       → Steady old.shelf.read_faults new.shelf.read_faults → Steady old.out.faults new.out.faults → OrMemory old new status (IsDone old new status (groups_text file.scale features))
-  -- The groups are those of the features that the layer's text reads as, and their text reads back.
+  -- The groups are those of the features that the layer's text reads as, and their text, where it is within the limits of a layer, reads back.
   pub groups : (layer : Text) (features : List Feature) → IsAccepted file layer features → AreDissolved file.scale features
   -- Else, unless a read failed, the status is 1, nothing is on out, and the line on notes is that of the cause: the layer is too long,
   pub layer_long : (layer : Text) → old.shelf.told file.name ≡ holds layer → most_text < length layer → Steady old.shelf.read_faults new.shelf.read_faults

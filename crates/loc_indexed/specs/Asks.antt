@@ -46,13 +46,13 @@ pub record Asks (index points : Text) (old new : Moment) (n n' : Stream) (status
   -- and where it is of a layer, those of a query of the layer.
   pub of_layer : (bytes text : Text) (c : Content) (v scale : ℕ) (layer : List Feature) → AreAsked index points old new bytes text → AreBytes bytes → IsIndexFile c bytes → IsTrueIndex c
       → IsIndexOf v scale (map (λ (f : Feature). f.id) layer) (map rings_of layer) c → OrMemory old new status (IsDone old new status (output_of false scale layer text))
-  -- So many steps were counted at most for each line of the points that reads as a point as a search in the content may take,
+  -- In all no more steps were counted than a search in the content may take for each line of the points that reads as a point,
   pub steps : (bytes text : Text) (c : Content) → old.shelf.told index ≡ holds bytes → old.shelf.told points ≡ holds text → reading bytes ≡ Ok c
       → new.steps ≤ old.steps + point_count c.scale (lines text) * most_of c (table_in c)
   -- and in a true index file that is the bound of the tree.
   pub steps_of_true : (bytes text : Text) (c : Content) → old.shelf.told index ≡ holds bytes → old.shelf.told points ≡ holds text → AreBytes bytes → IsIndexFile c bytes → IsTrueIndex c
       → new.steps ≤ old.steps + point_count c.scale (lines text) * most_steps (table_in c)
-  -- Bytes that are too long or at fault are refused, and nothing is on out.
+  -- Bytes that are too long or at fault are refused, and nothing is on out, unless a read failed.
   pub too_long : (bytes : Text) → old.shelf.told index ≡ holds bytes → most_index < length bytes → Steady old.shelf.read_faults new.shelf.read_faults
       → OrMemory old new status ((status ≡ 1) × (new.out.written ≡ old.out.written) × Wrote n n' (ended (codes "index: too long")))
   pub at_fault : (bytes : Text) (fault : IndexFault) → old.shelf.told index ≡ holds bytes → length bytes ≤ most_index → reading bytes ≡ Err fault → Steady old.shelf.read_faults new.shelf.read_faults

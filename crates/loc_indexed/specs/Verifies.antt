@@ -37,7 +37,7 @@ IsRefused old new status = (status ≡ 1) × (new.out.written ≡ old.out.writte
 
 -- A judgement may want memory: the status is 5 then, and nothing is on out.
 pub record Verifies (index : Text) (old new : Moment) (n n' : Stream) (status : ℕ) : Type 0 where
-  -- Of the file of a true index the counts are told, unless a write failed.
+  -- Of the file of a true index the counts are told, unless a read or a write failed.
   pub of_true : (bytes : Text) (c : Content) → AreHeld index old new bytes c → IsTrueIndex c → Steady old.out.faults new.out.faults
       → OrMemory old new status (IsDone old new status (ended (index_text c)))
   -- With status 0 what was told is the file of a true index, and out has grown by its counts.
@@ -46,13 +46,13 @@ pub record Verifies (index : Text) (old new : Moment) (n n' : Stream) (status : 
   -- Other bytes are refused, unless a read or a write failed.
   pub other : (bytes : Text) → old.shelf.told index ≡ holds bytes → ((c : Content) → IsIndexFile c bytes → IsTrueIndex c → ⊥)
       → Steady old.shelf.read_faults new.shelf.read_faults → Steady old.out.faults new.out.faults → OrMemory old new status (IsRefused old new status)
-  -- An index that is not true is refused by the line of its first flaw,
+  -- An index that is not true is refused, unless a read failed, by the line of its first flaw,
   pub flaw : (bytes : Text) (c : Content) (flaw : Flaw) → AreHeld index old new bytes c → IsFirst c flaw → IsTrue (not (is_clash flaw))
       → OrMemory old new status (IsRefused old new status × Wrote n n' (ended (flaw_text flaw)))
   -- or by one that names two edges that conflict, and how, where that is the first.
   pub clash : (bytes : Text) (c : Content) (a b : ℕ) → AreHeld index old new bytes c → IsFirst c (conflicting a b)
       → OrMemory old new status (IsRefused old new status × (line : Text) × IsTrue (names_clash c line) × Wrote n n' line)
-  -- Bytes that are too long or at fault are refused by their line.
+  -- Bytes that are too long or at fault are refused by their line, unless a read failed.
   pub too_long : (bytes : Text) → old.shelf.told index ≡ holds bytes → most_index < length bytes → Steady old.shelf.read_faults new.shelf.read_faults
       → OrMemory old new status (IsRefused old new status × Wrote n n' (ended (codes "index: too long")))
   pub at_fault : (bytes : Text) (fault : IndexFault) → old.shelf.told index ≡ holds bytes → length bytes ≤ most_index → reading bytes ≡ Err fault → Steady old.shelf.read_faults new.shelf.read_faults

@@ -27,7 +27,7 @@ ghost use Rattle.loc_indexed.specs.Marked.{marked_course};
 ghost use Rattle.loc_indexed.specs.Verifies.{Judged, Verifies};
 ghost use Rattle.loc_indexed.specs.Verifying.{verify_course};
 
-/// An index file that is too long or at fault is refused by its line, and any other is asked: a true one as its marks say, and the index of a
+/// An index file that is too long or at fault is refused by its line, and any other is asked: a true one as its marks say, and a true one of a
 /// layer as a query of the layer with the tree. No file is made. The call does nothing: its contract is the law.
 pub fn ask_law()
     ensures too_long { (told : Text → Told) (index points bytes : Text) → told index ≡ holds bytes

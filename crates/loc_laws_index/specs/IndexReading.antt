@@ -152,7 +152,7 @@ unless_fault c (Some f) = Err f
 unfoldable pub reading : List ℕ → Result Content IndexFault
 reading bytes = let v = version_in bytes in unless_fault (held_in v bytes) (fault_from 0 (fields v (held_in v bytes)) bytes)
 
--- Bytes read as a content exactly where they are its file, in the version by which they are judged, and as a fault exactly where it is their first.
+-- Bytes that are a file read as its content, in the version by which they are judged, and bytes that have a first fault read as that.
 pub record ReadsFiles : Type 0 where
   pub content : (bytes : List ℕ) (v : ℕ) (c : Content) → AreBytes bytes → IsFileOf v c bytes → (reading bytes ≡ Ok c) × (version_in bytes ≡ v)
   pub fault : (bytes : List ℕ) (f : IndexFault) → AreBytes bytes → HasFault bytes f → reading bytes ≡ Err f

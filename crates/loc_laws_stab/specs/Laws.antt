@@ -12,6 +12,6 @@ RunLaw = (t : Table) → NoConflict t → (low high : Point) → IsSpan low high
     → ((m : ℕ) → is_in m front ≡ true → is_above (edge t m) low ≡ true) → ((m : ℕ) → is_in m rest ≡ true → is_above (edge t m) low ≡ false)
     → IsRisingListOf (lower_of t) (is_on_line t low high) (passing_front (λ e. not (is_below (edge t e) high)) rest)
 
--- there is one list of the edges met, and it is the computed one
+-- there is no list of the edges met but the computed one
 abbrev pub OneMetList : Type 0
 OneMetList = (t : Table) → IsTable t → NoConflict t → (low high : Point) (es : List ℕ) → IsMetList t low high es → es ≡ met_at t low high

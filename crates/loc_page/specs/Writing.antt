@@ -22,7 +22,7 @@ IsFront text untold = ⊤
 IsFront text absent = ⊥
 IsFront text (holds bytes) = (rest : List ℕ) × (text ≡ bytes ++ rest)
 
--- the file was made with the text; or a write failed, and the file is as before or holds a front of the text. No other file changed
+-- the file was made with the text; or a write failed, and the file is as before or holds a front of the text. Every other file is told as before, or no longer
 pub record WritesFile {T E : Type 0} (name text : List ℕ) (old new : Meaning) (result : Result T E) : Type 0 where
   pub reading : KeepsReading old new
   pub others : (other : List ℕ) → other ≢ name → IsToldAtMost (old.told other) (new.told other)

@@ -12,7 +12,7 @@ use loc_rings::Layer;
 use loc_spec_plane::Mark;
 use std::alloc::{AllocError, Global};
 
-/// What becomes of a feature in a pass: it is kept, it waits for a later pass, or it conflicts with itself.
+/// What becomes of a feature in a pass: it is kept, it waits for a later pass, or it is in no part, as where it conflicts with itself.
 #[derive(Clone, Copy, PartialEq, Eq)]
 pub(crate) enum Fate {
     Kept,

@@ -3,8 +3,8 @@
 use loc_edges::EdgeTable;
 use std::alloc::AllocError;
 
-/// Why a layer has no plane: two edges of its noded table conflict, the distinct cover lists of that are too many together, the pieces of its
-/// segments are, or there was no memory. Where the noded table was made it is handed back.
+/// Why a layer has no plane: two edges of the table that was judged conflict, its distinct cover lists have too many members together, the pieces
+/// of the segments are too many, or there was no memory. In the first two cases the table is handed back.
 #[derive(Drop)]
 pub enum PlaneFault {
     Conflict(EdgeTable),

@@ -18,7 +18,7 @@ use loc_treeidx::TreeIndex;
 use std::alloc::Global;
 
 /// The plane of a layer over its table. It has one where no two edges of the table conflict and its distinct cover lists are few; else the table
-/// is handed back. The layer stays.
+/// is handed back, or let go for want of memory. The layer stays.
 pub fn judged(alloc: Global, layer: &Layer, table: EdgeTable) -> Result<PartPlane, PlaneFault>
     requires { NoConflict table → IsTableOf layer.now table }
     ensures map { IfOk result (λ plane. IsMapOf layer.now plane.table plane.legend) }

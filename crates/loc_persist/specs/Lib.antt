@@ -1,6 +1,6 @@
 -- What the contracts cite, in the order in which it builds up: what is read in a version (Reading), what stays for earlier
 -- versions (Keeping), the rows as the steps of a tree see them (Present) and the extras in use (Use), a pointer written (Written), the store of all
--- versions (Stored, Viewed), what versions mean (Meaning) and a row by number (Numbered).
+-- versions (Stored, Viewed), its roots (Roots), what versions mean (Meaning), a row by number (Numbered) and all rows by number (ByNumber).
 pub mod ByNumber
 pub mod Keeping
 pub mod Meaning

@@ -21,7 +21,7 @@ unfoldable pub nodes_of : List Cell → List Node
 nodes_of [] = []
 nodes_of (c ∷ cs) = c.1.nodes ++ nodes_of cs
 
--- each slab has as many nodes
+-- each slab has 1024 nodes
 abbrev pub IsFull : List Cell → Type 0
 IsFull [] = Unit {0}
 IsFull (c ∷ cs) = (length c.1.nodes ≡ 1024) × IsFull cs

@@ -77,7 +77,7 @@ pub record Roots (old now : Nodes) (to : Option Link) : Type 0 where
 abbrev pub IsFrom : Option Link → List (Link × Turn) → Link → Type 0
 IsFrom root path at = (root ≡ Some (next path at)) ⊎ AllByRecursion (λ link. root ≢ Some link) (at ∷ links_of path)
 
--- what `change` asks for: the path leads to `at`, no link stands twice on it, and the child may be hung
+-- what `change` asks for: the path leads to `at`, no link stands twice on it, it begins at the newest root or that is not on it, and the child may be hung
 pub record CanChange (nodes : Nodes) (path : List (Link × Turn)) (at : Link) (child : Option Link) : Type 0 where
   pub leads : Leads (live nodes) path at
   pub once : Once (at ∷ links_of path)

@@ -49,7 +49,7 @@ IsRedTop link leaf = ⊥
 IsRedTop link (node here left item Red right) = here ≡ link
 IsRedTop link (node here left item Black right) = ⊥
 
--- the red node to which the path leads may hang under a red one: else the tree is red-black
+-- the red node to which the path leads may hang under a red one, or be the root: else the tree is red-black
 pub record RedViolation (nodes : Nodes) (path : List (Link × Turn)) (red : Link) (content : List ℕ) : Type 0 where
   pub frames : List Frame
   pub tree : Tree

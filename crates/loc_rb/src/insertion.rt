@@ -30,7 +30,7 @@ pub fn insert<K: Links>(links: &mut K, path: Path, item: u32)
     fix_insertion(links, &mut path, new);
 }
 
-/// Mends the tree where the red node `new`, to which the path leads, may hang under a red one.
+/// Mends the tree where the red node `new`, to which the path leads, may hang under a red one, or be the root.
 fn fix_insertion<K: Links>(links: &mut K, path: &mut Path, new: Link)
     requires room { 270 ≤ (K.nodes links.old).spare }
     requires short { length path.old.items ≤ 44 }

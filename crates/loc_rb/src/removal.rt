@@ -1,5 +1,5 @@
 //! Removal: the successor takes the place of a node with two children, a node with one child at most is spliced out, and
-//! then the way up: a red sibling rises first, a black one with a red child rises and ends it, another becomes red.
+//! then the way up: a red sibling rises first, a black one with a red child rises, or that child does, and ends it, another becomes red.
 //! At most 3 + 1 + 3 + 6 changes.
 ghost use Rattle.std.specs.Prelude.{◌≡◌, ◌≤◌, ◌<◌, ◌+◌, ◌^◌, ℕ, List, [], ◌∷◌, ◌++◌, length, Some, IsTrue, not};
 ghost use Rattle.loc_pool.specs.declared.Link.{Link};
@@ -243,7 +243,7 @@ fn rotate_near_nephew<K: Links>(links: &mut K, path: &mut Path, fork: Fork, near
     rotate(links, path, middle, Colour::Black, colour);
 }
 
-/// No child of the sibling is red: it becomes red. Answers whether `at` was red, and so has a black to give.
+/// No child of the sibling is red: the sibling becomes red. Answers whether `at` was red; it is black then, and the tree is red-black.
 fn recolour_sibling<K: Links>(links: &mut K, at: Link, sibling: Link) -> bool
     requires { (path : List (Link × Turn)) × (turn : Turn) × (content : List ℕ) × (siblings : Siblings (K.nodes links.old) path at turn sibling content)
         × IsBlackTop siblings.near × IsBlackTop siblings.far }

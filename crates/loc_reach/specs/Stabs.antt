@@ -28,7 +28,7 @@ OrMemory old new status So = So ⊎ ((status ≡ 5) × (new.out.written ≡ old.
 abbrev pub IsRefused : Moment → Moment → Stream → Stream → ℕ → Text → Type 0
 IsRefused old new n n' status line = (status ≡ 1) × (new.out.written ≡ old.out.written) × Wrote n n' line
 
--- The texts of the layer and of the spans are those told of their files.
+-- The texts of the layer and of the spans are those told of their files. An answer may want memory: the status is 5 then, and nothing is on out.
 pub record Stabs (file : LayerFile) (spans : Text) (old new : Moment) (n n' : Stream) (status : ℕ) : Type 0 where
   -- With status 0 the layer has few pieces, no two of its edges conflict, the spans are within the limit, and out has grown by exactly the answers to their lines.
   pub done : (layer text : Text) → old.shelf.told file.name ≡ holds layer → old.shelf.told spans ≡ holds text → status ≡ 0

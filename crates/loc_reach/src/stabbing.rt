@@ -52,7 +52,7 @@ fn answer_spans<F: Shelf, O: Sink, L: Ledger>(
     write_spans(plane, &text, scale, out, steps)
 }
 
-/// Reads the layer and then the spans, whole, and writes for each line the edges that its span meets, from the bottom up: all memory is taken
+/// Reads the layer and then the spans, whole, and writes for each line the edges that its span meets, in their order: all memory is taken
 /// before the first byte on `out`.
 pub fn stab<F: Shelf, O: Sink, L: Ledger>(
     alloc: Global,

@@ -8,7 +8,7 @@ abbrev pub RiseTo : ℕ → List ℕ → ℕ → Type 0
 RiseTo first [] count = first ≤ count
 RiseTo first (start ∷ starts) count = (first ≤ start) × RiseTo start starts count
 
--- the first polygon begins at ring 0, and there are no rings where there is no polygon
+-- the first polygon begins at ring 0, none begins before the one in front of it, and there are no rings where there is no polygon
 abbrev pub BeginAtZero : List ℕ → ℕ → Type 0
 BeginAtZero [] count = count ≡ 0
 BeginAtZero (start ∷ starts) count = (start ≡ 0) × RiseTo start starts count

@@ -1,5 +1,5 @@
 //! Each call of the outside failing in turn: the status and the line are those of the cause, what was written is a front of what the whole
-//! run writes, and behind the failure no further call is made. And calls that take few bytes, where all is left that the whole run leaves.
+//! run writes, and behind the failure no further call of the shelf or of out is made. And calls that take few bytes, where all is left that the whole run leaves.
 
 ghost use Rattle.std.specs.Prelude.{◌<◌};
 

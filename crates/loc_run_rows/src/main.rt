@@ -2,8 +2,8 @@
 //! behind it, and has to be what the file `stdout` beside src/ has.
 //!
 //! `row NAME` begins a row, over a shelf without files. The steps of `making` and `shapes` make files, those of `playing` and `failing` run words:
-//! behind `|` stands what is left on out, behind `!` what is left on notes. `ask` asks what no run shows. A line without a step, or that begins
-//! with `#`, is a remark.
+//! behind `|` stands what is left on out, behind `!` what is left on notes. `ask` asks what no run shows. A line without a step, or whose first
+//! word is `#`, is a remark.
 #![tactic(auto)]
 
 mod asked;
@@ -115,7 +115,7 @@ fn start_refused(rt: &HostRuntime) -> io::Result<()> {
     rt.print(page.text.as_str())
 }
 
-// The status of a program that could not print.
+// The status of a program that could not read its rows, or print.
 const NOT_PRINTED: u8 = 99;
 
 fn main(rt: HostRuntime) -> ExitCode {

@@ -67,7 +67,8 @@ fn made_name<'a>(verb: &str, name: &'a str, behind: &'a str) -> &'a str {
 }
 
 /// Makes a file: `file NAME BYTES`, `save NAME` of what stands on out of the last run, another file as `copy FROM NAME`, the file `index` of the file
-/// `sample` by `damaged AT CUT BYTES`, or of the file `built` by `hostile`, or a file by a step of `shapes`.
+/// `sample` by `damaged AT CUT BYTES`, or of the file `built` by `hostile`, a file anew from its own bytes by `more`, `times` or `splice`, or one by a step
+/// of `shapes`.
 pub(crate) fn make(page: &mut Page, stage: &mut Stage, verb: &str, rest: &str) {
     let (name, behind) = cut(rest);
     page.made.clear();

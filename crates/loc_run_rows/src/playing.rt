@@ -1,4 +1,4 @@
-//! Steps of a row that run words, and print what is left.
+//! Steps of a row that run words and print what is left, or that compare files, or out of the last run with one.
 
 use crate::escapes::put_escaped;
 use crate::hostile::number_at;
@@ -60,7 +60,7 @@ pub(crate) fn run(page: &mut Page, stage: &mut Stage, line: &str) {
     show_end(page, stage);
 }
 
-/// `same WORDS`: whether they leave the same as the last `run`, and else what they leave.
+/// `same WORDS`: whether they leave the same as the last run, and else what they leave.
 pub(crate) fn same(page: &mut Page, stage: &mut Stage, line: &str) {
     if stage.play(page, line) {
         page.put("same\n");
@@ -125,7 +125,7 @@ fn copies_in(text: &[u8], part: &[u8]) -> (u64, bool) {
     (found, rest.is_empty())
 }
 
-/// `copies NAME COUNT`: whether out of the last run is so many times the bytes of a file.
+/// `copies NAME COUNT`: how often the bytes of a file stand at the front of out of the last run, beside COUNT, and whether nothing is behind.
 pub(crate) fn copies(page: &mut Page, stage: &Stage, line: &str) {
     let (name, count) = cut(line);
     let part = stage.bytes(page, name);

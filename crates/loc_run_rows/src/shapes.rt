@@ -56,7 +56,7 @@ fn put_turns(page: &mut Page, count: u64) {
     page.put("))\n");
 }
 
-// The points that are asked of a generated layer of this size and shift, as docs/FORMATS.md has them.
+// The points that are asked of a generated layer of this size and shift, for a shift below 65536, as docs/FORMATS.md has them.
 fn put_points(page: &mut Page, count: u64, shift: u64)
     requires count { count < 2 ^ 32 }
     requires shift { shift < 2 ^ 32 }

@@ -4,7 +4,7 @@
 --   IsBoxOf         a box is about all segments of its feature
 --   has_segments    a feature has a segment
 --   BoxedState, IsBoxed  what is kept of the features of a layer
---   IsIdle, IsNear  boxes whose features neither touch nor cover a point, and a box before which all are so
+--   IsIdle, IsNear  boxes of a range whose features neither touch nor cover a point, and a box before which, from a place on, all are so
 --   holds_point     a box holds a point
 use Rattle.std.specs.Prelude.{◌≡◌, ℕ, ◌<◌, ◌≤◌, Bool, true, false, ◌&&◌, int_le, List, [], length, map, filter, get_or, slice_index_or, All, Option, Some, None}
 use Rattle.std.specs.{List.list_all, List.Sorted.IsPermutation}

@@ -133,7 +133,8 @@ impl Boxed {
         in_order(alloc, boxes, kept)
     }
 
-    /// The next box from a place on that holds the point. The features of the boxes that are passed over neither touch nor cover it.
+    /// A box from a place on that holds the point. The features of the boxes that are passed over, or of all from that place on if there is
+    /// none, neither touch nor cover it.
     pub fn near(&self, from: usize, p: Point) -> Option<usize>
         ensures near { (layer : List RingsOf) → IsBoxed layer self.now → IsNear layer self.now.boxes p from result }
         ensures in_range { IfSome result (λ k. k < length self.now.boxes) }
@@ -157,7 +158,7 @@ impl Boxed {
         self.boxes[k].1.feature
     }
 
-    /// For a feature: None where it touches p, else whether it covers p. Each segment of the moment of p is one step.
+    /// For a feature: None where it touches p, else whether it covers p. It takes at most a step for each segment of the feature.
     pub fn parity<L: Ledger>(&self, f: u32, p: Point, steps: &mut Steps<L>) -> Option<bool>
         requires in_range { f < length self.now.segments }
         ensures answer { (layer : List RingsOf) → IsBoxed layer self.now → IsAnswer (get_or layer f []) p result }

@@ -11,8 +11,7 @@ use crate::search::next;
 use loc_geom::{Edge, Point, Side, Steps, is_before};
 use std::sync::ledger::Ledger;
 
-// Whether a row of the moment of p lies under it: None where p lies on the row. A row that ends at p and does not have p on it there is under
-// nothing. It counts one step.
+// Whether a row of the moment of p lies under it: None where p lies on the row. It counts one step.
 fn is_under<L: Ledger>(row: Edge, p: Point, steps: &mut Steps<L>) -> Option<bool>
     requires { at_moment row p ≡ true }
     ensures met { IsMet row p result }

@@ -75,7 +75,7 @@ impl Spans {
         next(&self.rows, &self.ranges, from, p)
     }
 
-    /// For the segments of closed rings: None where the rings touch p, else whether they cover it. Each segment of the moment of p is one step.
+    /// For the segments of closed rings: None where the rings touch p, else whether they cover it. It takes at most a step for each segment.
     pub fn parity<L: Ledger>(&self, p: Point, steps: &mut Steps<L>) -> Option<bool>
         ensures answer { (rings : RingsOf) → AreClosed rings → IsPermutation (segments rings) self.now → IsAnswer rings p result }
         ensures counted { steps.old ≤ steps.new }

@@ -1,7 +1,7 @@
 -- The limits of the product: how much of each thing a text, a layer or a file may hold. The words:
 --   most_text, most_line, most_index            bytes
 --   most_features, most_points, most_id_bytes   what a layer may hold
---   most_corners, most_pieces, most_members     what is made of a layer
+--   most_pieces, most_members                   what is made of a layer
 --   most_scale                                  decimals
 use Rattle.std.specs.Prelude.{ℕ, ◌^◌}
 

@@ -79,7 +79,7 @@ abbrev pub tree_of : {P : Type 0} → Reader (Polygon P) → List Symbol → Opt
 tree_of read (word w ∷ ps) = tree_after read (bytes_eq w (codes "POLYGON")) (bytes_eq w (codes "MULTIPOLYGON")) ps
 tree_of read _ = None
 
--- the tree of a text whose points have two numbers, and of one whose points have two, three or four
+-- the tree of a text whose points have two numbers
 unfoldable pub geometry_of : List ℕ → Option (List (Polygon PointText))
 geometry_of text = tree_of (list_at (enclosed_at point_at)) (symbols text)
 

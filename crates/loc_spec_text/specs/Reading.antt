@@ -3,7 +3,7 @@
 --   word_fault, number_fault, ring_fault  the fault of the words at the front, of a number, of a ring
 --   all_rings, all_numbers  the rings and numbers of a tree in the order of the text
 --   position, positions     a point and a tree with their grid values
---   value_fault, value_of   the first fault of a tree's values, or its polygons
+--   value_fault, value_of   the first fault of a tree's numbers, else of its rings; or its polygons
 --   reading_without, reading_of, reading  what a text reads as, computed
 --   OutsideGrammar, InWideGrammar, ReadsTree, Reads  the same by the grammar alone
 use Rattle.std.specs.Prelude.{◌≡◌, ◌⊎◌, ℕ, ◌||◌, not, List, [], ◌∷◌, map, length, codes, nat_lt, ◌==◌, if◌then◌else◌, Option, Some, None, Result, Err, MatchOption, slice_index_or}
@@ -60,12 +60,11 @@ abbrev pub value_fault : ℕ → List (Polygon PointText) → Option TextFault
 value_fault scale polygons = or_else (first_fault (number_fault scale) 1 (all_numbers polygons))
     (first_fault ring_fault 1 (all_rings (positions scale polygons)))
 
--- the value of a tree, or the first fault of its numbers or rings
+-- the value of a tree, or the first fault of its numbers, else of its rings
 abbrev pub value_of : ℕ → List (Polygon PointText) → Result Polygons TextFault
 value_of scale polygons = ok_unless (value_fault scale polygons) (positions scale polygons)
 
--- What a text reads as where its words are right: the value of its tree. A text without one is of another dimension where it has a
--- tree whose points have two, three or four numbers, and else wrong.
+-- What a text reads as that has no tree of points of two numbers: of another dimension where it has one of points of two, three or four, and else wrong.
 abbrev pub reading_without : Option (List (Polygon WidePoint)) → Result Polygons TextFault
 reading_without (Some tree) = Err Dimension
 reading_without None = Err Syntax

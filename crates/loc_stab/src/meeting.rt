@@ -73,8 +73,8 @@ fn write_line<O: Sink, L: Ledger>(
 }
 
 /// Puts a space and the number of each edge that meets the vertical span from the low point up to the high one on a page, and says how many these
-/// are: those that end at the low point, by number; those that are alive there, from the lowest to the highest; and the others, by number. It looks
-/// at the edges of one version of the index alone, and makes one test for each edge of the second kind, beside those of its three searches.
+/// are: those that end at the low point, by number; those that are alive there, from the lowest to the highest; and the others, by number. Those
+/// alive are read from one version of the index. Beside the steps of its searches it takes at most one for each edge of the second kind, and one more.
 pub fn put_met<O: Sink, L: Ledger>(
     index: &TreeIndex,
     views: &Views<'_, L>,

@@ -16,7 +16,7 @@ use std::alloc::Global;
 
 /// Sweeps the corners of a table in order. It hands back the status, which then has a list sealed for each corner, and the floors, exactly
 /// where no two edges conflict, unless memory is wanting. Else it shows two that do (Shamos and Hoey 1976). The status must be one to which
-/// nothing was done. It takes the time of some n calls of the status for n edges.
+/// nothing was done.
 pub fn sweep<S: Status>(
     alloc: Global,
     table: &EdgeTable,

@@ -107,7 +107,7 @@ pub record OutOf (course : Option Course) (old new : Moment) (n n' : Stream) (st
 abbrev pub AWriteFailed : Moment → Moment → Type 0
 AWriteFailed old new = (old.out.faults < new.out.faults) ⊎ (old.shelf.write_faults < new.shelf.write_faults)
 
--- Status 4 comes exactly where a count of writes rose, and where the words make no file, exactly where that of out did.
+-- Status 4 comes exactly where a count of writes rose, and where the words make no file, exactly where that of out did, if these counts stood below their last value.
 pub record WritesFail (asked : Option Asked) (old new : Moment) (status : ℕ) : Type 0 where
   pub rose : AWriteFailed old new → status ≡ 4
   pub only : status ≡ 4 → old.out.faults < 2 ^ 64 - 1 → old.shelf.write_faults < 2 ^ 64 - 1 → AWriteFailed old new

@@ -13,8 +13,8 @@ use std::alloc::{AllocError, Global};
 use std::marker::Model;
 use thiserror::Error;
 
-/// Why a text is no order. A line that is no number stands before one that is out of range, and that before one whose edge an earlier
-/// line has. Where no line is at fault, the least edge that no line has is missing.
+/// Why a text is no order. The fault is that of the first line that has one: it is no number, or out of range, or has the edge of an
+/// earlier line. Where no line is at fault, the least edge that no line has is missing.
 #[derive(Clone, Copy, Debug, Drop, Error)]
 pub enum OrderFault {
     /// The line is not 1 to 20 digits with white space around.

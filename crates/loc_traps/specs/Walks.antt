@@ -51,7 +51,7 @@ abbrev pub IsPassed : Option ℕ → ℕ → Option ℕ → Type 0
 IsPassed right hi None = (r : ℕ) → right ≡ Some r → hi ≤ r
 IsPassed right hi (Some r) = (right ≡ Some r) × (r < hi)
 
--- pieces that are trapezoids with edge e, no two of them equal, of which each cut trapezoid has its own
+-- pieces that are trapezoids with edge e, no two of them equal, of which each cut trapezoid has one
 pub record IsStrip (t : Table) (added : List ℕ) (e many : ℕ) (piece : ℕ → Trap) (is_piece : Trap → Trap → Bool) : Type 0 where
   pub sound : (i : ℕ) → i < many → is_trap t (with_edge (among added) e) (piece i) ≡ true
   pub single : (i j : ℕ) → i < many → j < many → piece i ≡ piece j → i ≡ j

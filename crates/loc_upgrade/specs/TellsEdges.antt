@@ -18,7 +18,7 @@ Listed told status = status ≡ 0 → (c : Content) × IsToldFile told c
 
 -- A listing may want memory: the status is 5 then, and nothing is on out.
 pub record TellsEdges (index : Text) (old new : Moment) (n n' : Stream) (status : ℕ) : Type 0 where
-  -- The edges of every index file are told, true or not, unless a write failed.
+  -- The edges of every index file are told, true or not, unless a read or a write failed.
   pub lists : (bytes : Text) (c : Content) → AreHeld index old new bytes c → Steady old.out.faults new.out.faults → OrMemory old new status (IsDone old new status (edges_text c))
   -- With status 0 what was told is an index file, and out has grown by the lines of its edges.
   pub only : (bytes : Text) → old.shelf.told index ≡ holds bytes → status ≡ 0 → (c : Content) × IsIndexFile c bytes × Appends old.out.written new.out.written (edges_text c)

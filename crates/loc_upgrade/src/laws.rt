@@ -20,9 +20,9 @@ ghost use Rattle.loc_upgrade.specs.UpgradeCourses.{edges_course, upgrade_course}
 ghost use Rattle.loc_upgrade.specs.Upgrades.{IsUpgradeOf, Upgraded, Upgrades};
 
 /// The second version of what an index file holds is an upgrade of it. What an upgrade leaves, from the course that was followed and from what was
-/// made; and two runs, of which one asks or judges the old file and the other the new one, end alike. Which two edges are named, where some conflict,
-/// may differ. No file but the new one is made, nothing is written on an output, and no steps are counted. The call does nothing: its contract is
-/// the law.
+/// made; and two runs in which no call failed and memory was found, of which one asks or judges the old file and the other the new one, with the
+/// same points, end alike. Which two edges are named, where some conflict, may differ. No file but the new one is made, nothing is written on an
+/// output, and no steps are counted. The call does nothing: its contract is the law.
 pub fn upgrade_law()
     ensures is_upgrade { (bytes : Text) (c : Content) → AreBytes bytes → IsIndexFile c bytes
         → IsUpgradeOf bytes (bytes_of 2 c) }

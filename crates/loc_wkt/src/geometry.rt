@@ -105,7 +105,7 @@ fn read_values(values: &mut Values, alloc: Global, text: &[u8]) -> Result<(), Te
     Err(TextFault::Syntax)
 }
 
-/// The polygons of a geometry text on the grid of a scale, or the text's first fault. `NoMemory` says nothing of the text.
+/// The polygons of a geometry text on the grid of a scale, or the first of its faults in the order of docs/FORMATS.md. `NoMemory` says nothing of the text.
 pub fn read_geometry(alloc: Global, text: &[u8], scale: u8) -> Result<Rings, TextFault>
     requires scale { scale ≤ 15 }
     requires size { length text.now ≤ most_text }

@@ -88,7 +88,7 @@ fn ranged(magnitude: u128, negative: bool) -> GridNumber
     GridNumber::OnGrid(signed(magnitude as u64, negative))
 }
 
-/// What a number that is not short is on the grid of a scale, which is at most 15.
+/// What a number is, by its parts, on the grid of a scale, which is at most 15.
 fn long_on_grid(number: &LongNumber<'_>, scale: u8) -> GridNumber
     requires { scale ≤ 15 }
     ensures number { IsGridNumber scale number.now.text.now result }

@@ -27,7 +27,7 @@ are_different (name ∷ names) = not (list_any (bytes_eq name) names) && are_dif
 abbrev pub names_of : CommandRow → List Text
 names_of row = row.places ++ map (λ option. option.name) row.options
 
--- a row that can be read: its names differ, and none is empty
+-- a row that can be read: its names differ, none is empty, and it has fewer than 100 places
 abbrev pub is_row : CommandRow → Bool
 is_row row = are_different (names_of row) && not (list_any (bytes_eq []) (names_of row)) && nat_lt (length row.places) 100
 

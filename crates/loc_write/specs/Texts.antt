@@ -1,4 +1,4 @@
--- The text of a file, in three pieces: `front_text`, ids, corners, edges and marks; `list_text`, cover lists and floors; and `tree_text`, roots and nodes. `head_text` is all but the last.
+-- The text of a file behind its header, in three pieces: `front_text`, ids, corners, edges and marks; `list_text`, cover lists and floors; and `tree_text`, roots and nodes. `head_text` is the header and the first two.
 use Rattle.std.specs.Prelude.{ℕ, List, ◌++◌, length, sum_by}
 use Rattle.std.specs.List.{flat_map}
 use Rattle.loc_spec_plane.specs.Tables.{Table}

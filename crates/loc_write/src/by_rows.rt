@@ -42,8 +42,9 @@ fn put_rows<F: Shelf>(
     put_node_rows(page, shelf, nodes)
 }
 
-/// Makes the index file, of the second version, of a table, its legend, and roots and nodes as a file has them. A `WriteFault` comes exactly
-/// where a call of the shelf failed; the file then holds a front of the bytes, or is as before. No memory is taken.
+/// Makes a file of the bytes, of the second version, of a table, its legend, and these roots and nodes. That these are within their bounds is for
+/// the caller to know. A `WriteFault` comes exactly where a call of the shelf failed; the file, where it is told, then holds a front of the bytes,
+/// or is as before. No memory is taken.
 pub fn write_rows<F: Shelf>(
     shelf: &mut F,
     name: &str,

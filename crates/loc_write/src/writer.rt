@@ -143,8 +143,8 @@ fn make_file<F: Shelf>(
     Ok(())
 }
 
-/// Makes the index file, of the second version, of a table, its legend and its versions, of which one is sealed for each corner. A `WriteFault` comes exactly where
-/// a call of the shelf failed; the file then holds a front of the bytes, or is as before. No memory is taken.
+/// Makes the index file, of the second version, of a table, its legend and its versions, of which one is sealed for each corner. A `WriteFault`
+/// comes exactly where a call of the shelf failed; the file, where it is told, then holds a front of the bytes, or is as before. No memory is taken.
 pub fn write_index<F: Shelf>(
     shelf: &mut F,
     name: &str,
